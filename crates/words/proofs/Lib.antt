@@ -1,0 +1,13 @@
+pub mod Alls
+pub mod Bools
+pub mod Copying
+pub mod Digits
+pub mod Each
+pub mod Encoding
+pub mod Lasts
+pub mod Lists
+pub mod Members
+pub mod Parts
+pub mod Rows
+pub mod Sets
+pub mod Sums

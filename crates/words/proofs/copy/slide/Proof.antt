@@ -1,0 +1,71 @@
+-- `copy::slide` meets its contract: the first i words are copied; the word read next is as it was. Assumes nothing.
+use borrow.Author.Needs.{needs}
+use mathlib.Core.Path.{_≡_, refl}
+use Prim.Native.Nat.{_-_, _≤_}
+use native.Mathlib.Omega.{arith}
+use lib.ListN.{length, length-set, take, drop}
+use lib.Seq.{sets}
+use Rattle.words.proofs.Copying.{slide-more}
+use Rattle.words.proofs.copy.slide.Statement.{statement}
+use Rattle.words.proofs.copy.slide.Tie as tie
+
+abbrev Inv-loop : tie.InvT-loop
+Inv-loop xs₀ s d n i₀ xs i = (i ≤ n) × ((length xs ≡ length xs₀) × (xs ≡ sets xs₀ d (take i (drop s xs₀))))
+
+abbrev μ-loop : tie.MeasureT-loop
+μ-loop xs₀ s d n i₀ xs i = n - i
+
+loop-holds : tie.Need-loop-holds Inv-loop μ-loop
+loop-holds c = (omega arith, (refl, refl))
+
+add-xs : tie.Need-add-xs Inv-loop μ-loop
+add-xs c = search needs
+
+mul-xs : tie.Need-mul-xs Inv-loop μ-loop
+mul-xs c = search needs
+
+slice-read-xs : tie.Need-slice-read-xs Inv-loop μ-loop
+slice-read-xs c = search needs
+
+add-xs-2 : tie.Need-add-xs-2 Inv-loop μ-loop
+add-xs-2 c = search needs
+
+mul-xs-2 : tie.Need-mul-xs-2 Inv-loop μ-loop
+mul-xs-2 c = search needs
+
+slice-write-xs : tie.Need-slice-write-xs Inv-loop μ-loop
+slice-write-xs c = search needs
+
+add-i : tie.Need-add-i Inv-loop μ-loop
+add-i c = search needs
+
+loop-less : tie.Need-loop-less Inv-loop μ-loop
+loop-less c = search needs
+
+loop-again : tie.Need-loop-again Inv-loop μ-loop
+loop-again c = (omega arith, (simp length-set (c .before .before .loop .inv .1 .0), slide-more _ _ _ _ _ (omega arith) (omega arith) (c .before .before .loop .inv .1 .1)))
+
+same-length : tie.Need-same-length Inv-loop μ-loop
+same-length c = c .before .loop .inv .1 .0
+
+returns : tie.Need-returns Inv-loop μ-loop
+returns c = let e : c .before .loop .i ≡ c .before .before .args .n = omega arith in rw e at (c .before .loop .inv .1 .1)
+
+pub slide-spec : {M : Type 1} → statement M
+slide-spec =
+    tie.close
+    (tie.spec
+    Inv-loop
+    μ-loop
+    loop-holds
+    add-xs
+    mul-xs
+    slice-read-xs
+    add-xs-2
+    mul-xs-2
+    slice-write-xs
+    add-i
+    loop-less
+    loop-again
+    same-length
+    returns)

@@ -1,0 +1,4 @@
+pub mod Lists
+pub mod Last
+pub mod Bits
+pub mod Bytes

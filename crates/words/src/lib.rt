@@ -1,0 +1,5 @@
+// The lowest crate: rows of bits in lent words, words in lent bytes, copying. Its proofs/ are also the one home for laws on
+// lists, tests, bits, loops and parts that the toolchain lacks.
+pub mod bits;
+pub mod bytes;
+pub mod copy;
