@@ -1,0 +1,10 @@
+pub mod Kinds
+pub mod Picture
+pub mod Refusal
+pub mod Live
+pub mod Analyse
+pub mod Legal
+pub mod Move
+pub mod Pass
+pub mod Build
+pub mod Marked
