@@ -1,0 +1,1 @@
+// What is proved of `model`'s definitions (proofs/): theory only.
