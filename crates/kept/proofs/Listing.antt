@@ -1,0 +1,62 @@
+-- The theorem is not empty: at 01's listing, and at a picture with a chain of two blocks and two rounds, which move three instructions
+-- twice, its premises hold and something moves; and two moves that are not lawful do not follow. Assumes nothing.
+use mathlib.Core.Path.{_≡_, refl}
+use mathlib.Core.Bool.{true, false}
+use mathlib.Core.List.{List, [], _∷_, _++_, map}
+use Prim.Native.Nat.{ℕ}
+use native.Mathlib.Omega.{arith}
+use lib.Dec.{T}
+use lib.ListN.{replicate}
+use Rattle.model.specs.Picture.{Picture}
+use Rattle.model.specs.Pass.{rounds, sink}
+use Rattle.model.specs.Build.{shows}
+use Rattle.model.specs.Marked.{konst, cmp, branch, output, ret, sunk, lent, nine, behind}
+use Rattle.kept.specs.Walk.{after, is-walk, Follows, Keeps}
+use Rattle.kept.specs.Shown.{listing, twice, back, runs-of, reads-well}
+use Rattle.kept.proofs.Answer.{demand3}
+use Rattle.kept.proofs.Accord.{refuted}
+
+-- ---- what the theorem says of two pictures
+
+pub listing-kept : Keeps listing (after listing 1 .now) (after listing 1 .was)
+listing-kept = demand3 listing 1000 9000 1 refl (omega arith)
+
+-- eight members stand behind the Const and the CondBr
+pub listing-moved : after listing 1 .was ≡ 0 ∷ 9 ∷ 1 ∷ 2 ∷ 3 ∷ 4 ∷ 5 ∷ 6 ∷ 7 ∷ 8 ∷ 10 ∷ 11 ∷ 12 ∷ []
+listing-moved = refl
+
+pub twice-kept : (w : List ℕ) → T (is-walk twice w) → Follows twice (after twice 2 .now) (after twice 2 .was) w
+twice-kept = demand3 twice 1000 9000 2 refl (omega arith) .along tt
+
+pub answers : rounds (sink listing 1000 9000 .answer) ∷ rounds (sink twice 1000 9000 .answer) ∷ [] ≡ 1 ∷ 2 ∷ []
+answers = refl
+
+-- ---- what it shuts out
+
+-- the listing's move, where the target's read of the message is not renamed
+abbrev unrenamed : Picture
+unrenamed = shows ((konst 8 ∷ branch 1 2 ∷ []) ∷ (sunk 6 ++ output 2 ∷ ret [] ∷ []) ∷ (ret [] ∷ []) ∷ []) (nine (1 ∷ 0 ∷ 0 ∷ [])) [] (behind 8 3)
+
+pub unrenamed-refused : Follows listing unrenamed (after listing 1 .was) (0 ∷ 1 ∷ []) → ⊥
+unrenamed-refused = refuted listing unrenamed (after listing 1 .was) (0 ∷ 1 ∷ []) refl
+
+-- its reads alone do not match
+pub unrenamed-read : map (reads-well listing unrenamed (after listing 1 .was) (0 ∷ 1 ∷ [])) (runs-of unrenamed (0 ∷ 1 ∷ [])) ≡ replicate 10 true ++ false ∷ true ∷ []
+unrenamed-read = refl
+
+-- a Cmp that reads r1 sinks below a kept Const that writes r1
+abbrev written-again : Picture
+written-again = lent ((konst 8 ∷ cmp 3 1 ∷ konst 8 ∷ branch 1 2 ∷ []) ∷ (output 3 ∷ ret [] ∷ []) ∷ (ret [] ∷ []) ∷ []) (nine []) []
+
+abbrev sunk-below : Picture
+sunk-below = lent ((konst 8 ∷ konst 8 ∷ branch 1 2 ∷ []) ∷ (cmp 9 1 ∷ output 9 ∷ ret [] ∷ []) ∷ (ret [] ∷ []) ∷ []) (nine (0 ∷ [])) []
+
+pub sunk-below-refused : Follows written-again sunk-below (0 ∷ 2 ∷ 3 ∷ 1 ∷ 4 ∷ 5 ∷ 6 ∷ []) (0 ∷ 1 ∷ []) → ⊥
+sunk-below-refused = refuted written-again sunk-below (0 ∷ 2 ∷ 3 ∷ 1 ∷ 4 ∷ 5 ∷ 6 ∷ []) (0 ∷ 1 ∷ []) refl
+
+pub sunk-below-read : map (reads-well written-again sunk-below (0 ∷ 2 ∷ 3 ∷ 1 ∷ 4 ∷ 5 ∷ 6 ∷ []) (0 ∷ 1 ∷ [])) (runs-of sunk-below (0 ∷ 1 ∷ [])) ≡ true ∷ true ∷ true ∷ false ∷ true ∷ true ∷ []
+sunk-below-read = refl
+
+-- without the premise on block 0 the claim is false
+pub premise-needed : Follows back (after back 1 .now) (after back 1 .was) (0 ∷ []) → ⊥
+premise-needed = refuted back (after back 1 .now) (after back 1 .was) (0 ∷ []) refl
