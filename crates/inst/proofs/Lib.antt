@@ -1,0 +1,11 @@
+pub mod Lists
+pub mod Arms
+pub mod Rows
+pub mod Resolved
+pub mod Words
+pub mod Slots
+pub mod Rest
+pub mod Looked
+pub mod Constants
+pub mod Indices
+pub mod Ends

@@ -1,0 +1,16 @@
+-- `inst::constant::is_nan` meets its contract. Assumes nothing.
+use borrow.Author.Tests.{eq-eqb, ne-eqb}
+use lib.Ieee.{nanBits}
+use Rattle.inst.proofs.constant.is_nan.Statement.{statement}
+use Rattle.inst.proofs.constant.is_nan.Tie as tie
+
+returns : tie.Need-returns
+unfolding nanBits
+returns c = simp (eq-eqb _ _ (c .if1 .taken))
+
+returns-2 : tie.Need-returns-2
+unfolding nanBits
+returns-2 c = simp (ne-eqb _ _ (c .if1 .left))
+
+pub is-nan-spec : {M : Type 1} → statement M
+is-nan-spec = tie.close (tie.spec returns returns-2)

@@ -1,0 +1,4 @@
+pub mod Table
+pub mod Record
+pub mod Constant
+pub mod Index
