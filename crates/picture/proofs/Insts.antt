@@ -1,0 +1,38 @@
+-- Tests over the first n instructions: the fixed answers of the loops that decide them. Assumes nothing.
+use mathlib.Core.Path.{_≡_, sym, _∙_}
+use mathlib.Core.Bool.{Bool, true, false}
+use mathlib.Core.List.{List}
+use Prim.Native.Nat.{ℕ, _+_, _≤_, _<_}
+use Rattle.words.specs.Lists.{upto, any}
+use Rattle.words.proofs.Alls.{any-map, any-at, any-below, find-yes, find-on, find-no}
+use Rattle.model.specs.Picture.{Inst, inst}
+use Rattle.picture.specs.Causes.{code}
+
+module _ (f : Inst → Bool) (recs : List ℕ) where
+  abbrev at : ℕ → Bool
+  at p = f (inst recs p)
+
+  by-place : (n : ℕ) → any f (code recs n) ≡ any at (upto n)
+  unfolding code
+  by-place n = any-map f (inst recs) (upto n)
+
+  -- The places of `while p < n { if f(p) { return true; } p += 1; } false`, with the invariant
+  -- (p ≤ n) × (any f (code recs p) ≡ false).
+  pub code-none : any f (code recs 0) ≡ false
+  code-none = by-place 0
+
+  pub code-yes : {n p : ℕ} {r : Bool} → p < n → r ≡ at p → r ≡ true → true ≡ any f (code recs n)
+  code-yes {n} h e t = find-yes at h e t ∙ sym (by-place n)
+
+  pub code-on : (p : ℕ) {r : Bool} → any f (code recs p) ≡ false → r ≡ at p → r ≡ false → any f (code recs (p + 1)) ≡ false
+  code-on p h e t = by-place (p + 1) ∙ find-on at {i = p} (sym (by-place p) ∙ h) e t
+
+  pub code-no : {n p : ℕ} → p ≤ n → n ≤ p → any f (code recs p) ≡ false → false ≡ any f (code recs n)
+  code-no {n} {p} h k t = find-no at h k (sym (by-place p) ∙ t) ∙ sym (by-place n)
+
+  -- absent at every instruction
+  pub code-at : (n : ℕ) → any f (code recs n) ≡ false → (p : ℕ) → p < n → f (inst recs p) ≡ false
+  code-at n e p h = any-at at n (sym (by-place n) ∙ e) p h
+
+  pub code-all : (n : ℕ) → ((p : ℕ) → p < n → f (inst recs p) ≡ false) → any f (code recs n) ≡ false
+  code-all n h = by-place n ∙ any-below at n h

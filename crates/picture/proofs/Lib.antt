@@ -1,0 +1,7 @@
+pub mod Insts
+pub mod Twos
+pub mod Slots
+pub mod Given
+pub mod Looked
+pub mod Writes
+pub mod Chain

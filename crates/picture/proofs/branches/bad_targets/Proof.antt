@@ -1,0 +1,22 @@
+-- `picture::branches::bad_targets` meets its contract. Assumes nothing.
+use Rattle.picture.specs.Causes.{bad-targets}
+use borrow.Author.Needs.{needs}
+use Rattle.picture.proofs.branches.bad_targets.Statement.{statement}
+use Rattle.picture.proofs.branches.bad_targets.Tie as tie
+
+bad-branches-requires : tie.Need-bad-branches-requires
+bad-branches-requires c κs = search needs
+
+any-from-requires : tie.Need-any-from-requires
+any-from-requires c κs = search needs
+
+bad-pairs-requires : tie.Need-bad-pairs-requires
+bad-pairs-requires c κs = search needs
+
+returns : tie.Need-returns
+unfolding bad-targets
+returns c = cc
+
+pub bad-targets-spec : {M : Type 1} → statement M
+bad-targets-spec =
+    tie.close (tie.spec bad-branches-requires any-from-requires bad-pairs-requires returns)

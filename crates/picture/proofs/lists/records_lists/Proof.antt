@@ -1,0 +1,53 @@
+-- `picture::lists::records_lists` meets its contract. None of the records passed is refused. Assumes nothing.
+use borrow.Author.Needs.{needs}
+use mathlib.Core.Path.{_≡_}
+use mathlib.Core.Bool.{false}
+use Prim.Native.Nat.{_-_, _≤_}
+use Rattle.words.specs.Lists.{any}
+use Rattle.model.specs.Refusal.{bad-list}
+use Rattle.picture.specs.Causes.{code}
+use Rattle.picture.proofs.Insts.{code-none, code-yes, code-on, code-no}
+use Rattle.picture.proofs.Given.{known}
+use Rattle.picture.proofs.lists.records_lists.Statement.{statement}
+use Rattle.picture.proofs.lists.records_lists.Tie as tie
+
+abbrev Inv-loop : tie.InvT-loop
+Inv-loop t recs n opers p₀ p = (p ≤ n) × (any (bad-list opers) (code recs p) ≡ false)
+
+abbrev μ-loop : tie.MeasureT-loop
+μ-loop t recs n opers p₀ p = n - p
+
+loop-holds : tie.Need-loop-holds Inv-loop μ-loop
+loop-holds c = (search needs, code-none _ _)
+
+bad-list-requires : tie.Need-bad-list-requires Inv-loop μ-loop
+bad-list-requires c κs = (c .before .before .before .pre .0, known _ _ _ (c .before .before .before .pre .1) (c .before .before .before .pre .2) (c .loop-test .taken))
+
+returns : tie.Need-returns Inv-loop μ-loop
+returns c = code-yes _ _ (c .before .before .loop-test .taken) (c .before .bad-list .ensures) (c .if1 .taken)
+
+add-p : tie.Need-add-p Inv-loop μ-loop
+add-p c = search needs
+
+loop-less : tie.Need-loop-less Inv-loop μ-loop
+loop-less c = search needs
+
+loop-again : tie.Need-loop-again Inv-loop μ-loop
+loop-again c = (search needs, code-on _ _ _ (c .before .before .before .loop .inv .1) (c .before .bad-list .ensures) (c .if1 .left))
+
+returns-2 : tie.Need-returns-2 Inv-loop μ-loop
+returns-2 c = code-no _ _ (c .before .loop .inv .0) (c .loop-test .left) (c .before .loop .inv .1)
+
+pub records-lists-spec : {M : Type 1} → statement M
+records-lists-spec =
+    tie.close
+    (tie.spec
+    Inv-loop
+    μ-loop
+    loop-holds
+    bad-list-requires
+    returns
+    add-p
+    loop-less
+    loop-again
+    returns-2)

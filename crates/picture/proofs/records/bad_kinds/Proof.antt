@@ -1,0 +1,53 @@
+-- `picture::records::bad_kinds` meets its contract. None of the records passed is refused. Assumes nothing.
+use borrow.Author.Needs.{needs}
+use mathlib.Core.Path.{_≡_}
+use mathlib.Core.Bool.{false}
+use Prim.Native.Nat.{_-_, _≤_}
+use Rattle.words.specs.Lists.{any}
+use Rattle.model.specs.Refusal.{bad-kind}
+use Rattle.picture.specs.Causes.{code}
+use Rattle.picture.proofs.Insts.{code-none, code-yes, code-on, code-no}
+use Rattle.picture.proofs.Given.{within}
+use Rattle.picture.proofs.records.bad_kinds.Statement.{statement}
+use Rattle.picture.proofs.records.bad_kinds.Tie as tie
+
+abbrev Inv-loop : tie.InvT-loop
+Inv-loop t recs n p₀ p = (p ≤ n) × (any bad-kind (code recs p) ≡ false)
+
+abbrev μ-loop : tie.MeasureT-loop
+μ-loop t recs n p₀ p = n - p
+
+loop-holds : tie.Need-loop-holds Inv-loop μ-loop
+loop-holds c = (search needs, code-none _ _)
+
+bad-kind-requires : tie.Need-bad-kind-requires Inv-loop μ-loop
+bad-kind-requires c κs = (c .before .before .before .pre .0, within _ _ _ (c .before .before .before .pre .1) (c .loop-test .taken))
+
+returns : tie.Need-returns Inv-loop μ-loop
+returns c = code-yes _ _ (c .before .before .loop-test .taken) (c .before .bad-kind .ensures) (c .if1 .taken)
+
+add-p : tie.Need-add-p Inv-loop μ-loop
+add-p c = search needs
+
+loop-less : tie.Need-loop-less Inv-loop μ-loop
+loop-less c = search needs
+
+loop-again : tie.Need-loop-again Inv-loop μ-loop
+loop-again c = (search needs, code-on _ _ _ (c .before .before .before .loop .inv .1) (c .before .bad-kind .ensures) (c .if1 .left))
+
+returns-2 : tie.Need-returns-2 Inv-loop μ-loop
+returns-2 c = code-no _ _ (c .before .loop .inv .0) (c .loop-test .left) (c .before .loop .inv .1)
+
+pub bad-kinds-spec : {M : Type 1} → statement M
+bad-kinds-spec =
+    tie.close
+    (tie.spec
+    Inv-loop
+    μ-loop
+    loop-holds
+    bad-kind-requires
+    returns
+    add-p
+    loop-less
+    loop-again
+    returns-2)

@@ -1,0 +1,80 @@
+// Acceptance of a picture (01, "The call"): the lowest number whose cause is present, and the three gates. Nothing is
+// changed.
+pub mod sizes; // sizes.rt: causes 1, 2 and 10
+pub mod blocks; // blocks.rt: cause 3
+pub mod records; // records.rt: causes 4, 5 and 8
+pub mod lists; // lists.rt: causes 6 and 9
+pub mod branches; // branches.rt: cause 7
+pub mod gates; // gates.rt: the three gates
+
+use crate::blocks::gaps;
+use crate::branches::bad_targets;
+use crate::lists::bad_lists;
+use crate::lists::bad_types;
+use crate::records::bad_kinds;
+use crate::records::bad_regs;
+use crate::records::long_cats;
+use crate::sizes::too_many;
+use crate::sizes::too_short;
+use crate::sizes::unlike;
+ghost use mathlib.Core.Path.{_≡_};
+ghost use mathlib.Core.List.{[]};
+ghost use Rattle.model.specs.Refusal.{refusal};
+ghost use Rattle.inst.specs.Table.{rows};
+ghost use Rattle.picture.specs.Causes.{picture-of};
+
+// The lowest number whose cause is present in the picture, or 0, given the lengths of the two work slices. Cause 11 needs no
+// test: it is absent wherever cause 4 is (proofs/Writes).
+pub fn refusal(
+    bounds: &[u32],
+    recs: &[u32],
+    locs: &[u32],
+    vias: &[u32],
+    types: &[u32],
+    regs: u32,
+    ops: &[u32],
+    opers: u32,
+    pairs: &[u32],
+    targets: &[u32],
+    w64: usize,
+    w32: usize,
+    table: &[u32; 101],
+) -> u32
+    requires { ⌜ now table ≡ rows ⌝ }
+    ensures { λ r. ⌜ r ≡ refusal (picture-of (now (bounds .entry)) (now (recs .entry)) (now (locs .entry)) (now (vias .entry)) (now (types .entry)) regs (now (ops .entry)) opers (now (pairs .entry)) (now (targets .entry)) []) w64 w32 ⌝ }
+{
+    let b = bounds.len();
+    let n = locs.len();
+    let k = types.len();
+    if too_many(b, n, k, ops.len(), pairs.len(), targets.len(), regs, opers) {
+        return 1;
+    }
+    if unlike(recs.len(), n, vias.len(), b, pairs.len()) {
+        return 2;
+    }
+    if gaps(bounds, n) {
+        return 3;
+    }
+    if bad_kinds(table, recs, n) {
+        return 4;
+    }
+    if bad_regs(table, recs, n, regs) {
+        return 5;
+    }
+    if bad_lists(table, recs, n, ops, opers, regs) {
+        return 6;
+    }
+    if bad_targets(recs, n, targets, pairs, b / 2) {
+        return 7;
+    }
+    if long_cats(recs, n) {
+        return 8;
+    }
+    if bad_types(types, regs) {
+        return 9;
+    }
+    if too_short(b, k, w64, w32) {
+        return 10;
+    }
+    0
+}

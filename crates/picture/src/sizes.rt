@@ -1,0 +1,45 @@
+// Causes 1, 2 and 10 (01, "The call", the table; work sizes under "Port order and sizes"), by lengths alone: they are
+// tested before anything is indexed, and no product can wrap.
+use inst::record::wide;
+ghost use mathlib.Core.Path.{_≡_};
+ghost use Prim.Native.Nat.{_/_, _≤_};
+ghost use Rattle.picture.specs.Causes.{too-many, unlike, too-short};
+
+// 1: of the lengths of bounds, locs, types, operands, pairs and targets, and of the counts in use.
+pub fn too_many(
+    nb: usize,
+    nl: usize,
+    nt: usize,
+    nq: usize,
+    np: usize,
+    ng: usize,
+    regs: u32,
+    opers: u32,
+) -> bool
+    ensures { λ r. ⌜ r ≡ too-many nb nl nt nq np ng regs opers ⌝ }
+{
+    (4096 < nb / 2)
+        | (32768 < nl)
+        | (65536 < nt)
+        | (131072 < nq)
+        | (65536 < np)
+        | (65536 < ng)
+        | (nt < wide(regs))
+        | (nq < wide(opers))
+}
+
+// 2: of the lengths of records, locs, vias, bounds and pairs.
+pub fn unlike(nr: usize, nl: usize, nv: usize, nb: usize, np: usize) -> bool
+    requires { ⌜ nl ≤ 32768 ⌝ }
+    ensures { λ r. ⌜ r ≡ unlike nr nl nv nb np ⌝ }
+{
+    (nr != 16 * nl) | !((nv == 0) | (nv == nl)) | (nb % 2 == 1) | (np % 2 == 1)
+}
+
+// 10: of the lengths of bounds and types, and of the two work slices.
+pub fn too_short(nb: usize, nt: usize, w64: usize, w32: usize) -> bool
+    requires { ⌜ (nb / 2 ≤ 4096) × (nt ≤ 65536) ⌝ }
+    ensures { λ r. ⌜ r ≡ too-short nb nt w64 w32 ⌝ }
+{
+    (w64 < 4 * (nb / 2) * ((nt + 63) / 64) + 2 * nt) | (w32 < 8 * nt + 16 * (nb / 2) + 8000)
+}
