@@ -1,0 +1,11 @@
+pub mod Whole
+pub mod Successors
+pub mod Runs
+pub mod Joins
+pub mod Solving
+pub mod Firsts
+pub mod Least
+pub mod Noted
+pub mod Outs
+pub mod Kept
+pub mod Accepted

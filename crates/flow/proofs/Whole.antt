@@ -1,0 +1,55 @@
+-- What `model` says of the graph of a whole picture is what it says of the picture drawn from the lists that matter.
+-- Assumes nothing.
+use mathlib.Core.Path.{_≡_, refl, ap, _∙_}
+use mathlib.Core.Bool.{false}
+use mathlib.Core.List.{List, map}
+use Prim.Native.Nat.{ℕ}
+use Rattle.words.specs.Lists.{upto, any, mem, iterate, member}
+use Rattle.words.proofs.Lists.{map-ext}
+use Rattle.words.proofs.Members.{any-on, filter-on}
+use Rattle.model.specs.Picture.{Picture, End, goes, parts, cases, stops, nblocks, code, ending, end-succs, succs, preds}
+use Rattle.model.specs.Live.{Node, node, live-at, live-in, live-out, read-first, written}
+use Rattle.flow.specs.Drawn.{drawn}
+
+-- the end of a block, seen from two pictures with the same tables
+pub end-same : (bounds bounds′ recs recs′ ops ops′ pairs targets : List ℕ) (e : End)
+    → end-succs (drawn bounds recs ops pairs targets) e ≡ end-succs (drawn bounds′ recs′ ops′ pairs targets) e
+end-same bounds bounds′ recs recs′ ops ops′ pairs targets (goes t) = refl
+end-same bounds bounds′ recs recs′ ops ops′ pairs targets (parts t f) = refl
+end-same bounds bounds′ recs recs′ ops ops′ pairs targets (cases t) = refl
+end-same bounds bounds′ recs recs′ ops ops′ pairs targets stops = refl
+
+pub succs-ops : (bounds recs ops ops′ pairs targets : List ℕ) (b : ℕ)
+    → succs (drawn bounds recs ops pairs targets) b ≡ succs (drawn bounds recs ops′ pairs targets) b
+succs-ops bounds recs ops ops′ pairs targets b =
+    end-same bounds bounds recs recs ops ops′ pairs targets (ending (drawn bounds recs ops pairs targets) b)
+
+module _ (P : Picture) where
+  abbrev Q : List ℕ → Picture
+  Q ops = drawn (P .bounds) (P .recs) ops (P .pairs) (P .targets)
+
+  end-whole : (ops : List ℕ) (e : End) → end-succs (Q ops) e ≡ end-succs P e
+  end-whole ops (goes t) = refl
+  end-whole ops (parts t f) = refl
+  end-whole ops (cases t) = refl
+  end-whole ops stops = refl
+
+  pub succs-whole : (ops : List ℕ) (b : ℕ) → succs (Q ops) b ≡ succs P b
+  succs-whole ops b = end-whole ops (ending P b)
+
+  pub preds-whole : (ops : List ℕ) (b : ℕ) → preds (Q ops) b ≡ preds P b
+  preds-whole ops b = filter-on (λ c. mem b (succs (Q ops) c)) (λ c. mem b (succs P c)) (upto (nblocks P)) (λ c i. ap (mem b) (succs-whole ops c))
+
+  node-whole : (r b : ℕ) → node (Q (P .ops)) r b ≡ node P r b
+  node-whole r b =
+      ap (λ (l : List ℕ). record { gen = read-first (P .ops) r (code P b); kill = written r (code P b); next = l }) (succs-whole (P .ops) b)
+
+  pub live-in-whole : (b r : ℕ) → live-in (Q (P .ops)) b r ≡ live-in P b r
+  live-in-whole b r =
+      ap (λ (ns : List Node). member (iterate (λ S. map (live-at S) ns) (nblocks P) (map (λ n. false) ns)) b)
+      (map-ext (node (Q (P .ops)) r) (node P r) (node-whole r) (upto (nblocks P)))
+
+  pub live-out-whole : (b r : ℕ) → live-out (Q (P .ops)) b r ≡ live-out P b r
+  live-out-whole b r =
+      ap (any (λ s. live-in (Q (P .ops)) s r)) (succs-whole (P .ops) b)
+      ∙ any-on (λ s. live-in (Q (P .ops)) s r) (λ s. live-in P s r) (succs P b) (λ s i. live-in-whole s r)

@@ -1,0 +1,251 @@
+// Live-in and live-out (01, "A round": "Live-in is the least solution of: read before written, or live into a successor and
+// not written"; in the Rust `liveness`, `live_out`). The row of a block begins as what it reads first, and takes over what is
+// live into each successor and not written, in sweeps from the last block to the first and from the first to the last by
+// turns, so that a chain of blocks settles in one sweep whichever way its numbers go, until nothing changes.
+use crate::graph::succs;
+use crate::sets::all_sets;
+use crate::sets::clear_first;
+use inst::record::wide;
+use words::bits::bit_in;
+ghost use mathlib.Core.Path.{_≡_};
+ghost use mathlib.Core.Bool.{not};
+ghost use mathlib.Core.List.{List, [], map};
+ghost use Prim.Native.Nat.{ℕ, _+_, _*_, _/_, _^_, _≤_, _<_};
+ghost use lib.Dec.{eqb};
+ghost use lib.ListN.{length, getD, set, drop};
+ghost use Rattle.words.specs.Bits.{is-in};
+ghost use Rattle.words.specs.Lists.{upto, any};
+ghost use Rattle.model.specs.Picture.{succs};
+ghost use Rattle.model.specs.Live.{live-out};
+ghost use Rattle.inst.specs.Table.{rows};
+ghost use Rattle.flow.specs.Drawn.{drawn};
+ghost use Rattle.flow.specs.Graph.{Graph};
+ghost use Rattle.flow.specs.Sets.{Code, Below, Room};
+ghost use Rattle.flow.specs.Progress.{raised, Among, Edges, Progress, Solved};
+ghost use Rattle.flow.specs.Live.{Live, LiveOut, gathered};
+
+// One word: a takes what stands at c and not at d. Tells whether it changed.
+fn raise(bits: &mut [u64], a: usize, c: usize, d: usize) -> bool
+    requires { ⌜ (a < length (now bits)) × (c < length (now bits)) × (d < length (now bits)) ⌝ }
+    ensures { λ _. ⌜ now (bits .exit) ≡ set (now (bits .entry)) a (raised (now (bits .entry)) a c d) ⌝ }
+    ensures { λ r. ⌜ r ≡ not (eqb (raised (now (bits .entry)) a c d) (getD (now (bits .entry)) a 0)) ⌝ }
+    ensures { λ _. ⌜ (raised (now (bits .entry)) a c d < 2 ^ 64) × (getD (now (bits .entry)) d 0 < 2 ^ 64) ⌝ }
+{
+    let old = bits[a];
+    let new = old | (bits[c] & !bits[d]);
+    bits[a] = new;
+    new != old
+}
+
+// One edge: block b of n takes what is live into s and it does not write. Tells whether it changed.
+fn join(bits: &mut [u64], n: usize, w: usize, b: usize, s: usize) -> bool
+    requires { ⌜ Room n w (now bits) × (b < n) × (s < n) ⌝ }
+    ensures { λ r. ⌜ Progress n w (drop (n * w) (now (bits .entry))) (λ c x j. (c ≡ b) × (x ≡ s) × (j < w)) (now (bits .entry)) (now (bits .exit)) r ⌝ }
+{
+    let to = b * w;
+    let from = s * w;
+    let writes = n * w + to;
+    let mut changed = false;
+    let mut i = 0usize;
+    while i < w {
+        let more = raise(bits, to + i, from + i, writes + i);
+        changed = changed | more;
+        i += 1;
+    }
+    changed
+}
+
+// One block: it takes what is live into each of its successors. Tells whether it changed.
+fn settle(bits: &mut [u64], list: &[u32], n: usize, w: usize, b: usize) -> bool
+    requires { ⌜ Room n w (now bits) × (b < n) × ((j : ℕ) → j < length (now list) → getD (now list) j 0 < n) ⌝ }
+    ensures { λ r. ⌜ Progress n w (drop (n * w) (now (bits .entry))) (λ c x i. (c ≡ b) × Among (now (list .entry)) (length (now (list .entry))) x × (i < w)) (now (bits .entry)) (now (bits .exit)) r ⌝ }
+{
+    let mut changed = false;
+    let mut j = 0usize;
+    while j < list.len() {
+        let more = join(bits, n, w, b, wide(list[j]));
+        changed = changed | more;
+        j += 1;
+    }
+    changed
+}
+
+// Every block once, from the last to the first. Tells whether one changed.
+fn sweep<'a>(
+    bits: &mut [u64],
+    t: &[u32; 101],
+    bounds: &[u32],
+    recs: &'a [u32],
+    pairs: &[u32],
+    targets: &'a [u32],
+    w: usize,
+) -> bool
+    requires { ⌜ (now t ≡ rows) × Graph (now bounds) (now recs) (now pairs) (now targets) × Room (length (now bounds) / 2) w (now bits) ⌝ }
+    ensures { λ r. ⌜ Progress (length (now (bounds .entry)) / 2) w (drop (length (now (bounds .entry)) / 2 * w) (now (bits .entry)))
+        (Edges (length (now (bounds .entry)) / 2) w (succs (drawn (now (bounds .entry)) (now (recs .entry)) [] (now (pairs .entry)) (now (targets .entry)))))
+        (now (bits .entry)) (now (bits .exit)) r ⌝ }
+{
+    let n = bounds.len() / 2;
+    let mut changed = false;
+    let mut b = n;
+    while 0 < b {
+        b -= 1;
+        let list = succs(t, bounds, recs, pairs, targets, b);
+        let more = settle(bits, list, n, w, b);
+        changed = changed | more;
+    }
+    changed
+}
+
+// Every block once, from the first to the last. Tells whether one changed.
+fn sweep_up<'a>(
+    bits: &mut [u64],
+    t: &[u32; 101],
+    bounds: &[u32],
+    recs: &'a [u32],
+    pairs: &[u32],
+    targets: &'a [u32],
+    w: usize,
+) -> bool
+    requires { ⌜ (now t ≡ rows) × Graph (now bounds) (now recs) (now pairs) (now targets) × Room (length (now bounds) / 2) w (now bits) ⌝ }
+    ensures { λ r. ⌜ Progress (length (now (bounds .entry)) / 2) w (drop (length (now (bounds .entry)) / 2 * w) (now (bits .entry)))
+        (Edges (length (now (bounds .entry)) / 2) w (succs (drawn (now (bounds .entry)) (now (recs .entry)) [] (now (pairs .entry)) (now (targets .entry)))))
+        (now (bits .entry)) (now (bits .exit)) r ⌝ }
+{
+    let n = bounds.len() / 2;
+    let mut changed = false;
+    let mut b = 0usize;
+    while b < n {
+        let list = succs(t, bounds, recs, pairs, targets, b);
+        let more = settle(bits, list, n, w, b);
+        changed = changed | more;
+        b += 1;
+    }
+    changed
+}
+
+// Sweeps down and up until a sweep up changes nothing: then every edge holds, whatever the sweep down changed.
+fn solve<'a>(
+    bits: &mut [u64],
+    t: &[u32; 101],
+    bounds: &[u32],
+    recs: &'a [u32],
+    pairs: &[u32],
+    targets: &'a [u32],
+    w: usize,
+)
+    requires { ⌜ (now t ≡ rows) × Graph (now bounds) (now recs) (now pairs) (now targets) × Room (length (now bounds) / 2) w (now bits) ⌝ }
+    ensures { λ _. ⌜ Solved (length (now (bounds .entry)) / 2) w (succs (drawn (now (bounds .entry)) (now (recs .entry)) [] (now (pairs .entry)) (now (targets .entry))))
+        (now (bits .entry)) (now (bits .exit)) ⌝ }
+{
+    let mut again = true;
+    while again {
+        sweep(bits, t, bounds, recs, pairs, targets, w);
+        again = sweep_up(bits, t, bounds, recs, pairs, targets, w);
+    }
+}
+
+// Live-in of every block: row b, of w words, at the head of the slice. The n rows behind them are what each
+// block writes, and what lies behind those is left as it was.
+pub fn live_in<'a>(
+    bits: &mut [u64],
+    t: &[u32; 101],
+    bounds: &[u32],
+    recs: &'a [u32],
+    ops: &[u32],
+    pairs: &[u32],
+    targets: &'a [u32],
+    w: usize,
+)
+    requires { ⌜ (now t ≡ rows) × Graph (now bounds) (now recs) (now pairs) (now targets) × Code (now recs) (now ops) × Below (now recs) (now ops) (64 * w)
+        × Room (length (now bounds) / 2) w (now bits) ⌝ }
+    ensures { λ _. ⌜ Live (drawn (now (bounds .entry)) (now (recs .entry)) (now (ops .entry)) (now (pairs .entry)) (now (targets .entry))) w (now (bits .exit)) ⌝ }
+    ensures { λ _. ⌜ drop (length (now (bounds .entry)) / 2 * w + length (now (bounds .entry)) / 2 * w) (now (bits .exit)) ≡ drop (length (now (bounds .entry)) / 2 * w + length (now (bounds .entry)) / 2 * w) (now (bits .entry)) ⌝ }
+{
+    let n = bounds.len() / 2;
+    clear_first(bits, n * w + n * w);
+    all_sets(t, bits, bounds, recs, ops, w);
+    solve(bits, t, bounds, recs, pairs, targets, w);
+}
+
+// Word i of every row of the list.
+fn gather(bits: &[u64], list: &[u32], w: usize, i: usize) -> u64
+    requires { ⌜ (i < w) × ((j : ℕ) → j < length (now list) → getD (now list) j 0 * w + w ≤ length (now bits)) ⌝ }
+    ensures { λ r. ⌜ r ≡ gathered (now (bits .entry)) w i 0 (now (list .entry)) ⌝ }
+{
+    let mut x: u64 = 0;
+    let mut j = 0usize;
+    while j < list.len() {
+        let s = wide(list[j]);
+        x = x | bits[s * w + i];
+        j += 1;
+    }
+    x
+}
+
+// All words of `out`, a row of as many words as the others have, gathered from the rows of the list.
+fn gather_all(out: &mut [u64], bits: &[u64], list: &[u32])
+    requires { ⌜ ((j : ℕ) → j < length (now list) → getD (now list) j 0 * length (now out) + length (now out) ≤ length (now bits)) ⌝ }
+    ensures { λ _. ⌜ now (out .exit) ≡ map (λ i. gathered (now (bits .entry)) (length (now (out .entry))) i 0 (now (list .entry))) (upto (length (now (out .entry)))) ⌝ }
+{
+    let w = out.len();
+    let mut i = 0usize;
+    while i < w {
+        out[i] = gather(bits, list, w, i);
+        i += 1;
+    }
+}
+
+// Live-out of block b, from the rows of live-in: `out` is a row of w words.
+pub fn live_out<'a>(
+    out: &mut [u64],
+    bits: &[u64],
+    t: &[u32; 101],
+    bounds: &[u32],
+    recs: &'a [u32],
+    pairs: &[u32],
+    targets: &'a [u32],
+    b: usize,
+)
+    requires { ⌜ (now t ≡ rows) × Graph (now bounds) (now recs) (now pairs) (now targets) × (b < length (now bounds) / 2)
+        × Room (length (now bounds) / 2) (length (now out)) (now bits) ⌝ }
+    ensures { λ _. ⌜ ((ops : List ℕ) → Live (drawn (now (bounds .entry)) (now (recs .entry)) ops (now (pairs .entry)) (now (targets .entry))) (length (now (out .entry))) (now (bits .entry))
+        → LiveOut (drawn (now (bounds .entry)) (now (recs .entry)) ops (now (pairs .entry)) (now (targets .entry))) (length (now (out .entry))) b (now (out .exit))) ⌝ }
+{
+    gather_all(out, bits, succs(t, bounds, recs, pairs, targets, b));
+}
+
+// Is r in one of the listed rows of w words?
+fn in_one(bits: &[u64], list: &[u32], w: usize, r: usize) -> bool
+    requires { ⌜ ((j : ℕ) → j < length (now list) → getD (now list) j 0 * w + w ≤ length (now bits)) ⌝ }
+    ensures { λ x. ⌜ x ≡ any (λ s. is-in (now (bits .entry)) (64 * (s * w) + r)) (now (list .entry)) ⌝ }
+{
+    let mut j = 0usize;
+    while j < list.len() {
+        if bit_in(bits, wide(list[j]) * w, r) {
+            return true;
+        }
+        j += 1;
+    }
+    false
+}
+
+// Is register r live out of block b?
+pub fn lives_out<'a>(
+    bits: &[u64],
+    t: &[u32; 101],
+    bounds: &[u32],
+    recs: &'a [u32],
+    pairs: &[u32],
+    targets: &'a [u32],
+    w: usize,
+    b: usize,
+    r: usize,
+) -> bool
+    requires { ⌜ (now t ≡ rows) × Graph (now bounds) (now recs) (now pairs) (now targets) × (b < length (now bounds) / 2) × (r < 64 * w)
+        × Room (length (now bounds) / 2) w (now bits) ⌝ }
+    ensures { λ x. ⌜ ((ops : List ℕ) → Live (drawn (now (bounds .entry)) (now (recs .entry)) ops (now (pairs .entry)) (now (targets .entry))) w (now (bits .entry))
+        → x ≡ live-out (drawn (now (bounds .entry)) (now (recs .entry)) ops (now (pairs .entry)) (now (targets .entry))) b r) ⌝ }
+{
+    in_one(bits, succs(t, bounds, recs, pairs, targets, b), w, r)
+}

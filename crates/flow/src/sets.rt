@@ -1,0 +1,157 @@
+// What each block reads before it writes it, and what it writes (01, "A round": "read before written"; in the Rust the first
+// part of `liveness`), in rows of bits, w words a row. A block's instructions are taken from the last to the first: what one
+// writes goes out of the row of reads, and what it reads goes in.
+use inst::access::list;
+use inst::access::read_at;
+use inst::access::uses;
+use inst::access::write_at;
+use inst::record::wide;
+use words::bits::set_in;
+use words::bits::unset_in;
+ghost use mathlib.Core.Path.{_≡_};
+ghost use mathlib.Core.List.{[], _++_, map};
+ghost use Prim.Native.Nat.{_+_, _-_, _*_, _/_, _≤_, _<_};
+ghost use lib.ListN.{length, drop, replicate};
+ghost use Rattle.words.specs.Lists.{range};
+ghost use Rattle.model.specs.Picture.{inst, writes};
+ghost use Rattle.inst.specs.Table.{rows};
+ghost use Rattle.inst.specs.Record.{Known, Listed, Used, present, rest-reads};
+ghost use Rattle.flow.specs.Drawn.{drawn};
+ghost use Rattle.flow.specs.Graph.{Blocks};
+ghost use Rattle.flow.specs.Sets.{steps, put, wrote, before, run, blocks, Code, Room};
+
+// The first n words cleared.
+pub fn clear_first(bits: &mut [u64], n: usize)
+    requires { ⌜ n ≤ length (now bits) ⌝ }
+    ensures { λ _. ⌜ now (bits .exit) ≡ replicate n 0 ++ drop n (now (bits .entry)) ⌝ }
+{
+    let mut i = 0usize;
+    while i < n {
+        bits[i] = 0;
+        i += 1;
+    }
+}
+
+// Register r, if it is one, is written.
+fn write_one(bits: &mut [u64], u: usize, d: usize, r: u32)
+    requires { ⌜ (u ≤ length (now bits)) × (d ≤ length (now bits)) ⌝ }
+    ensures { λ _. ⌜ now (bits .exit) ≡ steps (wrote u d) (now (bits .entry)) (present r) ⌝ }
+{
+    if r == 4294967295 {
+        return;
+    }
+    let q = wide(r);
+    unset_in(bits, u, q);
+    set_in(bits, d, q);
+}
+
+// Register r, if it is one, is read.
+fn read_one(bits: &mut [u64], u: usize, r: u32)
+    requires { ⌜ u ≤ length (now bits) ⌝ }
+    ensures { λ _. ⌜ now (bits .exit) ≡ steps (put u) (now (bits .entry)) (present r) ⌝ }
+{
+    if r == 4294967295 {
+        return;
+    }
+    set_in(bits, u, wide(r));
+}
+
+// What record p writes.
+fn write_slots(bits: &mut [u64], recs: &[u32], p: usize, uses: u32, u: usize, d: usize)
+    requires { ⌜ (u ≤ length (now bits)) × (d ≤ length (now bits)) × Used (now recs) p uses ⌝ }
+    ensures { λ _. ⌜ now (bits .exit) ≡ steps (wrote u d) (now (bits .entry)) (writes (inst (now (recs .entry)) p)) ⌝ }
+{
+    let mut s = 0usize;
+    while s < 5 {
+        let r = write_at(recs, p, uses, s);
+        write_one(bits, u, d, r);
+        s += 1;
+    }
+}
+
+// What the slots of record p read.
+fn read_slots(bits: &mut [u64], recs: &[u32], p: usize, uses: u32, u: usize)
+    requires { ⌜ (u ≤ length (now bits)) × Used (now recs) p uses ⌝ }
+    ensures { λ _. ⌜ now (bits .exit) ≡ steps (put u) (now (bits .entry)) (rest-reads (inst (now (recs .entry)) p) 0) ⌝ }
+{
+    let mut s = 0usize;
+    while s < 5 {
+        let r = read_at(recs, p, uses, s);
+        read_one(bits, u, r);
+        s += 1;
+    }
+}
+
+// What a list of operands reads.
+fn read_list(bits: &mut [u64], xs: &[u32], u: usize)
+    requires { ⌜ u ≤ length (now bits) ⌝ }
+    ensures { λ _. ⌜ now (bits .exit) ≡ steps (put u) (now (bits .entry)) (now (xs .entry)) ⌝ }
+{
+    let mut j = 0usize;
+    while j < xs.len() {
+        set_in(bits, u, wide(xs[j]));
+        j += 1;
+    }
+}
+
+// Record p in front of those that the rows are of.
+fn add_front(
+    t: &[u32; 101],
+    bits: &mut [u64],
+    recs: &[u32],
+    ops: &[u32],
+    p: usize,
+    u: usize,
+    d: usize,
+)
+    requires { ⌜ (now t ≡ rows) × (u ≤ length (now bits)) × (d ≤ length (now bits)) × Known (now recs) p × Listed (now recs) (now ops) p ⌝ }
+    ensures { λ _. ⌜ now (bits .exit) ≡ before (now (ops .entry)) u d (now (bits .entry)) (inst (now (recs .entry)) p) ⌝ }
+{
+    let does = uses(t, recs, p);
+    write_slots(bits, recs, p, does, u, d);
+    read_slots(bits, recs, p, does, u);
+    read_list(bits, list(ops, recs, p), u);
+}
+
+// The rows of the records from lo up to hi.
+fn block_sets(
+    t: &[u32; 101],
+    bits: &mut [u64],
+    recs: &[u32],
+    ops: &[u32],
+    lo: usize,
+    hi: usize,
+    u: usize,
+    d: usize,
+)
+    requires { ⌜ (now t ≡ rows) × (u ≤ length (now bits)) × (d ≤ length (now bits)) × (lo ≤ hi) × (16 * hi ≤ length (now recs)) × Code (now recs) (now ops) ⌝ }
+    ensures { λ _. ⌜ now (bits .exit) ≡ run (now (ops .entry)) u d (now (bits .entry)) (map (inst (now (recs .entry))) (range lo (hi - lo))) ⌝ }
+{
+    let mut p = hi;
+    while lo < p {
+        p -= 1;
+        add_front(t, bits, recs, ops, p, u, d);
+    }
+}
+
+// The rows of every block: block b's row of reads is row b of n, and its row of writes row n + b.
+pub fn all_sets(
+    t: &[u32; 101],
+    bits: &mut [u64],
+    bounds: &[u32],
+    recs: &[u32],
+    ops: &[u32],
+    w: usize,
+)
+    requires { ⌜ (now t ≡ rows) × Blocks (now bounds) (now recs) × Code (now recs) (now ops) × Room (length (now bounds) / 2) w (now bits) ⌝ }
+    ensures { λ _. ⌜ now (bits .exit) ≡ blocks (drawn (now (bounds .entry)) (now (recs .entry)) (now (ops .entry)) [] []) w (now (bits .entry)) (length (now (bounds .entry)) / 2) ⌝ }
+{
+    let n = bounds.len() / 2;
+    let mut b = 0usize;
+    while b < n {
+        let lo = wide(bounds[2 * b]);
+        let hi = wide(bounds[2 * b + 1]);
+        block_sets(t, bits, recs, ops, lo, hi, b * w, n * w + b * w);
+        b += 1;
+    }
+}
