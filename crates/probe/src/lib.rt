@@ -1,0 +1,146 @@
+// Single layers of the port under C names, for tests/rust to hold against the Rust: each function asks nothing of its
+// caller, and its contract is the layer's own.
+use flow::graph::find_preds;
+use flow::live::live_in;
+use inst::table::table;
+use picture::refusal;
+ghost use mathlib.Core.Path.{_≡_};
+ghost use mathlib.Core.List.{[]};
+ghost use Prim.Native.Nat.{_+_, _/_};
+ghost use lib.ListN.{length};
+ghost use Rattle.model.specs.Refusal.{refusal};
+ghost use Rattle.picture.specs.Causes.{picture-of};
+ghost use Rattle.flow.specs.Live.{Live};
+ghost use Rattle.flow.specs.Preds.{Preds};
+
+// The lowest number whose cause is present, or 0: `picture::refusal`, the table of roles made for this one call.
+#[no_mangle]
+pub extern "C" fn virdzeba_refusal(
+    bounds: &[u32],
+    recs: &[u32],
+    locs: &[u32],
+    vias: &[u32],
+    types: &[u32],
+    ops: &[u32],
+    pairs: &[u32],
+    targets: &[u32],
+    registers: u32,
+    operands: u32,
+    w64: usize,
+    w32: usize,
+) -> u32
+    ensures { λ r. ⌜ r ≡ refusal (picture-of (now (bounds .entry)) (now (recs .entry)) (now (locs .entry)) (now (vias .entry)) (now (types .entry)) registers (now (ops .entry)) operands (now (pairs .entry)) (now (targets .entry)) []) w64 w32 ⌝ }
+{
+    let t = table();
+    refusal(
+        bounds,
+        recs,
+        locs,
+        vias,
+        types,
+        registers,
+        ops,
+        operands,
+        pairs,
+        targets,
+        w64,
+        w32,
+        &t,
+    )
+}
+
+// Predecessors of an accepted picture, two words a block: how many there are, up to two, and the first. The slice is as long
+// as the pass's work in 32-bit words; the answer is that of `virdzeba_refusal`, and unless it is 0 nothing is written.
+#[no_mangle]
+pub extern "C" fn virdzeba_preds<'a>(
+    words: &mut [u32],
+    bounds: &[u32],
+    recs: &'a [u32],
+    locs: &[u32],
+    vias: &[u32],
+    types: &[u32],
+    ops: &[u32],
+    pairs: &[u32],
+    targets: &'a [u32],
+    registers: u32,
+    operands: u32,
+    w64: usize,
+) -> u32
+    ensures { λ r. ⌜ r ≡ refusal (picture-of (now (bounds .entry)) (now (recs .entry)) (now (locs .entry)) (now (vias .entry)) (now (types .entry)) registers (now (ops .entry)) operands (now (pairs .entry)) (now (targets .entry)) []) w64 (length (now (words .entry))) ⌝ }
+    ensures { λ r. ⌜ ((r ≡ 0 → ⊥) → now (words .exit) ≡ now (words .entry)) ⌝ }
+    ensures { λ r. ⌜ (r ≡ 0 → Preds (picture-of (now (bounds .entry)) (now (recs .entry)) (now (locs .entry)) (now (vias .entry)) (now (types .entry)) registers (now (ops .entry)) operands (now (pairs .entry)) (now (targets .entry)) []) (now (words .exit))) ⌝ }
+{
+    let t = table();
+    let r = refusal(
+        bounds,
+        recs,
+        locs,
+        vias,
+        types,
+        registers,
+        ops,
+        operands,
+        pairs,
+        targets,
+        w64,
+        words.len(),
+        &t,
+    );
+    if r != 0 {
+        return r;
+    }
+    find_preds(words, &t, bounds, recs, pairs, targets);
+    0
+}
+
+// The words of a row for so many registers.
+fn row_words(registers: u32) -> usize
+    ensures { λ w. ⌜ w ≡ (registers + 63) / 64 ⌝ }
+{
+    (registers as usize + 63) / 64
+}
+
+// Live-in of an accepted picture: a row of bits for each block, a word for each 64 registers in use. The slice is as long as the
+// pass's work in 64-bit words; the answer is that of `virdzeba_refusal`, and unless it is 0 nothing is written.
+#[no_mangle]
+pub extern "C" fn virdzeba_live<'a>(
+    bits: &mut [u64],
+    bounds: &[u32],
+    recs: &'a [u32],
+    locs: &[u32],
+    vias: &[u32],
+    types: &[u32],
+    ops: &[u32],
+    pairs: &[u32],
+    targets: &'a [u32],
+    registers: u32,
+    operands: u32,
+    w32: usize,
+) -> u32
+    ensures { λ r. ⌜ r ≡ refusal (picture-of (now (bounds .entry)) (now (recs .entry)) (now (locs .entry)) (now (vias .entry)) (now (types .entry)) registers (now (ops .entry)) operands (now (pairs .entry)) (now (targets .entry)) []) (length (now (bits .entry))) w32 ⌝ }
+    ensures { λ r. ⌜ ((r ≡ 0 → ⊥) → now (bits .exit) ≡ now (bits .entry)) ⌝ }
+    ensures { λ r. ⌜ (r ≡ 0 → Live (picture-of (now (bounds .entry)) (now (recs .entry)) (now (locs .entry)) (now (vias .entry)) (now (types .entry)) registers (now (ops .entry)) operands (now (pairs .entry)) (now (targets .entry)) []) ((registers + 63) / 64) (now (bits .exit))) ⌝ }
+{
+    let t = table();
+    let r = refusal(
+        bounds,
+        recs,
+        locs,
+        vias,
+        types,
+        registers,
+        ops,
+        operands,
+        pairs,
+        targets,
+        bits.len(),
+        w32,
+        &t,
+    );
+    if r != 0 {
+        return r;
+    }
+    let w = row_words(registers);
+    live_in(bits, &t, bounds, recs, ops, pairs, targets, w);
+    0
+}

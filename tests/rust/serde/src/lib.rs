@@ -1,0 +1,13 @@
+//! `#[derive(serde::Serialize, serde::Deserialize)]` as `inst.rs` writes it, making nothing.
+
+use proc_macro::TokenStream;
+
+#[proc_macro_derive(Serialize)]
+pub fn serialize(_: TokenStream) -> TokenStream {
+    TokenStream::new()
+}
+
+#[proc_macro_derive(Deserialize)]
+pub fn deserialize(_: TokenStream) -> TokenStream {
+    TokenStream::new()
+}

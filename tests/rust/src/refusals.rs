@@ -1,0 +1,244 @@
+//! The port's acceptance held against `accept.rs`: generated pictures, damaged ones, work slices one word short, and random
+//! words. Every picture lent is compared with a copy afterwards. Then the time of one scan of the largest picture.
+
+use std::collections::BTreeMap;
+
+use crate::accept;
+use crate::damage::DAMAGES;
+use crate::generate::{Size, picture};
+use crate::kinds::STMT;
+use crate::picture::{ABSENT, Picture, RECORD, Record};
+use crate::port;
+use crate::random::Random;
+use crate::selfcheck::size_of;
+use crate::time::best;
+
+/// Where a picture comes from.
+#[derive(Clone, Copy, PartialEq, Eq, PartialOrd, Ord, Debug)]
+pub enum Source {
+    Generated,
+    Damaged,
+    DamagedTwice,
+    ShortWork,
+    Altered,
+    Random,
+}
+
+#[derive(Default)]
+pub struct Stats {
+    /// runs by cause and source
+    pub runs: BTreeMap<(u32, Source), usize>,
+    pub faults: Vec<String>,
+}
+
+pub fn refusals(n: usize, seed: u64) -> Stats {
+    let mut stats = Stats::default();
+    for k in 0..n {
+        let this = seed.wrapping_mul(1_000_003).wrapping_add(k as u64);
+        let mut rnd = Random::new(this ^ 0x4EF0_5A15);
+        let p = picture(this, size_of(k));
+        let name = format!("seed {this}");
+        let work = p.work();
+        stats.compare(Source::Generated, &p, work, &name);
+        for short in short_work(work) {
+            stats.compare(Source::ShortWork, &p, short, &name);
+        }
+        for d in DAMAGES {
+            let mut q = p.clone();
+            if !(d.deed)(&mut q, &mut rnd) {
+                continue;
+            }
+            let work = q.work();
+            stats.compare(Source::Damaged, &q, work, &format!("{name}: {}", d.what));
+            // A second cause, and perhaps work slices too short: the lowest number is the answer. Damages above 3 take records
+            // apart, so that lengths and kinds must still be in order.
+            let e = &DAMAGES[rnd.below(DAMAGES.len())];
+            let whole = d.cause == 0 || d.cause > 4;
+            if e.cause > 0 && (whole || e.cause <= 3) && (e.deed)(&mut q, &mut rnd) {
+                let work = some_work(&q, &mut rnd);
+                stats.compare(Source::DamagedTwice, &q, work, &format!("{name}: {}, {}", d.what, e.what));
+            }
+        }
+        for _ in 0..40 {
+            let mut q = p.clone();
+            for _ in 0..rnd.from_to(1, 3) {
+                alter(&mut q, &mut rnd);
+            }
+            let work = some_work(&q, &mut rnd);
+            stats.compare(Source::Altered, &q, work, &name);
+            let q = any_words(&mut rnd);
+            let work = some_work(&q, &mut rnd);
+            stats.compare(Source::Random, &q, work, &name);
+        }
+    }
+    stats
+}
+
+/// One word short in the one and in the other.
+fn short_work((w64, w32): (usize, usize)) -> Vec<(usize, usize)> {
+    let mut out = vec![(w64, w32 - 1)];
+    if w64 > 0 {
+        out.push((w64 - 1, w32));
+    }
+    out
+}
+
+/// Mostly just enough, else one word short.
+fn some_work(p: &Picture, rnd: &mut Random) -> (usize, usize) {
+    let enough = p.work();
+    if rnd.chance(75) { enough } else { rnd.pick(&short_work(enough)) }
+}
+
+/// A word that is near some bound, or any.
+fn some_word(p: &Picture, rnd: &mut Random) -> u32 {
+    let near = [0, 1, 7, 33, 100, p.regs, p.opers, p.nblocks() as u32, p.locs.len() as u32, p.targets.len() as u32, ABSENT];
+    match rnd.below(4) {
+        0 => rnd.word() as u32,
+        1 => rnd.pick(&near).wrapping_sub(1),
+        2 => rnd.pick(&near).wrapping_add(1),
+        _ => rnd.pick(&near),
+    }
+}
+
+/// Changes one word, mostly of a record, or one of the counts in use.
+fn alter(p: &mut Picture, rnd: &mut Random) {
+    let word = some_word(p, rnd);
+    let lists = [&mut p.bounds, &mut p.types, &mut p.ops, &mut p.pairs, &mut p.targets];
+    match rnd.below(20) {
+        0 => p.regs = word,
+        1 => p.opers = word,
+        at @ 2..7 => put(lists.into_iter().nth(at - 2).expect("five lists"), word, rnd),
+        _ => put(&mut p.recs, word, rnd),
+    }
+}
+
+fn put(list: &mut [u32], word: u32, rnd: &mut Random) {
+    if !list.is_empty() {
+        list[rnd.below(list.len())] = word;
+    }
+}
+
+/// Random words in slices of random lengths; often the lengths fit each other, so that more than lengths is looked at.
+fn any_words(rnd: &mut Random) -> Picture {
+    let mut p = Picture::default();
+    let most = rnd.pick(&[1, 5, 101, u32::MAX as usize]);
+    let words = |rnd: &mut Random, n: usize| (0..n).map(|_| rnd.below(most) as u32).collect::<Vec<u32>>();
+    let code = rnd.below(6);
+    let uneven = usize::from(rnd.chance(20));
+    p.locs = words(rnd, code);
+    p.recs = words(rnd, RECORD * code + uneven);
+    let vias = rnd.pick(&[0, 0, code, code + 1]);
+    p.vias = words(rnd, vias);
+    let lengths = [rnd.below(8), rnd.below(8), rnd.below(8), rnd.below(8)];
+    p.types = words(rnd, lengths[0]);
+    p.ops = words(rnd, lengths[1]);
+    p.pairs = words(rnd, lengths[2]);
+    p.targets = words(rnd, lengths[3]);
+    p.regs = rnd.below(p.types.len() + 1 + uneven) as u32;
+    p.opers = rnd.below(p.ops.len() + 1 + uneven) as u32;
+    if rnd.chance(80) {
+        p.bounds = vec![0, code as u32];
+    } else {
+        let n = rnd.below(5);
+        p.bounds = words(rnd, n);
+    }
+    p
+}
+
+impl Stats {
+    fn compare(&mut self, source: Source, p: &Picture, (w64, w32): (usize, usize), name: &str) {
+        let copy = p.clone();
+        let (port, wanted) = (port::refusal(p, w64, w32), accept::refusal(&copy, w64, w32));
+        if port != wanted {
+            self.faults.push(format!("{name} ({source:?}): the port refuses with {port}, not {wanted}"));
+        }
+        if *p != copy {
+            self.faults.push(format!("{name} ({source:?}): the port changed what it was lent"));
+        }
+        *self.runs.entry((wanted, source)).or_default() += 1;
+    }
+
+    fn of(&self, cause: u32, source: Source) -> usize {
+        self.runs.get(&(cause, source)).copied().unwrap_or(0)
+    }
+
+    /// What is missing, if the comparison is to be worth its while. Cause 11 is not wanted: no picture without a lower cause
+    /// has it.
+    pub fn missing(&self) -> Vec<String> {
+        let mut out = Vec::new();
+        if !self.faults.is_empty() {
+            out.push("no fault".to_string());
+        }
+        let wanted = (0..=9).map(|cause| (cause, Source::Damaged)).chain([(0, Source::Generated), (10, Source::ShortWork)]);
+        for (cause, source) in wanted {
+            if self.of(cause, source) == 0 {
+                out.push(format!("cause {cause} among those {source:?}"));
+            }
+        }
+        out
+    }
+
+    pub fn print(&self) {
+        let sources = [Source::Generated, Source::Damaged, Source::DamagedTwice, Source::ShortWork, Source::Altered, Source::Random];
+        println!("refusals: the port against accept.rs, {} runs, {} differences", self.runs.values().sum::<usize>(), self.faults.len());
+        println!("cause {}", sources.map(|s| format!("{s:?}")).map(|s| format!("{s:>13}")).join(""));
+        for cause in 0..=11 {
+            println!("{cause:5} {}", sources.map(|s| format!("{:13}", self.of(cause, s))).join(""));
+        }
+        for f in self.faults.iter().take(20) {
+            println!("fault: {f}");
+        }
+    }
+}
+
+/// Of some large generated pictures the one with the longest blocks.
+pub fn long_blocks(seed: u64) -> Picture {
+    let some = (0..40).map(|k| picture(seed.wrapping_add(k), Size::Large));
+    some.max_by_key(|p| 1000 * p.locs.len() / p.nblocks()).expect("forty pictures")
+}
+
+/// A picture as large as any that is accepted: the code of a generated one again and again.
+pub fn largest(seed: u64) -> Picture {
+    let p = long_blocks(seed);
+    let of = p.blocks();
+    let mut blocks: Vec<Vec<Record>> = Vec::new();
+    let mut left = 32768;
+    while blocks.len() < 4095 {
+        let block = &of[blocks.len() % of.len()];
+        if block.len() > left {
+            break;
+        }
+        left -= block.len();
+        blocks.push(block.clone());
+    }
+    blocks.push(vec![Record::new(STMT, 0, &[], (0, 0), &[]); left]);
+    let mut q = Picture::of_blocks(&blocks);
+    let end = q.locs.len() as u32;
+    q.bounds.resize(2 * 4096, end);
+    q.vias = vec![0; q.locs.len()];
+    (q.types, q.ops, q.pairs, q.targets) = (p.types, p.ops, p.pairs, p.targets);
+    q.types.truncate(p.regs as usize);
+    q.types.resize(65536, 0);
+    q.ops.truncate(p.opers as usize);
+    q.ops.resize(131072, 0);
+    while q.pairs.len() < 65536 {
+        q.pairs.extend([0, 1]);
+    }
+    q.targets.resize(65536, 0);
+    (q.regs, q.opers) = (65536, 131072);
+    q
+}
+
+/// The time of one scan of the largest picture, which lies there already, warm.
+pub fn print_time(seed: u64) {
+    let p = largest(seed);
+    let (w64, w32) = p.work();
+    assert_eq!((accept::refusal(&p, w64, w32), port::refusal(&p, w64, w32)), (0, 0), "the largest picture is accepted");
+    let port = best(50, || &p, |p| port::refusal(p, w64, w32));
+    let own = best(10, || &p, |p| accept::refusal(p, w64, w32));
+    println!(
+        "a scan of {} instructions in {} blocks: the port {port:.3} ms, accept.rs {own:.3} ms, at best",
+        p.locs.len(),
+        p.nblocks()
+    );
+}
