@@ -1,0 +1,13 @@
+pub mod Writing
+pub mod Soles
+pub mod Turned
+pub mod Looked
+pub mod Alike
+pub mod Verdict
+pub mod Marking
+pub mod Puts
+pub mod Run
+pub mod Chained
+pub mod First
+pub mod Again
+pub mod RunOf

@@ -1,0 +1,106 @@
+-- The last writers in the words of registers: marked, forgotten, and the first register written. Assumes nothing.
+use mathlib.Core.Bool.{Bool, true, false, cond}
+use mathlib.Core.List.{List, [], _∷_, _++_}
+use mathlib.Core.Option.{Option, none, some}
+use mathlib.Core.Path.{_≡_, refl, sym, ap, _∙_}
+use Prim.Native.Nat.{ℕ, suc, _+_, _*_, _/_, _%_, _≤_, _<_}
+use native.Mathlib.Decide.{ℕ-discrete}
+use native.Mathlib.Nat.{not-suc-le-zero, add-zero, add-suc, suc-add}
+use native.Mathlib.Omega.{arith}
+use borrow.Author.Tests.{eq-eqb, ne-eqb}
+use lib.ListN.{getD, length, set, length-set}
+use lib.Seq.{getD-set-same, getD-set-other}
+use Rattle.words.specs.Lists.{mem}
+use Rattle.model.specs.Picture.{inst, absent, writes}
+use Rattle.model.specs.Analyse.{Fact, last-writer}
+use Rattle.inst.specs.Record.{Within, write-at, present, rest-writes}
+use Rattle.inst.proofs.Rest.{writes-next, writes-end, writes-all}
+use Rattle.analyse.specs.Written.{settle}
+use Rattle.analyse.specs.State.{opt-at}
+use Rattle.analyse.specs.Step.{marked, Forgot}
+
+pub marked-twice : (p v : ℕ) → marked p (marked p v) ≡ marked p v
+unfolding marked
+marked-twice p v = omega arith
+
+-- ---- one more position
+
+pub last-more : (k : ℕ) (past : List Fact) (f : Fact) (r : ℕ) → last-writer k (past ++ (f ∷ [])) r ≡ cond (mem r (f .defs)) (some (k + length past)) (last-writer k past r)
+last-more k [] f r = ap (λ (n : ℕ). cond (mem r (f .defs)) (some n) none) (sym (add-zero k))
+last-more k (g ∷ past) f r =
+    ap (λ (o : Option ℕ). first o (cond (mem r (g .defs)) (some k) none)) (last-more (suc k) past f r)
+    ∙ go (mem r (f .defs)) (last-writer (suc k) past r)
+  where
+    first : Option ℕ → Option ℕ → Option ℕ
+    first o d = elim o [ some q ↦ some q | none ↦ d ]
+
+    go : (b : Bool) (o : Option ℕ) → first (cond b (some (suc k + length past)) o) (cond (mem r (g .defs)) (some k) none) ≡ cond b (some (k + suc (length past))) (first o (cond (mem r (g .defs)) (some k) none))
+    go true o = ap some (suc-add k (length past) ∙ sym (add-suc k (length past)))
+    go false o = refl
+
+pub opt-settle : (p : ℕ) (b : Bool) (v : ℕ) → opt-at (settle (marked p) b v / 16) ≡ cond b (some p) (opt-at (v / 16))
+unfolding settle marked opt-at
+opt-settle p true v = let e : (16 * (p + 1) + v % 16) / 16 ≡ suc p = omega arith in ap opt-at e
+opt-settle p false v = refl
+
+pub settle-flags : (p : ℕ) (b : Bool) (v : ℕ) → settle (marked p) b v % 16 ≡ v % 16
+unfolding settle marked
+settle-flags p true v = omega arith
+settle-flags p false v = refl
+
+pub settle-within : (p : ℕ) (b : Bool) (v : ℕ) → v / 16 ≤ p → settle (marked p) b v / 16 ≤ p + 1
+unfolding settle marked
+settle-within p true v h = omega arith
+settle-within p false v h = omega arith
+
+-- ---- forgetting
+
+pub record Forgetting (R r : ℕ) (before now : List ℕ) : Type 0 where
+  pub upto : r ≤ R
+  pub size : length now ≡ length before
+  pub done : (k : ℕ) → k < r → getD now k 0 ≡ getD before k 0 % 16
+  pub todo : (k : ℕ) → r ≤ k → getD now k 0 ≡ getD before k 0
+
+pub forgetting-none : (R : ℕ) (xs : List ℕ) → Forgetting R 0 xs xs
+forgetting-none R xs = record { upto = omega arith; size = refl; done = λ k h. absurd (not-suc-le-zero h); todo = λ k h. refl }
+
+pub forgetting-more : {R r : ℕ} {xs ys : List ℕ} → R ≤ length xs → Forgetting R r xs ys → r < R → Forgetting R (r + 1) xs (set ys r (getD ys r 0 % 16))
+forgetting-more {R} {r} {xs} {ys} l f h = record {
+  upto = omega arith;
+  size = length-set ys r (getD ys r 0 % 16) ∙ f .size;
+  done = λ k q. go k q (ℕ-discrete k r);
+  todo = λ k q. getD-set-other ys r k (getD ys r 0 % 16) 0 (λ e. omega arith) ∙ f .todo k (omega arith);
+}
+  where
+    go : (k : ℕ) → k < r + 1 → Dec (k ≡ r) → getD (set ys r (getD ys r 0 % 16)) k 0 ≡ getD xs k 0 % 16
+    go k q (yes e) =
+        ap (λ (x : ℕ). getD (set ys r (getD ys r 0 % 16)) x 0) e ∙ getD-set-same ys r (getD ys r 0 % 16) 0 (omega (arith, f .size))
+        ∙ ap (λ (x : ℕ). x % 16) (f .todo r (omega arith)) ∙ ap (λ (x : ℕ). getD xs x 0 % 16) (sym e)
+    go k q (no e) = getD-set-other ys r k (getD ys r 0 % 16) 0 e ∙ f .done k (omega arith)
+
+pub forgetting-end : {R r : ℕ} {xs ys : List ℕ} → Forgetting R r xs ys → R ≤ r → Forgot R xs ys
+forgetting-end f h = record { size = f .size; low = λ k q. f .done k (omega arith); high = λ k q. f .todo k (omega (arith, f .upto)) }
+
+-- ---- the first register written
+
+first-yes : (r : ℕ) (ys : List ℕ) → (r ≡ absent → ⊥) → getD (present r ++ ys) 0 absent ≡ r
+unfolding present
+first-yes r ys n = ap (λ (b : Bool). getD (cond b [] (r ∷ []) ++ ys) 0 absent) (ne-eqb r absent n)
+
+first-no : (r : ℕ) (ys : List ℕ) → r ≡ absent → present r ++ ys ≡ ys
+unfolding present
+first-no r ys e = ap (λ (b : Bool). cond b [] (r ∷ []) ++ ys) (eq-eqb r absent e)
+
+module _ (recs : List ℕ) (g : ℕ) (w : Within recs g) where
+  pub first-none : rest-writes (inst recs g) 0 ≡ writes (inst recs g)
+  first-none = writes-all (inst recs g)
+
+  module _ (s r : ℕ) (h : s < 5) (e : r ≡ write-at (inst recs g) s) (i : rest-writes (inst recs g) s ≡ writes (inst recs g)) where
+    pub first-here : (r ≡ absent → ⊥) → r ≡ getD (writes (inst recs g)) 0 absent
+    first-here n = sym (ap (λ (l : List ℕ). getD l 0 absent) (sym i ∙ writes-next recs g w s h e) ∙ first-yes r (rest-writes (inst recs g) (s + 1)) n)
+
+    pub first-on : r ≡ absent → rest-writes (inst recs g) (s + 1) ≡ writes (inst recs g)
+    first-on n = sym (first-no r (rest-writes (inst recs g) (s + 1)) n) ∙ sym (writes-next recs g w s h e) ∙ i
+
+  pub first-end : (s : ℕ) → 5 ≤ s → rest-writes (inst recs g) s ≡ writes (inst recs g) → absent ≡ getD (writes (inst recs g)) 0 absent
+  first-end s h i = sym (ap (λ (l : List ℕ). getD l 0 absent) (sym i ∙ writes-end recs g w s h))

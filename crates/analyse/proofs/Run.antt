@@ -1,0 +1,97 @@
+-- Positions one after the other: runs put together, along a part and along a chain. Assumes nothing.
+use mathlib.Core.List.{List, [], _∷_, _++_, map}
+use mathlib.Core.Logic.{_⊎_, inl, inr}
+use mathlib.Core.Path.{_≡_, refl, sym, ap, _∙_, subst}
+use Prim.Native.Nat.{ℕ, suc, _+_, _*_, _-_, _≤_, _<_}
+use native.Mathlib.Nat.{add-zero, not-suc-le-zero}
+use native.Mathlib.Omega.{arith}
+use lib.ListN.{getD, length, length-append, List·getD-append}
+use lib.Seq.{getD-append-add}
+use Rattle.words.specs.Lists.{range}
+use Rattle.words.proofs.Bools.{lt?}
+use Rattle.words.proofs.Lists.{map-append, length-range, range-append}
+use Rattle.model.specs.Picture.{Inst, inst}
+use Rattle.model.specs.Analyse.{Facts, Fact, fact, analyse}
+use Rattle.analyse.specs.State.{cell, State, Safe}
+use Rattle.analyse.specs.Step.{Good, Part, Ran, RanPart}
+
+-- ---- two runs are one
+
+length-run : (G : Facts) (ops : List ℕ) (past : List Fact) (is : List Inst) → length (analyse G ops past is) ≡ length past + length is
+length-run G ops past [] = sym (add-zero (length past))
+length-run G ops past (i ∷ is) =
+    let e = length-run G ops (past ++ fact G ops past i ∷ []) is in
+    let l = length-append past (fact G ops past i ∷ []) in
+    omega (arith, e, l)
+
+run-append : (G : Facts) (ops : List ℕ) (past : List Fact) (is js : List Inst) → analyse G ops past (is ++ js) ≡ analyse G ops (analyse G ops past is) js
+run-append G ops past [] js = refl
+run-append G ops past (i ∷ is) js = run-append G ops (past ++ fact G ops past i ∷ []) is js
+
+length-map : (f : ℕ → Inst) (xs : List ℕ) → length (map f xs) ≡ length xs
+length-map f [] = refl
+length-map f (x ∷ xs) = ap suc (length-map f xs)
+
+pub ran-none : {R p : ℕ} {regs w : List ℕ} (recs ops : List ℕ) → Safe R p regs w → Ran recs ops regs w regs w p R []
+ran-none {R} {p} {regs} {w} recs ops s = record {
+  regs-size = refl;
+  size = refl;
+  kept = λ r. refl;
+  safe = subst (λ (n : ℕ). Safe R n regs w) (sym (add-zero p)) s;
+  numbers = λ k h. absurd (not-suc-le-zero h);
+  others = λ q h. refl;
+  state = λ G past e s. s;
+}
+
+module _ {recs ops regs w regs₁ w₁ regs₂ w₂ xs ys : List ℕ} {p q R : ℕ} (a : Ran recs ops regs w regs₁ w₁ p R xs) (eq : q ≡ p + length xs) (b : Ran recs ops regs₁ w₁ regs₂ w₂ q R ys) where
+  number : (k : ℕ) → k < length (xs ++ ys) → (k < length xs) ⊎ (length xs ≤ k) → cell w₂ (p + k) 0 ≡ getD (xs ++ ys) k 0
+  number k h (inl l) = b .others (p + k) (omega (arith, eq)) ∙ a .numbers k l ∙ sym (List·getD-append xs ys 0 k l)
+  number k h (inr l) =
+      let j : k - length xs < length ys = omega (arith, length-append xs ys, h) in
+      let n : p + k ≡ q + (k - length xs) = omega (arith, eq) in
+      let m : length xs + (k - length xs) ≡ k = omega arith in
+      ap (λ (x : ℕ). cell w₂ x 0) n ∙ b .numbers (k - length xs) j ∙ sym (getD-append-add xs ys (k - length xs) 0) ∙ ap (λ (x : ℕ). getD (xs ++ ys) x 0) m
+
+  pub ran-append : Ran recs ops regs w regs₂ w₂ p R (xs ++ ys)
+  ran-append = record {
+    regs-size = b .regs-size ∙ a .regs-size;
+    size = b .size ∙ a .size;
+    kept = λ r. b .kept r ∙ a .kept r;
+    safe = let n : q + length ys ≡ p + length (xs ++ ys) = omega (arith, eq, length-append xs ys) in subst (λ (k : ℕ). Safe R k regs₂ w₂) n (b .safe);
+    numbers = λ k h. number k h (lt? k (length xs));
+    others = λ k h. b .others k (omega (arith, eq)) ∙ a .others k h;
+    state = λ G past e s.
+        subst (λ (l : List Fact). State G l R regs₂ w₂) (sym (ap (analyse G ops past) (map-append (inst recs) xs ys) ∙ run-append G ops past (map (inst recs) xs) (map (inst recs) ys)))
+        (b .state G (analyse G ops past (map (inst recs) xs)) (length-run G ops past (map (inst recs) xs) ∙ ap (λ (n : ℕ). n + length (map (inst recs) xs)) e ∙ ap (λ (n : ℕ). p + n) (length-map (inst recs) xs) ∙ sym eq) (a .state G past e s));
+  }
+
+-- ---- along a part
+
+pub record Along (recs ops : List ℕ) (from past p R : ℕ) (regs₀ w₀ regs w : List ℕ) (g q : ℕ) : Type 0 where
+  pub low : from ≤ g
+  pub high : g ≤ past
+  pub at : q + from ≡ p + g
+  pub ran : Ran recs ops regs₀ w₀ regs w p R (Part from g)
+
+pub along-none : {t recs ops regs w : List ℕ} {from past p R : ℕ} → RanPart t recs ops regs w from past p R → Along recs ops from past p R regs w regs w from p
+along-none {t} {recs} {ops} {regs} {w} {from} {past} {p} {R} r =
+    let z : from - from ≡ 0 = omega arith in
+    record { low = omega arith; high = r .order; at = refl; ran = subst (λ (n : ℕ). Ran recs ops regs w regs w p R (range from n)) (sym z) (ran-none recs ops (r .safe)) }
+
+module _ {recs ops : List ℕ} {from past p R : ℕ} {regs₀ w₀ regs w : List ℕ} {g q : ℕ} (a : Along recs ops from past p R regs₀ w₀ regs w g q) where
+  here : q ≡ p + length (Part from g)
+  here = let l = length-range from (g - from) in omega (arith, l, a .at, a .low)
+
+  pub along-more : {regs′ w′ : List ℕ} → g < past → Ran recs ops regs w regs′ w′ q R (Part g (g + 1)) → Along recs ops from past p R regs₀ w₀ regs′ w′ (g + 1) (q + 1)
+  along-more {regs′} {w′} h b =
+      let s : from + (g - from) ≡ g = omega (arith, a .low) in
+      let m : (g - from) + (g + 1 - g) ≡ g + 1 - from = omega (arith, a .low) in
+      let e : Part from g ++ Part g (g + 1) ≡ Part from (g + 1) = ap (λ (x : ℕ). Part from g ++ range x (g + 1 - g)) (sym s) ∙ range-append from (g - from) (g + 1 - g) ∙ ap (range from) m in
+      record { low = omega (arith, a .low); high = omega arith; at = omega (arith, a .at); ran = subst (λ (l : List ℕ). Ran recs ops regs₀ w₀ regs′ w′ p R l) e (ran-append (a .ran) here b) }
+
+  pub along-ready : {t : List ℕ} → RanPart t recs ops regs₀ w₀ from past p R → g < past → Safe R q regs w × Good recs ops R g × (q * 10 + 10 ≤ length w) × (q + 1 < 1000)
+  along-ready r h =
+      (subst (λ (n : ℕ). Safe R n regs w) (sym here) (a .ran .safe), r .good g h, omega (arith, a .at, a .low, h, r .short, r .room, a .ran .size), omega (arith, a .at, a .low, h, r .short))
+
+  pub along-end : past ≤ g → (q + from ≡ p + past) × Ran recs ops regs₀ w₀ regs w p R (Part from past)
+  along-end h = let e : g ≡ past = omega (arith, a .high) in (a .at ∙ ap (λ (n : ℕ). p + n) e, subst (λ (n : ℕ). Ran recs ops regs₀ w₀ regs w p R (Part from n)) e (a .ran))

@@ -1,0 +1,89 @@
+-- The writes of a record, slot by slot, over a word a register. Assumes nothing.
+use mathlib.Core.Bool.{Bool, true, false, cond}
+use mathlib.Core.List.{List, _++_}
+use mathlib.Core.Logic.{⊎-elim}
+use mathlib.Core.Path.{_≡_, refl, sym, ap, _∙_}
+use Prim.Native.Nat.{ℕ, _+_, _≤_, _<_}
+use native.Mathlib.Decide.{ℕ-discrete}
+use native.Mathlib.Omega.{arith}
+use borrow.Author.Tests.{eqb-true, eqb-false}
+use lib.Dec.{eqb}
+use lib.ListN.{getD, length, set, length-set}
+use lib.Seq.{getD-set-same, getD-set-other}
+use Rattle.words.specs.Lists.{mem}
+use Rattle.model.specs.Picture.{inst, absent, writes}
+use Rattle.inst.specs.Record.{Within, write-at, present, rest-writes}
+use Rattle.inst.proofs.Rest.{writes-next, writes-end, writes-all}
+use Rattle.inst.proofs.Looked.{mem-hit, mem-miss}
+use Rattle.analyse.specs.Written.{Fits, put-in, settle, Written}
+
+none-there : (r : ℕ) (ys : List ℕ) → mem r (present absent ++ ys) ≡ mem r ys
+unfolding present
+none-there r ys = refl
+
+pub put-size : (f : ℕ → ℕ) (w : ℕ) (xs : List ℕ) → length (put-in f w xs) ≡ length xs
+unfolding put-in
+put-size f w xs = go (eqb w absent)
+  where
+    go : (b : Bool) → length (cond b xs (set xs w (f (getD xs w 0)))) ≡ length xs
+    go true = refl
+    go false = length-set xs w (f (getD xs w 0))
+
+pub settle-yes : (f : ℕ → ℕ) (v : ℕ) {b : Bool} → b ≡ true → settle f b v ≡ f v
+unfolding settle
+settle-yes f v e = ap (λ (b : Bool). cond b (f v) v) e
+
+-- slots s, s + 1, .. are left
+pub record Writing (f : ℕ → ℕ) (recs : List ℕ) (g s : ℕ) (before now : List ℕ) : Type 0 where
+  pub upto : s ≤ 5
+  pub size : length now ≡ length before
+  pub each : (r : ℕ) → r < length before → settle f (mem r (rest-writes (inst recs g) s)) (getD now r 0) ≡ settle f (mem r (writes (inst recs g))) (getD before r 0)
+
+pub writing-none : (f : ℕ → ℕ) (recs : List ℕ) (g : ℕ) (xs : List ℕ) → Writing f recs g 0 xs xs
+writing-none f recs g xs = record { upto = omega arith; size = refl; each = λ r h. ap (λ (l : List ℕ). settle f (mem r l) (getD xs r 0)) (writes-all (inst recs g)) }
+
+-- a second write of the same leaves it as it is
+module _ (f : ℕ → ℕ) (twice : (v : ℕ) → f (f v) ≡ f v) where
+  settle-twice : (v : ℕ) (b : Bool) → settle f b (f v) ≡ f v
+  unfolding settle
+  settle-twice v true = twice v
+  settle-twice v false = refl
+
+  module _ (recs : List ℕ) (g s : ℕ) (xs ys : List ℕ) (lt : s < 5) {R : ℕ} (fits : Fits recs R g) (n : Writing f recs g s xs ys) (w : ℕ) (ew : w ≡ write-at (inst recs g) s) where
+    left : List ℕ
+    left = rest-writes (inst recs g) (s + 1)
+
+    split : rest-writes (inst recs g) s ≡ present w ++ left
+    unfolding left
+    split = writes-next recs g (fits .whole .within) s lt ew
+
+    low : (r : ℕ) → (w ≡ absent → ⊥) → w ≡ r → r < absent
+    low r e q = ⊎-elim (λ (z : write-at (inst recs g) s ≡ absent). absurd (e (ew ∙ z))) (λ (z : write-at (inst recs g) s < R). omega (arith, fits .room, sym ew, q)) (fits .slot s lt)
+
+    at : (r : ℕ) → r < length xs → (b : Bool) → eqb w absent ≡ b → Dec (w ≡ r) → settle f (mem r left) (getD (cond b ys (set ys w (f (getD ys w 0)))) r 0) ≡ settle f (mem r (rest-writes (inst recs g) s)) (getD ys r 0)
+    at r h true e d =
+        sym (ap (λ (l : List ℕ). settle f (mem r l) (getD ys r 0)) split
+        ∙ ap (λ (l : Bool). settle f l (getD ys r 0)) (ap (λ (x : ℕ). mem r (present x ++ left)) (eqb-true w absent e) ∙ none-there r left))
+    at r h false e (no k) =
+        ap (λ (x : ℕ). settle f (mem r left) x) (getD-set-other ys w r (f (getD ys w 0)) 0 (λ q. k (sym q)))
+        ∙ sym (ap (λ (l : List ℕ). settle f (mem r l) (getD ys r 0)) split ∙ ap (λ (l : Bool). settle f l (getD ys r 0)) (mem-miss r left k))
+    at r h false e (yes q) =
+        ap (λ (x : ℕ). settle f (mem r left) (getD (set ys x (f (getD ys x 0))) r 0)) q
+        ∙ ap (λ (x : ℕ). settle f (mem r left) x) (getD-set-same ys r (f (getD ys r 0)) 0 (rw (n .size) h))
+        ∙ settle-twice (getD ys r 0) (mem r left)
+        ∙ sym (settle-yes f (getD ys r 0) (ap (mem r) split ∙ mem-hit r left q (low r (eqb-false w absent e) q)))
+
+    pub writing-more : {zs : List ℕ} → zs ≡ put-in f w ys → Writing f recs g (s + 1) xs zs
+    unfolding put-in left
+    writing-more {zs} e = record {
+      upto = omega arith;
+      size = ap length e ∙ put-size f w ys ∙ n .size;
+      each = λ r h. ap (λ (l : List ℕ). settle f (mem r left) (getD l r 0)) e ∙ at r h (eqb w absent) refl (ℕ-discrete w r) ∙ n .each r h;
+    }
+
+pub writing-end : {f : ℕ → ℕ} {recs : List ℕ} {g s : ℕ} {xs ys : List ℕ} → Within recs g → Writing f recs g s xs ys → 5 ≤ s → Written f (inst recs g) xs ys
+unfolding settle
+writing-end {f} {recs} {g} {s} {xs} {ys} w n h = record {
+  size = n .size;
+  each = λ r k. sym (ap (λ (l : List ℕ). settle f (mem r l) (getD ys r 0)) (writes-end recs g w s h)) ∙ n .each r k;
+}

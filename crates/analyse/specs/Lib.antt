@@ -1,0 +1,4 @@
+pub mod Written
+pub mod Flags
+pub mod State
+pub mod Step

@@ -1,0 +1,108 @@
+-- What the words stand for at a position of a chain: the facts of before round 1, the last writers, and the facts of the
+-- positions so far. Assumes nothing.
+use mathlib.Core.Path.{_≡_}
+use mathlib.Core.Logic.{_⊎_}
+use mathlib.Core.Bool.{Bool, false, cond}
+use mathlib.Core.List.{List}
+use mathlib.Core.Option.{Option, none, some}
+use Prim.Native.Nat.{ℕ, zero, suc, _+_, _*_, _/_, _≤_, _<_}
+use lib.Dec.{eqb}
+use lib.ListN.{getD, length}
+use Rattle.model.specs.Picture.{Inst, inst, absent, reads}
+use Rattle.model.specs.Analyse.{Facts, Fact, Org, Unknown, no-fact, last-writer, org-of, len-of, is-layout, when-some, known-of, positive, small, whole, sized}
+use Rattle.inst.specs.Record as I
+use Rattle.inst.specs.Record.{Listed}
+use Rattle.effects.specs.Origin.{org-at, class-at, wrote-at, from-at}
+use Rattle.effects.specs.declared.arms.Input.{Input}
+use Rattle.effects.specs.declared.arms.Effect.{Effect}
+use Rattle.analyse.specs.Flags.{num, Seen}
+
+-- ---- words
+
+-- a position and 1, or 0 for none
+unfoldable pub opt-at : ℕ → Option ℕ
+opt-at zero = none
+opt-at (suc d) = some d
+
+-- word j of position p
+unfoldable pub cell : List ℕ → ℕ → ℕ → ℕ
+cell w p j = getD w (p * 10 + j) 0
+
+-- length 1, layout 2, creates 4, barrier 8, suspends 16
+unfoldable pub pack : Bool → Bool → Bool → Bool → Bool → ℕ
+pack l y m b s = num l + 2 * num y + 4 * num m + 8 * num b + 16 * num s
+
+-- the words of position p stand for the fact f
+pub record Words (w : List ℕ) (p : ℕ) (f : Fact) : Type 0 where
+  pub class : class-at (cell w p 1) ≡ f .does .class
+  pub org : org-at (cell w p 2) ≡ f .does .org
+  pub flags : cell w p 3 ≡ pack (f .does .len) (f .does .layout) (f .does .creates) (f .does .barrier) (f .suspends)
+  pub wrote : wrote-at (cell w p 4) ≡ f .does .wrote
+  pub from : from-at (cell w p 5) (f .does .from) ≡ f .does .from
+  pub written : cell w p 6 ≡ getD (f .defs) 0 absent
+
+-- the words of the first R registers and of the positions so far stand for the facts G and for those of the past
+pub record State (G : Facts) (past : List Fact) (R : ℕ) (regs w : List ℕ) : Type 0 where
+  pub seen : Seen G R regs
+  pub writer : (r : ℕ) → r < R → opt-at (getD regs r 0 / 16) ≡ last-writer 0 past r
+  pub each : (p : ℕ) → p < length past → Words w p (getD past p no-fact)
+
+-- the sizes that the code needs, and no word points past the n positions so far
+pub record Safe (R n : ℕ) (regs w : List ℕ) : Type 0 where
+  pub in-use : R ≤ length regs
+  pub lent : length regs ≤ 65536
+  pub room : n * 10 ≤ length w
+  pub few : n < 1000
+  pub within : (r : ℕ) → r < R → getD regs r 0 / 16 ≤ n
+  pub near : (p : ℕ) → p < n → cell w p 2 < 10000
+
+-- ---- a register that is read
+
+-- a register, or none
+abbrev pub Reg? : ℕ → ℕ → Type 0
+Reg? R r = (r ≡ absent) ⊎ (r < R)
+
+-- where it points, and whether it is a length; of none, what the analysis takes for a place past the end
+unfoldable pub org-reg : Facts → List Fact → ℕ → Org
+org-reg G past r = cond (eqb r absent) Unknown (org-of G past (record { reg = r; writer = last-writer 0 past r }))
+
+unfoldable pub len-reg : Facts → List Fact → ℕ → Bool
+len-reg G past r = cond (eqb r absent) false (len-of G past (record { reg = r; writer = last-writer 0 past r }))
+
+-- ---- an instruction
+
+-- record g is whole, and reads registers below R
+pub record Readable (recs ops : List ℕ) (R g : ℕ) : Type 0 where
+  pub whole : I.Known recs g
+  pub listed : Listed recs ops g
+  pub each : (k : ℕ) → k < length (reads ops (inst recs g)) → getD (reads ops (inst recs g)) k absent < R
+
+-- x holds what instruction i asks, at the position after the past
+pub record Asked (G : Facts) (past : List Fact) (ops : List ℕ) (i : Inst) (x : Input) : Type 0 where
+  pub form : getD i 1 0 ≡ x .form
+  pub list : getD i 8 0 ≡ x .list
+  pub small : small (whole i) ≡ x .small
+  pub p : x .p ≡ length past
+  pub o0 : org-at (x .o0) ≡ org-reg G past (getD (reads ops i) 0 absent)
+  pub o1 : org-at (x .o1) ≡ org-reg G past (getD (reads ops i) 1 absent)
+  pub o2 : org-at (x .o2) ≡ org-reg G past (getD (reads ops i) 2 absent)
+  pub l0 : x .l0 ≡ len-reg G past (getD (reads ops i) 0 absent)
+  pub l1 : x .l1 ≡ len-reg G past (getD (reads ops i) 1 absent)
+  pub l2 : x .l2 ≡ len-reg G past (getD (reads ops i) 2 absent)
+  pub divisor : x .divisor ≡ when-some positive (known-of G (getD (reads ops i) 1 absent) .konst)
+  pub layout : sized (λ k. x .layout) (org-at (x .o0)) ≡ sized (is-layout past) (org-at (x .o0))
+
+-- what is not named writes memory nobody can place
+unfoldable pub fill-in : Option Org → Bool → Option Org
+fill-in o b = elim o [ some w ↦ some w | none ↦ cond b none (some Unknown) ]
+
+-- the struct e stands for the fact f
+pub record Judged (e : Effect) (f : Fact) : Type 0 where
+  pub class : class-at (e .class) ≡ f .does .class
+  pub org : org-at (e .org) ≡ f .does .org
+  pub len : e .len ≡ f .does .len
+  pub layout : e .layout ≡ f .does .layout
+  pub creates : e .creates ≡ f .does .creates
+  pub barrier : e .barrier ≡ f .does .barrier
+  pub wrote : wrote-at (e .wrote) ≡ f .does .wrote
+  pub from : from-at (e .from) (f .does .from) ≡ f .does .from

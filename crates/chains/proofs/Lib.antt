@@ -1,0 +1,3 @@
+pub mod Struct
+pub mod Search
+pub mod Laid

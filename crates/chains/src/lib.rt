@@ -1,0 +1,3 @@
+// The chain from a block, and its positions (01, "A round").
+pub mod chain; // chain.rt: the chain search
+pub mod places; // places.rt: the positions of a chain, inner Brs dropped

@@ -1,0 +1,72 @@
+// Origins as numbers (01, "The legal set", rules 5 and 6): 0 Unknown, 1 Ro, 2 Heap, 3 Frame, 4 + 2 k Temp k, 5 + 2 k Img k,
+// so that equal origins are equal numbers.
+ghost use mathlib.Core.Path.{_≡_};
+ghost use mathlib.Core.Bool.{cond, _||_};
+ghost use Prim.Native.Nat.{_<_};
+ghost use lib.Dec.{eqb};
+ghost use Rattle.model.specs.Analyse.{Unknown, Ro, Frame, alias, same-org, inside, sized};
+ghost use Rattle.model.specs.Legal.{readable, steady};
+ghost use Rattle.effects.specs.Origin.{org-at};
+
+// May a write to w reach what lies at r?
+pub fn alias(w: u32, r: u32) -> bool
+    ensures { λ b. ⌜ b ≡ alias (org-at w) (org-at r) ⌝ }
+{
+    (w == 0) | (r == 0) | ((3 <= w) & (r == w))
+}
+
+// May what is moved read there: is it Ro, Frame, Temp or Img?
+pub fn is_readable(o: u32) -> bool
+    ensures { λ b. ⌜ b ≡ readable (org-at o) ⌝ }
+{
+    (o == 1) | (3 <= o)
+}
+
+// Does a barrier leave it as it is: is it Ro or Heap?
+pub fn is_steady(o: u32) -> bool
+    ensures { λ b. ⌜ b ≡ steady (org-at o) ⌝ }
+{
+    (o == 1) | (o == 2)
+}
+
+// Where a word read from o points: into o, if that is an image.
+pub fn inside(o: u32) -> u32
+    requires { ⌜ o < 10000 ⌝ }
+    ensures { λ r. ⌜ (org-at r ≡ inside (org-at o)) × (r < 10000) ⌝ }
+{
+    if (4 <= o) & (o % 2 == 1) {
+        return o;
+    }
+    0
+}
+
+// Is a word read from o a length: is o a block, and its maker a layout?
+pub fn is_sized(o: u32, layout: bool) -> bool
+    ensures { λ b. ⌜ b ≡ sized (λ k. layout) (org-at o) ⌝ }
+{
+    (4 <= o) & (o % 2 == 0) & layout
+}
+
+// The origin that two share, or Unknown.
+pub fn agree(a: u32, b: u32) -> u32
+    requires { ⌜ a < 10000 ⌝ }
+    ensures { λ r. ⌜ (org-at r ≡ cond (same-org (org-at a) (org-at b)) (org-at a) Unknown) × (r < 10000) ⌝ }
+{
+    if a == b {
+        return a;
+    }
+    0
+}
+
+// Where an address of this form points.
+pub fn address(form: u32) -> u32
+    ensures { λ r. ⌜ (org-at r ≡ cond (eqb form 2 || eqb form 4) Ro (cond (eqb form 0) Frame Unknown)) × (r < 10000) ⌝ }
+{
+    if (form == 2) | (form == 4) {
+        return 1;
+    }
+    if form == 0 {
+        return 3;
+    }
+    0
+}
