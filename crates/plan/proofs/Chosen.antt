@@ -1,0 +1,65 @@
+-- The marks that are left are the greatest legal set, with as many members. Assumes nothing.
+use mathlib.Core.Path.{_≡_, refl, sym, ap, _∙_, subst}
+use mathlib.Core.Bool.{Bool, true, false, not, _&&_}
+use mathlib.Core.List.{List, [], _∷_}
+use Prim.Native.Nat.{ℕ, zero, suc, _+_, _≤_, _<_}
+use native.Mathlib.Omega.{arith}
+use mathlib.Core.Logic.{_⊎_, ⊎-elim}
+use borrow.Author.Tests.{le-ltb}
+use lib.Dec.{eqb, ltb}
+use lib.ListN.{getD, length}
+use Rattle.words.specs.Lists.{hit, all, member, count}
+use Rattle.words.specs.Bits.{is-in}
+use Rattle.words.proofs.Bools.{lt?}
+use Rattle.model.specs.Analyse.{Fact, Class, movable}
+use Rattle.model.specs.Legal.{fact-at, greatest}
+use Rattle.legalset.specs.Chain.{cell, view, defs-of, writer, class-at, Safe, Stands, Told}
+use Rattle.legalset.specs.Marks.{in-set, members, Settled}
+use Rattle.legalset.specs.Rules.{result-ok, cycle-ok, begins}
+use Rattle.legalset.proofs.Settling.{settled-greatest}
+use Rattle.plan.specs.Passes.{Row, Greatest, Set-up}
+use Rattle.plan.proofs.Backing.{all-on, writes-low}
+
+movable-is : (x : ℕ) → movable (class-at x) ≡ eqb x 1
+unfolding class-at
+movable-is zero = refl
+movable-is (suc zero) = refl
+movable-is (suc (suc x)) = sym (borrow.Author.Tests.ne-eqb (suc (suc x)) 1 (λ e. omega arith))
+
+-- as many marks as members
+none-left : (G : List Bool) → ((p : ℕ) → false ≡ member G p) → 0 ≡ count G
+none-left [] h = refl
+none-left (true ∷ G) h = absurd (mathlib.Core.Bool.true≢false (sym (h 0)))
+none-left (false ∷ G) h = none-left G (λ p. h (suc p))
+
+none-marked : (S : List ℕ) → ((p : ℕ) → in-set S p ≡ false) → members S ≡ 0
+unfolding members in-set
+none-marked [] h = refl
+none-marked (x ∷ S) h = let a = ap hit (h 0) in let b = none-marked S (λ p. h (suc p)) in omega arith
+
+as-many : (S : List ℕ) (G : List Bool) → ((p : ℕ) → in-set S p ≡ member G p) → members S ≡ count G
+unfolding members in-set
+as-many [] G h = none-left G h
+as-many (x ∷ S) [] h = none-marked (x ∷ S) h
+as-many (x ∷ S) (true ∷ G) h = let a = ap hit (h 0) in let b = as-many S G (λ p. h (suc p)) in omega arith
+as-many (x ∷ S) (false ∷ G) h = let a = ap hit (h 0) in let b = as-many S G (λ p. h (suc p)) in omega arith
+
+-- the row in place of the needs
+begins-row : (regs : List ℕ) {recs ops w row : List ℕ} {m n : ℕ} {needed : ℕ → Bool} → Safe recs ops w n (length regs) → m ≤ n → Row row (length regs) needed → (p : ℕ)
+    → begins (view recs ops w regs) n (λ q. eqb (cell w q 1) 1) m (is-in row) p ≡ begins (view recs ops w regs) n (λ q. eqb (cell w q 1) 1) m needed p
+unfolding begins result-ok
+begins-row regs {recs} {ops} {w} {row} {m} {n} {needed} s h k p = ⊎-elim
+    (λ (l : p < m). ap (λ (b : Bool). ltb p m && eqb (cell w p 1) 1 && b)
+    (all-on (λ r. not (is-in row r && eqb (writer (defs-of recs w) r n) (p + 1))) (λ r. not (needed r && eqb (writer (defs-of recs w) r n) (p + 1))) (defs-of recs w p)
+    (λ r i. ap (λ (y : Bool). not (y && eqb (writer (defs-of recs w) r n) (p + 1))) (k .each r (writes-low recs (length regs) (cell w p 0) (s .good p (omega arith) .fits) r i)))))
+    (λ (l : m ≤ p). ap (λ (b : Bool). b && eqb (cell w p 1) 1 && all (λ r. not (is-in row r && eqb (writer (defs-of recs w) r n) (p + 1))) (defs-of recs w p)) (le-ltb p m l)
+    ∙ sym (ap (λ (b : Bool). b && eqb (cell w p 1) 1 && all (λ r. not (needed r && eqb (writer (defs-of recs w) r n) (p + 1))) (defs-of recs w p)) (le-ltb p m l))) (lt? p m)
+
+module _ {recs ops w : List ℕ} (regs row : List ℕ) {m n : ℕ} {S U : List ℕ} (s : Safe recs ops w n (length regs)) (h : m ≤ n)
+    (b : (p : ℕ) → in-set S p ≡ begins (view recs ops w regs) n (λ q. eqb (cell w q 1) 1) m (is-in row) p) (d : Settled (cycle-ok (view recs ops w regs) n) m S U) (e : length S ≡ 800) where
+  chosen-set : (run : List Fact) (needed : ℕ → Bool) → Told recs ops w regs n run → Row row (length regs) needed → (p : ℕ) → in-set U p ≡ member (greatest run needed m) p
+  chosen-set run needed t k =
+      settled-greatest (view recs ops w regs) n run (t .stands) needed (λ q. eqb (cell w q 1) 1) m h (λ p l. ap movable (t .class p l) ∙ movable-is (cell w p 1)) (λ p. b p ∙ begins-row regs s h k p) d
+
+  pub chosen : {r : ℕ} → r ≡ members U → Greatest recs ops w regs row U m n r
+  chosen f = record { size = d .size ∙ e; set = chosen-set; count = λ run needed t k. f ∙ as-many U (greatest run needed m) (chosen-set run needed t k) }

@@ -1,0 +1,215 @@
+-- The forward pass: what its words test is rules 3 to 6, and one position after the other. Assumes nothing.
+use mathlib.Core.Path.{_≡_, refl, sym, ap, ap₂, _∙_, subst}
+use mathlib.Core.Logic.{_⊎_, inl, inr, ⊎-elim}
+use mathlib.Core.Bool.{Bool, true, false, not, _&&_, _||_, cond}
+use mathlib.Core.List.{List, [], _∷_, map}
+use Prim.Native.Nat.{ℕ, zero, suc, _+_, _*_, _-_, _/_, _%_, _≤_, _<_}
+use native.Mathlib.Numerals.{add-one}
+use native.Mathlib.Omega.{arith}
+use lib.Dec.{eqb}
+use lib.ListN.{getD, length, set}
+use Rattle.words.specs.Lists.{In, all, mem, conj, hit}
+use Rattle.words.specs.Last.{last-below}
+use Rattle.words.proofs.Members.{in-map, map-on, in-index}
+use Rattle.model.specs.Picture.{Inst, inst, absent, reads, writes, list-of}
+use Rattle.legalset.specs.Chain.{View, view, cell, flag, defs-of, writer, reg-org, picked, origins, Good, Safe}
+use Rattle.legalset.specs.Marks.{in-set, members, sifted, lost, own, Passed}
+use Rattle.legalset.specs.Rules.{last-kept, read-fine, org-fine, memory-fine, reads-ok, origins-ok, effects-ok, forward-ok}
+use Rattle.legalset.proofs.Lasting.{kept-low, writer-low, last-step}
+use Rattle.legalset.proofs.Dropping.{passed-none, passed-up}
+use Rattle.legalset.proofs.Easier.{forward-mono}
+use Rattle.plan.specs.Passes.{stamp, Stamped, Beside, Stamps, Writes, read-test, org-test, from-test, stay-test, Near, Forwarded, Summed}
+use Rattle.plan.proofs.Places.{Placed, reads-placed, read-low}
+
+all-on : {A : Type 0} (f g : A → Bool) (xs : List A) → ((a : A) → In a xs → f a ≡ g a) → all f xs ≡ all g xs
+all-on f g [] h = refl
+all-on f g (x ∷ xs) h = ap₂ (λ (a b : Bool). a && b) (h x (inl refl)) (all-on f g xs (λ a i. h a (inr i)))
+
+in-picked : (sc : ℕ) (xs : List ℕ) (r : ℕ) → In r (picked sc xs) → In r xs
+unfolding picked
+in-picked sc [] r i = i
+in-picked sc (a ∷ []) r i = absurd i
+in-picked sc (a ∷ b ∷ xs) r i = go (eqb (sc % 2) 0) (in-picked (sc / 2) xs r) i
+  where
+    go : (c : Bool) → (In r (picked (sc / 2) xs) → In r xs) → In r (cond c (a ∷ picked (sc / 2) xs) (picked (sc / 2) xs)) → In r (a ∷ b ∷ xs)
+    go true k (inl e) = inl e
+    go true k (inr j) = inr (inr (k j))
+    go false k j = inr (inr (k j))
+
+-- what a record reads are registers
+pub reads-low : (recs ops : List ℕ) (R g : ℕ) → Good recs ops R g → (r : ℕ) → In r (reads ops (inst recs g)) → r < R
+reads-low recs ops R g h r i =
+    let a = reads-placed recs ops R g h in
+    let z = a .to r i in
+    ⊎-elim (λ e. absurd (a .real r i (sym (z .2) ∙ e))) (λ l. subst (λ (x : ℕ). x < R) (z .2) l) (read-low recs ops R g h (z .0) (z .1))
+
+list-in-low : (recs ops : List ℕ) (R g : ℕ) → Good recs ops R g → (r : ℕ) → In r (list-of ops (inst recs g)) → r < R
+list-in-low recs ops R g h r i = let z = in-index absent r (list-of ops (inst recs g)) i in subst (λ (x : ℕ). x < R) (z .2) (h .list (z .0) (z .1))
+
+module _ (w regs ops : List ℕ) (i : Inst) where
+  origins-ext : (d e : ℕ → ℕ) → ((r : ℕ) → In r (list-of ops i) → d r ≡ e r) → (x : ℕ) → origins w regs ops i d x ≡ origins w regs ops i e x
+  unfolding origins
+  origins-ext d e h zero = refl
+  origins-ext d e h (suc o) =
+      ap (λ (l : List ℕ). cond (eqb (suc o) 4294967295) l (o ∷ []))
+      (map-on (λ r. reg-org w regs r (d r)) (λ r. reg-org w regs r (e r)) (picked (getD i 9 0) (list-of ops i)) (λ r j. ap (reg-org w regs r) (h r (in-picked (getD i 9 0) (list-of ops i) r j))))
+
+  reg-low : (n : ℕ) → ((p : ℕ) → p < n → cell w p 2 < 10000) → (r d : ℕ) → d ≤ n → reg-org w regs r d < 10001
+  unfolding reg-org
+  reg-low n h r zero l = go (eqb (getD regs r 0 % 2) 1) (eqb (getD regs r 0 / 2 % 2) 1)
+    where
+      go : (a b : Bool) → cond a 1 (cond b 3 0) < 10001
+      go true b = omega arith
+      go false true = omega arith
+      go false false = omega arith
+  reg-low n h r (suc d) l = let z = h d (omega arith) in omega arith
+
+  origins-low : (n : ℕ) → ((p : ℕ) → p < n → cell w p 2 < 10000) → (d : ℕ → ℕ) → ((r : ℕ) → d r ≤ n) → (x : ℕ) → (x ≤ 10000) ⊎ (x ≡ 4294967295) → (o : ℕ) → In o (origins w regs ops i d x) → o < 10001
+  unfolding origins
+  origins-low n h d l zero b o j = absurd j
+  origins-low n h d l (suc x) b o j = go (eqb (suc x) 4294967295) refl j
+    where
+      go : (c : Bool) → eqb (suc x) 4294967295 ≡ c → In o (cond c (map (λ r. reg-org w regs r (d r)) (picked (getD i 9 0) (list-of ops i))) (x ∷ [])) → o < 10001
+      go true e j = let z = in-map (λ r. reg-org w regs r (d r)) o (picked (getD i 9 0) (list-of ops i)) j in let y = z .2 in let u = reg-low n h (z .0) (d (z .0)) (l (z .0)) in omega arith
+      go false e (inl q) = ⊎-elim (λ u. omega arith) (λ u. absurd (borrow.Author.Tests.eqb-false (suc x) 4294967295 e u)) b
+      go false e (inr j) = absurd j
+
+module _ (regs marks : List ℕ) {recs ops w : List ℕ} {n R p : ℕ} (s : Safe recs ops w n R) (h : p < n) {L₀ : ℕ → Bool} {st lasts : List ℕ} {sus bar : ℕ} (size : length st ≡ R)
+    (x : Stamps (defs-of recs w) L₀ n p st) (y : Writes (λ q. cell w q 4) L₀ n lasts) (eb : bar ≡ last-kept L₀ (flag w 8) n) (es : sus ≡ last-kept L₀ (flag w 16) n) where
+  writer-at : (r : ℕ) → r < R → getD st r 0 / 1024 ≡ writer (defs-of recs w) r p
+  writer-at r l =
+      let e = x .each r (subst (λ (m : ℕ). r < m) (sym size) l) in
+      let k = kept-low L₀ (λ q. mem r (defs-of recs w q)) n in
+      let f = s .few in
+      omega arith
+
+  kept-at : (r : ℕ) → r < R → getD st r 0 % 1024 ≡ last-kept L₀ (λ q. mem r (defs-of recs w q)) n
+  kept-at r l =
+      let e = x .each r (subst (λ (m : ℕ). r < m) (sym size) l) in
+      let k = kept-low L₀ (λ q. mem r (defs-of recs w q)) n in
+      let f = s .few in
+      omega arith
+
+  reads-are : all (read-test st marks p) (reads ops (inst recs (cell w p 0))) ≡ reads-ok (view recs ops w regs) n L₀ (in-set marks) p
+  unfolding read-test reads-ok
+  reads-are = all-on (read-test st marks p) (λ r. read-fine (in-set marks) p (writer (defs-of recs w) r p) (last-kept L₀ (λ q. mem r (defs-of recs w q)) n)) (reads ops (inst recs (cell w p 0)))
+      (λ r i. let l = reads-low recs ops R (cell w p 0) (s .good p h) r i in ap₂ (read-fine (in-set marks) p) (writer-at r l) (kept-at r l))
+
+  froms-are : from-test w regs ops (inst recs (cell w p 0)) st lasts bar p ≡ origins-ok (view recs ops w regs) n L₀ p
+  unfolding from-test org-test origins-ok
+  froms-are =
+      ap (all (org-test lasts bar p)) (origins-ext w regs ops (inst recs (cell w p 0)) (λ r. getD st r 0 / 1024) (λ r. writer (defs-of recs w) r p)
+      (λ r i. writer-at r (list-in-low recs ops R (cell w p 0) (s .good p h) r i)) (cell w p 5))
+      ∙ all-on (org-test lasts bar p) (λ o. org-fine p (last-kept L₀ (flag w 8) n) (last-kept L₀ (λ q. eqb (cell w q 4) 1) n) (last-kept L₀ (λ q. eqb (cell w q 4) (o + 1)) n) o)
+      (origins w regs ops (inst recs (cell w p 0)) (λ r. writer (defs-of recs w) r p) (cell w p 5)) one
+    where
+      one : (o : ℕ) → In o (origins w regs ops (inst recs (cell w p 0)) (λ r. writer (defs-of recs w) r p) (cell w p 5))
+          → org-test lasts bar p o ≡ org-fine p (last-kept L₀ (flag w 8) n) (last-kept L₀ (λ q. eqb (cell w q 4) 1) n) (last-kept L₀ (λ q. eqb (cell w q 4) (o + 1)) n) o
+      one o i =
+          let l = origins-low w regs ops (inst recs (cell w p 0)) n (s .org) (λ r. writer (defs-of recs w) r p) (λ r. let z = writer-low (defs-of recs w) r p in omega arith) (cell w p 5) (s .from p h) o i in
+          ap (λ (z : ℕ). org-fine p z (getD lasts 1 0) (getD lasts (o + 1) 0) o) eb
+          ∙ ap₂ (λ (a b : ℕ). org-fine p (last-kept L₀ (flag w 8) n) a b o) (y .each 1 (omega arith) (omega arith)) (y .each (o + 1) (omega arith) (omega arith))
+
+  pub stay-is : stay-test recs ops w regs st lasts marks (cell w p 0) sus bar p ≡ forward-ok (view recs ops w regs) n L₀ (in-set marks) p
+  unfolding stay-test forward-ok effects-ok
+  stay-is =
+      ap₂ (λ (a b : Bool). conj (a ∷ b ∷ memory-fine (in-set marks) p sus bar (flag w 4 p) (cell w p 4) ∷ [])) reads-are froms-are
+      ∙ ap₂ (λ (a b : ℕ). conj (reads-ok (view recs ops w regs) n L₀ (in-set marks) p ∷ origins-ok (view recs ops w regs) n L₀ p ∷ memory-fine (in-set marks) p a b (flag w 4 p) (cell w p 4) ∷ [])) es eb
+
+  pub near-is : Near w st n
+  near-is = record {
+    room = s .room;
+    writer = λ r l. let e = writer-at r (subst (λ (m : ℕ). r < m) size l) in let z = writer-low (defs-of recs w) r p in omega arith;
+    org = s .org;
+  }
+
+-- the next position's writers
+stamps-more : {defs : ℕ → List ℕ} {L : ℕ → Bool} {n p : ℕ} {st st′ : List ℕ} → n ≤ 800 → Stamps defs L n p st → Stamped (defs p) 1024 (1024 * (p + 1)) st st′ → Stamps defs L n (p + 1) st′
+unfolding stamp writer
+stamps-more {defs} {L} {n} {p} {st} {st′} few i k = record { each = λ r h. one r (subst (λ (m : ℕ). r < m) (k .size) h) }
+  where
+    go : (r : ℕ) (b : Bool) → getD st r 0 ≡ last-kept L (λ q. mem r (defs q)) n + 1024 * last-below (λ q. mem r (defs q)) p → last-kept L (λ q. mem r (defs q)) n ≤ n
+        → cond b (getD st r 0 % 1024 + 1024 * (p + 1)) (getD st r 0) ≡ last-kept L (λ q. mem r (defs q)) n + 1024 * cond b (suc p) (last-below (λ q. mem r (defs q)) p)
+    go r true e l = omega arith
+    go r false e l = e
+
+    one : (r : ℕ) → r < length st → getD st′ r 0 ≡ last-kept L (λ q. mem r (defs q)) n + 1024 * last-below (λ q. mem r (defs q)) (p + 1)
+    one r h =
+        k .each r h ∙ go r (mem r (defs p)) (i .each r h) (kept-low L (λ q. mem r (defs q)) n)
+        ∙ ap (λ (z : ℕ). last-kept L (λ q. mem r (defs q)) n + 1024 * z) (sym (ap (last-below (λ q. mem r (defs q))) (add-one p) ∙ last-step (λ q. mem r (defs q)) p))
+
+pub two-stamps : (v : ℕ) → v < 800 → Beside 1024 (1024 * (v + 1))
+two-stamps v h = record { some = omega arith; small = omega arith; twice = λ x. omega arith }
+
+-- the first p positions are done
+pub record Going (recs ops w regs : List ℕ) (n p : ℕ) (st₀ marks₀ st marks : List ℕ) (r : ℕ) : Type 0 where
+  pub size : length st ≡ length st₀
+  pub stamps : Stamps (defs-of recs w) (in-set marks₀) n p st
+  pub passed : Passed (own (forward-ok (view recs ops w regs) n)) 0 p marks₀ marks r
+
+pub going-none : {recs ops w regs : List ℕ} {n : ℕ} {st lasts marks : List ℕ} {sus bar : ℕ} → Summed recs ops w regs n st lasts marks sus bar → Going recs ops w regs n 0 st marks st marks 0
+going-none {recs} {ops} {w} {regs} {n} {st} {lasts} {marks} s = record { size = refl; stamps = s .stamps; passed = passed-none (forward-ok (view recs ops w regs) n) 0 marks }
+
+pub going-more : {recs ops w regs : List ℕ} {n p : ℕ} {st₀ marks₀ st marks lasts st′ marks′ : List ℕ} {sus bar r d : ℕ} → Safe recs ops w n (length st₀) → p < n
+    → Summed recs ops w regs n st₀ lasts marks₀ sus bar → Going recs ops w regs n p st₀ marks₀ st marks r → Forwarded recs ops w regs lasts sus bar p st marks st′ marks′ d
+    → Going recs ops w regs n (p + 1) st₀ marks₀ st′ marks′ (r + d)
+going-more {recs} {ops} {w} {regs} {n} {marks = marks} s h z i f = record {
+  size = f .stamped .size ∙ i .size;
+  stamps = stamps-more (s .few) (i .stamps) (f .stamped);
+  passed = passed-up (forward-ok (view recs ops w regs) n) (forward-mono (view recs ops w regs) n) (i .passed) (stay-is regs marks s h (i .size) (i .stamps) (z .writes) (z .barrier) (z .suspension)) (f .sifts) (f .loses);
+}
+
+pub going-near : {recs ops w regs : List ℕ} {n p : ℕ} {st₀ marks₀ st marks lasts : List ℕ} {sus bar r : ℕ} → Safe recs ops w n (length st₀) → p < n
+    → Summed recs ops w regs n st₀ lasts marks₀ sus bar → Going recs ops w regs n p st₀ marks₀ st marks r → Near w st n
+going-near {recs} {ops} {w} {regs} {marks = marks} s h z i = near-is regs marks s h (i .size) (i .stamps) (z .writes) (z .barrier) (z .suspension)
+
+pub going-end : {recs ops w regs : List ℕ} {n p m : ℕ} {st₀ marks₀ st marks : List ℕ} {r : ℕ} → Going recs ops w regs n p st₀ marks₀ st marks r → p ≤ m → m ≤ p
+    → Passed (own (forward-ok (view recs ops w regs) n)) 0 m marks₀ marks r × (length st ≡ length st₀)
+going-end {recs} {ops} {w} {regs} {n} {p} {m} {marks₀ = marks₀} {marks = marks} {r = r} i a b =
+    let e : p ≡ m = omega arith in (subst (λ (k : ℕ). Passed (own (forward-ok (view recs ops w regs) n)) 0 k marks₀ marks r) e (i .passed), i .size)
+
+-- ---- how many are dropped
+
+hit-low : (b : Bool) → hit b ≤ 1
+hit-low true = omega arith
+hit-low false = omega arith
+
+members-low : (S : List ℕ) → members S ≤ length S
+unfolding members
+members-low [] = omega arith
+members-low (a ∷ S) = let x = hit-low (not (eqb a 0)) in let y = members-low S in omega arith
+
+pub passed-low : {ok : (ℕ → Bool) → ℕ → Bool} {a b : ℕ} {S U : List ℕ} {r : ℕ} → Passed ok a b S U r → length S ≡ 800 → r ≤ 800
+passed-low {S = S} i e = let x = i .count in let y = members-low S in omega arith
+
+pub lost-low : (S : List ℕ) (p : ℕ) (ok : Bool) {d : ℕ} → d ≡ lost S p ok → d ≤ 1
+unfolding lost
+lost-low S p ok e = let z = hit-low (in-set S p && not ok) in omega arith
+
+-- a position that is not a member need not be asked
+module _ (S : List ℕ) (p : ℕ) (ok : Bool) {b : Bool} (e : b ≡ (not (in-set S p) || ok)) where
+  skip : (in-set S p && not b) ≡ (in-set S p && not ok)
+  skip = ap (λ (x : Bool). in-set S p && not x) e ∙ go (in-set S p)
+    where
+      go : (a : Bool) → (a && not (not a || ok)) ≡ (a && not ok)
+      go true = refl
+      go false = refl
+
+  pub skip-sift : sifted S p b ≡ sifted S p ok
+  unfolding sifted
+  skip-sift = ap (λ (x : Bool). cond x (set S p 0) S) skip
+
+  pub skip-lost : lost S p b ≡ lost S p ok
+  unfolding lost
+  skip-lost = ap hit skip
+
+pub forwarded : {recs ops w regs lasts st marks st′ marks′ : List ℕ} {sus bar p g x r : ℕ} {b : Bool} → x ≡ cell w p 0 → g ≡ x
+    → b ≡ (not (in-set marks p) || stay-test recs ops w regs st lasts marks g sus bar p) → Stamped (writes (inst recs g)) 1024 (1024 * (p + 1)) st st′
+    → (marks′ ≡ sifted marks p b) × (r ≡ lost marks p b) → Forwarded recs ops w regs lasts sus bar p st marks st′ marks′ r
+forwarded {recs} {ops} {w} {regs} {lasts} {st} {marks} {st′} {marks′} {sus} {bar} {p} {g} {x} {r} {b} e f t k d =
+    let z : b ≡ (not (in-set marks p) || stay-test recs ops w regs st lasts marks (cell w p 0) sus bar p) = t ∙ ap (λ (y : ℕ). not (in-set marks p) || stay-test recs ops w regs st lasts marks y sus bar p) (f ∙ e) in
+    record {
+      stamped = subst (λ (y : ℕ). Stamped (writes (inst recs y)) 1024 (1024 * (p + 1)) st st′) (f ∙ e) k;
+      sifts = d .0 ∙ skip-sift marks p _ z;
+      loses = d .1 ∙ skip-lost marks p _ z;
+    }

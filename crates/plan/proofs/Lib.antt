@@ -1,0 +1,13 @@
+pub mod Places
+pub mod Stamping
+pub mod Marking
+pub mod Reading
+pub mod Summing
+pub mod Testing
+pub mod Forwarding
+pub mod Backing
+pub mod Cycling
+pub mod Starting
+pub mod Chosen
+pub mod Using
+pub mod LastUse

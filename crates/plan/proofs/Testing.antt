@@ -1,0 +1,242 @@
+-- The tests of the forward pass, place by place. Assumes nothing.
+use mathlib.Core.Path.{_≡_, refl, sym, ap, ap₂, _∙_, subst}
+use mathlib.Core.Logic.{_⊎_, inl, inr, ⊎-elim}
+use mathlib.Core.Bool.{Bool, true, false, not, _&&_, _||_, cond}
+use mathlib.Core.List.{List, [], _∷_, map}
+use Prim.Native.Nat.{ℕ, zero, suc, _+_, _*_, _-_, _/_, _%_, _≤_, _<_}
+use native.Mathlib.Numerals.{add-one}
+use native.Mathlib.Omega.{arith}
+use borrow.Author.Tests.{eq-eqb, ne-eqb, le-leb, lt-leb, not-true, not-false}
+use lib.Dec.{eqb, leb}
+use lib.ListN.{getD, length, drop, drop-of-length-le}
+use lib.Seq.{drop-cons}
+use Rattle.words.specs.Lists.{upto, all, conj}
+use Rattle.model.specs.Picture.{Inst, inst, absent, reads, list-of}
+use Rattle.legalset.specs.Chain.{cell, flag, reg-org, picked, origins, Good}
+use Rattle.legalset.specs.Marks.{in-set}
+use Rattle.legalset.specs.Rules.{when-in, own-memory, read-fine, org-fine, memory-fine}
+use Rattle.plan.specs.Passes.{read-place, read-test, place-test, org-test, piece-test, from-test, stay-test, Near}
+use Rattle.inst.proofs.Lists.{getD-any}
+use Rattle.plan.proofs.Places.{Placed, all-placed, reads-placed}
+
+-- ---- rule 3
+
+pub when-no : (L : ℕ → Bool) (d : ℕ) → d ≡ 0 → false ≡ when-in L d
+unfolding when-in
+when-no L d e = sym (ap (when-in L) e)
+
+pub when-yes : (L : ℕ → Bool) (d : ℕ) {b : Bool} → (d ≡ 0 → ⊥) → b ≡ L (d - 1) → b ≡ when-in L d
+unfolding when-in
+when-yes L zero n e = absurd (n refl)
+when-yes L (suc d) n e = let z : suc d - 1 ≡ d = omega arith in e ∙ ap L z
+
+module _ (st marks : List ℕ) (p r : ℕ) where
+  pub place-absent : r ≡ absent → true ≡ place-test st marks p r
+  unfolding place-test
+  place-absent e = sym (ap (λ (b : Bool). b || read-test st marks p r) (eq-eqb r absent e))
+
+  pub place-there : {k : ℕ} {b : Bool} → (r ≡ absent → ⊥) → k ≡ r → b ≡ when-in (in-set marks) (getD st k 0 / 1024) → (b || leb (getD st k 0 % 1024) (p + 1)) ≡ place-test st marks p r
+  unfolding place-test read-test read-fine
+  place-there {k} {b} n e f =
+      ap (λ (x : Bool). x || leb (getD st k 0 % 1024) (p + 1)) f
+      ∙ ap (λ (j : ℕ). when-in (in-set marks) (getD st j 0 / 1024) || leb (getD st j 0 % 1024) (p + 1)) e
+      ∙ sym (ap (λ (x : Bool). x || (when-in (in-set marks) (getD st r 0 / 1024) || leb (getD st r 0 % 1024) (p + 1))) (ne-eqb r absent n))
+
+pub reads-all : {recs ops : List ℕ} {R g n : ℕ} (st marks : List ℕ) (p : ℕ) → Good recs ops R g → n ≡ 5 + length (list-of ops (inst recs g))
+    → all (λ k. place-test st marks p (read-place ops (inst recs g) k)) (upto n) ≡ all (read-test st marks p) (reads ops (inst recs g))
+unfolding place-test
+reads-all {recs} {ops} {R} {g} {n} st marks p h e =
+    ap (λ (m : ℕ). all (λ k. eqb (read-place ops (inst recs g) k) absent || read-test st marks p (read-place ops (inst recs g) k)) (upto m)) e
+    ∙ sym (all-placed (reads-placed recs ops R g h) (read-test st marks p))
+
+-- ---- rule 5
+
+and4 : (a b c d : Bool) → (((a && b) && c) && d) ≡ conj (a ∷ b ∷ c ∷ d ∷ [])
+and4 true true true true = refl
+and4 true true true false = refl
+and4 true true false d = refl
+and4 true false c d = refl
+and4 false b c d = refl
+
+pub org-is : (lasts : List ℕ) (bar p o : ℕ) {k : ℕ} → k ≡ o
+    → ((((eqb o 1 || leb 3 o) && (leb bar (p + 1) || eqb o 1)) && leb (getD lasts 1 0) (p + 1)) && (leb o 2 || leb (getD lasts (k + 1) 0) (p + 1))) ≡ org-test lasts bar p o
+unfolding org-test org-fine
+org-is lasts bar p o {k} e =
+    ap (λ (j : ℕ). (((eqb o 1 || leb 3 o) && (leb bar (p + 1) || eqb o 1)) && leb (getD lasts 1 0) (p + 1)) && (leb o 2 || leb (getD lasts (j + 1) 0) (p + 1))) e
+    ∙ and4 (eqb o 1 || leb 3 o) (leb bar (p + 1) || eqb o 1) (leb (getD lasts 1 0) (p + 1)) (leb o 2 || leb (getD lasts (o + 1) 0) (p + 1))
+
+module _ (regs : List ℕ) {w st : List ℕ} {n r k : ℕ} (h : Near w st n) (l : r < length st) (e : k ≡ r) where
+  pub near-room : (getD st k 0 / 1024 ≡ 0 → ⊥) → 10 * (getD st k 0 / 1024 - 1) + 10 ≤ length w
+  near-room z = let a = h .room in let b = h .writer k (subst (λ (x : ℕ). x < length st) (sym e) l) in omega arith
+
+  pub reg-yes : {x : ℕ} → (getD st k 0 / 1024 ≡ 0 → ⊥) → x ≡ cell w (getD st k 0 / 1024 - 1) 2 → (x ≡ reg-org w regs r (getD st r 0 / 1024)) × (x < 10001)
+  unfolding reg-org
+  reg-yes {x} z f =
+      let b = h .writer k (subst (λ (x : ℕ). x < length st) (sym e) l) in
+      (f ∙ is (getD st k 0 / 1024) z ∙ ap (λ (j : ℕ). reg-org w regs r (getD st j 0 / 1024)) e, let o = h .org (getD st k 0 / 1024 - 1) (omega arith) in omega arith)
+    where
+      is : (d : ℕ) → (d ≡ 0 → ⊥) → cell w (d - 1) 2 ≡ reg-org w regs r d
+      is zero z = absurd (z refl)
+      is (suc d) z = let y : suc d - 1 ≡ d = omega arith in ap (λ (j : ℕ). cell w j 2) y
+
+  none-is : getD st k 0 / 1024 ≡ 0 → reg-org w regs r (getD st r 0 / 1024) ≡ cond (eqb (getD regs k 0 % 2) 1) 1 (cond (eqb (getD regs k 0 / 2 % 2) 1) 3 0)
+  unfolding reg-org
+  none-is z = ap (reg-org w regs r) (ap (λ (j : ℕ). getD st j 0 / 1024) (sym e) ∙ z) ∙ ap (λ (j : ℕ). cond (eqb (getD regs j 0 % 2) 1) 1 (cond (eqb (getD regs j 0 / 2 % 2) 1) 3 0)) (sym e)
+
+  pub reg-ro : getD st k 0 / 1024 ≡ 0 → getD regs k 0 % 2 ≡ 1 → (1 ≡ reg-org w regs r (getD st r 0 / 1024)) × (1 < 10001)
+  reg-ro z a = (sym (none-is z ∙ ap (λ (b : Bool). cond b 1 (cond (eqb (getD regs k 0 / 2 % 2) 1) 3 0)) (eq-eqb (getD regs k 0 % 2) 1 a)), omega arith)
+
+  pub reg-frame : getD st k 0 / 1024 ≡ 0 → (getD regs k 0 % 2 ≡ 1 → ⊥) → getD regs k 0 / 2 % 2 ≡ 1 → (3 ≡ reg-org w regs r (getD st r 0 / 1024)) × (3 < 10001)
+  reg-frame z a b = (sym (none-is z ∙ ap₂ (λ (x y : Bool). cond x 1 (cond y 3 0)) (ne-eqb (getD regs k 0 % 2) 1 a) (eq-eqb (getD regs k 0 / 2 % 2) 1 b)), omega arith)
+
+  pub reg-none : getD st k 0 / 1024 ≡ 0 → (getD regs k 0 % 2 ≡ 1 → ⊥) → (getD regs k 0 / 2 % 2 ≡ 1 → ⊥) → (0 ≡ reg-org w regs r (getD st r 0 / 1024)) × (0 < 10001)
+  reg-none z a b = (sym (none-is z ∙ ap₂ (λ (x y : Bool). cond x 1 (cond y 3 0)) (ne-eqb (getD regs k 0 % 2) 1 a) (ne-eqb (getD regs k 0 / 2 % 2) 1 b)), omega arith)
+
+module _ (w regs st lasts : List ℕ) (bar p : ℕ) where
+  pub piece-odd : (sc r : ℕ) → (sc % 2 ≡ 0 → ⊥) → true ≡ (not (eqb (sc % 2) 0) || piece-test w regs st lasts bar p r)
+  piece-odd sc r n = sym (ap (λ (b : Bool). not b || piece-test w regs st lasts bar p r) (ne-eqb (sc % 2) 0 n))
+
+  pub piece-even : (sc r : ℕ) {o : ℕ} {b : Bool} → sc % 2 ≡ 0 → o ≡ reg-org w regs r (getD st r 0 / 1024) → b ≡ org-test lasts bar p o → b ≡ (not (eqb (sc % 2) 0) || piece-test w regs st lasts bar p r)
+  unfolding piece-test
+  piece-even sc r {o} e f g = g ∙ ap (org-test lasts bar p) f ∙ sym (ap (λ (b : Bool). not b || org-test lasts bar p (reg-org w regs r (getD st r 0 / 1024))) (eq-eqb (sc % 2) 0 e))
+
+-- a Cat's list from k on
+module _ (f : ℕ → Bool) (xs : List ℕ) (k sc : ℕ) where
+  two : k + 2 ≤ length xs → picked sc (drop k xs) ≡ cond (eqb (sc % 2) 0) (getD xs k 0 ∷ picked (sc / 2) (drop (k + 2) xs)) (picked (sc / 2) (drop (k + 2) xs))
+  unfolding picked
+  two h =
+      let e : k + 2 ≡ suc (suc k) = omega arith in
+      ap (picked sc) (drop-cons xs k 0 (omega arith) ∙ ap (λ (l : List ℕ). getD xs k 0 ∷ l) (drop-cons xs (suc k) 0 (omega arith)))
+      ∙ ap (λ (m : ℕ). cond (eqb (sc % 2) 0) (getD xs k 0 ∷ picked (sc / 2) (drop m xs)) (picked (sc / 2) (drop m xs))) (sym e)
+
+  both : {b : Bool} → k + 2 ≤ length xs → b ≡ (not (eqb (sc % 2) 0) || f (getD xs k 0)) → all f (picked sc (drop k xs)) ≡ (b && all f (picked (sc / 2) (drop (k + 2) xs)))
+  both {b} h e = ap (all f) (two h) ∙ go (eqb (sc % 2) 0) ∙ ap (λ (x : Bool). x && all f (picked (sc / 2) (drop (k + 2) xs))) (sym e)
+    where
+      go : (c : Bool) → all f (cond c (getD xs k 0 ∷ picked (sc / 2) (drop (k + 2) xs)) (picked (sc / 2) (drop (k + 2) xs))) ≡ ((not c || f (getD xs k 0)) && all f (picked (sc / 2) (drop (k + 2) xs)))
+      go true = refl
+      go false = refl
+
+  pub pick-no : {b : Bool} {n : Bool} → k < length xs → 2 ≤ length xs - k → all f (picked sc (drop k xs)) ≡ n → b ≡ (not (eqb (sc % 2) 0) || f (getD xs k 0)) → not b ≡ true → false ≡ n
+  pick-no {b} l h i e t = ap (λ (x : Bool). x && all f (picked (sc / 2) (drop (k + 2) xs))) (sym (not-true b t)) ∙ sym (both (omega arith) e) ∙ i
+
+  pub pick-on : {b : Bool} {n : Bool} → k < length xs → 2 ≤ length xs - k → all f (picked sc (drop k xs)) ≡ n → b ≡ (not (eqb (sc % 2) 0) || f (getD xs k 0)) → not b ≡ false → all f (picked (sc / 2) (drop (k + 2) xs)) ≡ n
+  pick-on {b} l h i e t = ap (λ (x : Bool). x && all f (picked (sc / 2) (drop (k + 2) xs))) (sym (not-false b t)) ∙ sym (both (omega arith) e) ∙ i
+
+  pub pick-last : {n : Bool} → k < length xs → length xs - k < 2 → all f (picked sc (drop k xs)) ≡ n → true ≡ n
+  unfolding picked
+  pick-last l h i = sym (ap (λ (y : List ℕ). all f (picked sc y)) (drop-cons xs k 0 l ∙ ap (λ (y : List ℕ). getD xs k 0 ∷ y) (drop-of-length-le xs {i = suc k} (omega arith)))) ∙ i
+
+  pub pick-end : {n : Bool} → length xs ≤ k → all f (picked sc (drop k xs)) ≡ n → true ≡ n
+  unfolding picked
+  pick-end h i = sym (ap (λ (y : List ℕ). all f (picked sc y)) (drop-of-length-le xs {i = k} h)) ∙ i
+
+all-map : {A B : Type 0} (f : B → Bool) (g : A → B) (xs : List A) → all f (map g xs) ≡ all (λ x. f (g x)) xs
+all-map f g [] = refl
+all-map f g (x ∷ xs) = ap (λ (b : Bool). f (g x) && b) (all-map f g xs)
+
+one-origin : (w regs ops : List ℕ) (i : Inst) (d : ℕ → ℕ) (o : ℕ) → (suc o ≡ 4294967295 → ⊥) → origins w regs ops i d (suc o) ≡ o ∷ []
+unfolding origins
+one-origin w regs ops i d o n = ap (λ (b : Bool). cond b (map (λ r. reg-org w regs r (d r)) (picked (getD i 9 0) (list-of ops i))) (o ∷ [])) (ne-eqb (suc o) 4294967295 n)
+
+module _ (w regs ops : List ℕ) (i : Inst) (st lasts : List ℕ) (bar p : ℕ) where
+  pub from-none : {x : ℕ} → x ≡ cell w p 5 → x ≡ 0 → true ≡ from-test w regs ops i st lasts bar p
+  unfolding from-test origins
+  from-none e z = sym (ap (λ (y : ℕ). all (org-test lasts bar p) (origins w regs ops i (λ r. getD st r 0 / 1024) y)) (sym e ∙ z))
+
+  pub from-one : {x : ℕ} {b : Bool} → x ≡ cell w p 5 → (x ≡ 0 → ⊥) → (x ≡ 4294967295 → ⊥) → b ≡ org-test lasts bar p (x - 1) → b ≡ from-test w regs ops i st lasts bar p
+  unfolding from-test
+  from-one {x} {b} e z n f = f ∙ is x z n ∙ ap (λ (y : ℕ). all (org-test lasts bar p) (origins w regs ops i (λ r. getD st r 0 / 1024) y)) e
+    where
+      end : (a : Bool) → a ≡ (a && true)
+      end true = refl
+      end false = refl
+
+      is : (x : ℕ) → (x ≡ 0 → ⊥) → (x ≡ 4294967295 → ⊥) → org-test lasts bar p (x - 1) ≡ all (org-test lasts bar p) (origins w regs ops i (λ r. getD st r 0 / 1024) x)
+      is zero z n = absurd (z refl)
+      is (suc o) z n = let q : suc o - 1 ≡ o = omega arith in ap (org-test lasts bar p) q ∙ end (org-test lasts bar p o) ∙ sym (ap (all (org-test lasts bar p)) (one-origin w regs ops i (λ r. getD st r 0 / 1024) o n))
+
+  pub from-cat : {x sc : ℕ} {xs : List ℕ} {b : Bool} → x ≡ cell w p 5 → x ≡ 4294967295 → xs ≡ list-of ops i → sc ≡ getD i 9 0 → b ≡ all (piece-test w regs st lasts bar p) (picked sc xs) → b ≡ from-test w regs ops i st lasts bar p
+  unfolding from-test origins piece-test
+  from-cat {x} {sc} {xs} e z f g h =
+      h ∙ ap₂ (λ (s : ℕ) (l : List ℕ). all (λ r. org-test lasts bar p (reg-org w regs r (getD st r 0 / 1024))) (picked s l)) g f
+      ∙ sym (all-map (org-test lasts bar p) (λ r. reg-org w regs r (getD st r 0 / 1024)) (picked (getD i 9 0) (list-of ops i)))
+      ∙ ap (λ (y : ℕ). all (org-test lasts bar p) (origins w regs ops i (λ r. getD st r 0 / 1024) y)) (sym z ∙ e)
+
+-- ---- rules 4 and 6
+
+module _ (L : ℕ → Bool) (o : ℕ) where
+  pub own-none : o ≡ 0 → true ≡ own-memory L o
+  unfolding own-memory
+  own-none e = sym (ap (λ (b : Bool). b || (leb 5 o && eqb (o % 2) 1 && L ((o - 5) / 2))) (eq-eqb o 0 e))
+
+  pub own-small : (o ≡ 0 → ⊥) → o < 5 → false ≡ own-memory L o
+  unfolding own-memory
+  own-small n h = sym (ap₂ (λ (a b : Bool). a || (b && eqb (o % 2) 1 && L ((o - 5) / 2))) (ne-eqb o 0 n) (lt-leb 5 o h))
+
+  pub own-even : (o ≡ 0 → ⊥) → 5 ≤ o → (o % 2 ≡ 1 → ⊥) → false ≡ own-memory L o
+  unfolding own-memory
+  own-even n h k = sym (ap₂ (λ (a b : Bool). a || (b && eqb (o % 2) 1 && L ((o - 5) / 2))) (ne-eqb o 0 n) (le-leb 5 o h) ∙ ap (λ (b : Bool). b && L ((o - 5) / 2)) (ne-eqb (o % 2) 1 k))
+
+  pub own-odd : {b : Bool} {k : ℕ} → (o ≡ 0 → ⊥) → 5 ≤ o → o % 2 ≡ 1 → k ≡ (o - 5) / 2 → b ≡ L k → b ≡ own-memory L o
+  unfolding own-memory
+  own-odd n h k e f = f ∙ ap L e ∙ sym (ap₂ (λ (a b : Bool). a || (b && eqb (o % 2) 1 && L ((o - 5) / 2))) (ne-eqb o 0 n) (le-leb 5 o h) ∙ ap (λ (b : Bool). b && L ((o - 5) / 2)) (eq-eqb (o % 2) 1 k))
+
+and3 : (a b c : Bool) → ((a && b) && c) ≡ conj (a ∷ b ∷ c ∷ [])
+and3 true true true = refl
+and3 true true false = refl
+and3 true false c = refl
+and3 false b c = refl
+
+pub effects-are : (w : List ℕ) (L : ℕ → Bool) (p sus bar : ℕ) {f o : ℕ} {b : Bool} → f ≡ cell w p 3 → o ≡ cell w p 4 → b ≡ own-memory L o
+    → ((leb sus (p + 1) && (leb bar (p + 1) || (not (eqb (f / 4 % 2) 1) && eqb o 0))) && b) ≡ memory-fine L p sus bar (flag w 4 p) (cell w p 4)
+unfolding memory-fine flag
+effects-are w L p sus bar {f} {o} {b} e g h =
+    ap (λ (x : Bool). (leb sus (p + 1) && (leb bar (p + 1) || (not (eqb (f / 4 % 2) 1) && eqb o 0))) && x) h
+    ∙ and3 (leb sus (p + 1)) (leb bar (p + 1) || (not (eqb (f / 4 % 2) 1) && eqb o 0)) (own-memory L o)
+    ∙ ap₂ (λ (x y : ℕ). conj (leb sus (p + 1) ∷ (leb bar (p + 1) || (not (eqb (x / 4 % 2) 1) && eqb y 0)) ∷ own-memory L y ∷ [])) e g
+
+-- ---- all of them
+
+last-no : (a b : Bool) → false ≡ conj (a ∷ b ∷ false ∷ [])
+last-no true true = refl
+last-no true false = refl
+last-no false b = refl
+
+pub stay-effects : (a b : Bool) {c x : Bool} → x ≡ c → not x ≡ true → false ≡ conj (a ∷ b ∷ c ∷ [])
+stay-effects a b {c} {x} e t = last-no a b ∙ ap (λ (y : Bool). conj (a ∷ b ∷ y ∷ [])) (sym (not-true x t) ∙ e)
+
+pub stay-reads : {a : Bool} (b c : Bool) {x : Bool} → x ≡ a → not x ≡ true → false ≡ conj (a ∷ b ∷ c ∷ [])
+stay-reads {a} b c {x} e t = ap (λ (y : Bool). conj (y ∷ b ∷ c ∷ [])) (sym (not-true x t) ∙ e)
+
+pub stay-froms : {a b c x y z : Bool} → x ≡ c → not x ≡ false → y ≡ a → not y ≡ false → z ≡ b → z ≡ conj (a ∷ b ∷ c ∷ [])
+stay-froms {a} {b} {c} {x} {y} {z} e t f u h = h ∙ end b ∙ ap₂ (λ (k m : Bool). conj (k ∷ b ∷ m ∷ [])) (sym (not-false y u) ∙ f) (sym (not-false x t) ∙ e)
+  where
+    end : (b : Bool) → b ≡ conj (true ∷ b ∷ true ∷ [])
+    end true = refl
+    end false = refl
+
+-- ---- sizes
+
+pub from-small : {x f : ℕ} → (x ≤ 10000) ⊎ (x ≡ 4294967295) → f ≡ x → (f ≡ 4294967295 → ⊥) → f - 1 < 10001
+from-small (inl h) e n = omega arith
+from-small (inr h) e n = absurd (n (e ∙ h))
+
+pub list-low : {recs ops : List ℕ} {R g : ℕ} {xs : List ℕ} → Good recs ops R g → xs ≡ list-of ops (inst recs g) → (k : ℕ) → k < length xs → getD xs k 0 < R
+list-low {recs} {ops} {R} {g} {xs} h e k l =
+    let m : k < length (list-of ops (inst recs g)) = subst (λ (y : List ℕ). k < length y) e l in
+    subst (λ (x : ℕ). x < R) (sym (ap (λ (y : List ℕ). getD y k 0) e ∙ getD-any (list-of ops (inst recs g)) k 0 absent m)) (h .list k m)
+
+module _ (recs ops w regs st lasts marks : List ℕ) (g sus bar p : ℕ) where
+  pub no-effects : {x : Bool} → x ≡ memory-fine (in-set marks) p sus bar (flag w 4 p) (cell w p 4) → not x ≡ true → false ≡ stay-test recs ops w regs st lasts marks g sus bar p
+  unfolding stay-test
+  no-effects e t = stay-effects (all (read-test st marks p) (reads ops (inst recs g))) (from-test w regs ops (inst recs g) st lasts bar p) e t
+
+  pub no-reads : {x : Bool} → x ≡ all (read-test st marks p) (reads ops (inst recs g)) → not x ≡ true → false ≡ stay-test recs ops w regs st lasts marks g sus bar p
+  unfolding stay-test
+  no-reads e t = stay-reads (from-test w regs ops (inst recs g) st lasts bar p) (memory-fine (in-set marks) p sus bar (flag w 4 p) (cell w p 4)) e t
+
+  pub skipped : {x : Bool} → x ≡ in-set marks p → not x ≡ true → true ≡ (not (in-set marks p) || stay-test recs ops w regs st lasts marks g sus bar p)
+  skipped {x} e t = sym (ap (λ (y : Bool). not y || stay-test recs ops w regs st lasts marks g sus bar p) (sym e ∙ not-true x t))
+
+  pub asked : {x y : Bool} → x ≡ in-set marks p → not x ≡ false → y ≡ stay-test recs ops w regs st lasts marks g sus bar p → y ≡ (not (in-set marks p) || stay-test recs ops w regs st lasts marks g sus bar p)
+  asked {x} e t f = f ∙ sym (ap (λ (y : Bool). not y || stay-test recs ops w regs st lasts marks g sus bar p) (sym e ∙ not-false x t))

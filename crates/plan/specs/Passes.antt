@@ -1,0 +1,153 @@
+-- What the parts of a pass require and ensure. Assumes nothing.
+use mathlib.Core.Path.{_≡_}
+use mathlib.Core.Bool.{Bool, true, false, not, _&&_, _||_, cond}
+use mathlib.Core.List.{List, [], _∷_}
+use Prim.Native.Nat.{ℕ, zero, suc, _+_, _*_, _-_, _/_, _%_, _≤_, _<_}
+use lib.Dec.{eqb, ltb}
+use lib.ListN.{getD, length, set}
+use Rattle.words.specs.Lists.{mem, hit, all, conj, member, count}
+use Rattle.words.specs.Bits.{is-in}
+use Rattle.model.specs.Picture.{Inst, inst, absent, reads, writes, list-of}
+use Rattle.model.specs.Analyse.{Fact}
+use Rattle.model.specs.Legal.{greatest}
+use Rattle.inst.specs.Record.{read-at}
+use Rattle.legalset.specs.Chain.{writer, cell, flag, defs-of, origins, reg-org, Safe, Told}
+use Rattle.legalset.specs.Marks.{in-set, sifted, lost}
+use Rattle.legalset.specs.Rules.{last-kept, read-fine, org-fine, memory-fine, pending}
+
+-- read k: slots 0 to 4, then the list; absent where there is none
+unfoldable pub read-place : List ℕ → Inst → ℕ → ℕ
+read-place ops i k = cond (ltb k 5) (read-at i k) (getD (list-of ops i) (k - 5) absent)
+
+-- ---- a word a register
+
+-- the word x of a register that is among those stamped, or not
+unfoldable pub stamp : ℕ → ℕ → Bool → ℕ → ℕ
+stamp keep v b x = cond b (x % keep + v) x
+
+-- one register, or none, is stamped
+unfoldable pub put-in : ℕ → ℕ → ℕ → List ℕ → List ℕ
+put-in keep v r st = cond (eqb r absent) st (set st r (getD st r 0 % keep + v))
+
+-- all registers of l are stamped
+pub record Stamped (l : List ℕ) (keep v : ℕ) (before after : List ℕ) : Type 0 where
+  pub size : length after ≡ length before
+  pub each : (r : ℕ) → r < length before → getD after r 0 ≡ stamp keep v (mem r l) (getD before r 0)
+
+-- ---- the summary of a set, and the writers so far
+
+-- each register's last kept writer, and 1024 times its last writer before p
+pub record Stamps (defs : ℕ → List ℕ) (L : ℕ → Bool) (n p : ℕ) (st : List ℕ) : Type 0 where
+  pub each : (r : ℕ) → r < length st → getD st r 0 ≡ last-kept L (λ q. mem r (defs q)) n + 1024 * writer defs r p
+
+-- the last kept write of each origin and 1
+pub record Writes (wrote : ℕ → ℕ) (L : ℕ → Bool) (n : ℕ) (lasts : List ℕ) : Type 0 where
+  pub each : (o : ℕ) → 0 < o → o < 10002 → getD lasts o 0 ≡ last-kept L (λ q. eqb (wrote q) o) n
+
+-- whether each register is awaited at q: read by a kept position from q on with no write in between
+pub record Awaits (defs reads : ℕ → List ℕ) (L : ℕ → Bool) (n q : ℕ) (st : List ℕ) : Type 0 where
+  pub each : (r : ℕ) → r < length st → getD st r 0 ≡ hit (pending defs reads L r q (n - q))
+
+-- ---- the tests at p by these words
+
+-- rule 3
+unfoldable pub read-test : List ℕ → List ℕ → ℕ → ℕ → Bool
+read-test st marks p r = read-fine (in-set marks) p (getD st r 0 / 1024) (getD st r 0 % 1024)
+
+-- rule 5 for an origin
+unfoldable pub org-test : List ℕ → ℕ → ℕ → ℕ → Bool
+org-test lasts bar p o = org-fine p bar (getD lasts 1 0) (getD lasts (o + 1) 0) o
+
+-- what p reads from
+unfoldable pub from-test : List ℕ → List ℕ → List ℕ → Inst → List ℕ → List ℕ → ℕ → ℕ → Bool
+from-test w regs ops i st lasts bar p = all (org-test lasts bar p) (origins w regs ops i (λ r. getD st r 0 / 1024) (cell w p 5))
+
+-- what is stamped fits, and a second stamp changes nothing
+pub record Beside (keep v : ℕ) : Type 0 where
+  pub some : 0 < keep
+  pub small : keep + v ≤ 4294967296
+  pub twice : (x : ℕ) → (x % keep + v) % keep ≡ x % keep
+
+-- what q writes is stamped q + 1, if q is kept
+pub record Kept-stamped (defs : ℕ → List ℕ) (L : ℕ → Bool) (q : ℕ) (before after : List ℕ) : Type 0 where
+  pub size : length after ≡ length before
+  pub each : (r : ℕ) → r < length before → getD after r 0 ≡ cond (not (L q) && mem r (defs q)) (q + 1) (getD before r 0)
+
+-- and the memory it writes
+unfoldable pub wrote-in : Bool → ℕ → ℕ → List ℕ → List ℕ
+wrote-in in? o q lasts = cond in? lasts (set lasts o (q + 1))
+
+-- rule 3 for what stands in a place
+unfoldable pub place-test : List ℕ → List ℕ → ℕ → ℕ → Bool
+place-test st marks p r = eqb r absent || read-test st marks p r
+
+-- rule 5 for a register of a Cat's list
+unfoldable pub piece-test : List ℕ → List ℕ → List ℕ → List ℕ → ℕ → ℕ → ℕ → Bool
+piece-test w regs st lasts bar p r = org-test lasts bar p (reg-org w regs r (getD st r 0 / 1024))
+
+-- the writers so far are among the n positions of w, whose origins are small
+pub record Near (w st : List ℕ) (n : ℕ) : Type 0 where
+  pub room : 10 * n ≤ length w
+  pub writer : (r : ℕ) → r < length st → getD st r 0 / 1024 ≤ n
+  pub org : (p : ℕ) → p < n → cell w p 2 < 10000
+
+-- rules 3 to 6 for position p, record g
+unfoldable pub stay-test : List ℕ → List ℕ → List ℕ → List ℕ → List ℕ → List ℕ → List ℕ → ℕ → ℕ → ℕ → ℕ → Bool
+stay-test recs ops w regs st lasts marks g sus bar p =
+    conj (all (read-test st marks p) (reads ops (inst recs g)) ∷ from-test w regs ops (inst recs g) st lasts bar p ∷ memory-fine (in-set marks) p sus bar (flag w 4 p) (cell w p 4) ∷ [])
+
+-- position p was looked at: st and marks after those before
+pub record Forwarded (recs ops w regs lasts : List ℕ) (sus bar p : ℕ) (st marks st′ marks′ : List ℕ) (r : ℕ) : Type 0 where
+  pub stamped : Stamped (writes (inst recs (cell w p 0))) 1024 (1024 * (p + 1)) st st′
+  pub sifts : marks′ ≡ sifted marks p (stay-test recs ops w regs st lasts marks (cell w p 0) sus bar p)
+  pub loses : r ≡ lost marks p (stay-test recs ops w regs st lasts marks (cell w p 0) sus bar p)
+
+-- what the forward pass starts from: the summary of the marks
+pub record Summed (recs ops w regs : List ℕ) (n : ℕ) (st lasts marks : List ℕ) (sus bar : ℕ) : Type 0 where
+  pub stamps : Stamps (defs-of recs w) (in-set marks) n 0 st
+  pub writes : Writes (λ q. cell w q 4) (in-set marks) n lasts
+  pub barrier : bar ≡ last-kept (in-set marks) (flag w 8) n
+  pub suspension : sus ≡ last-kept (in-set marks) (flag w 16) n
+
+-- what q reads is awaited, if q is kept
+pub record Awaited (reads : ℕ → List ℕ) (L : ℕ → Bool) (q : ℕ) (before after : List ℕ) : Type 0 where
+  pub size : length after ≡ length before
+  pub each : (r : ℕ) → r < length before → getD after r 0 ≡ cond (not (L q) && mem r (reads q)) 1 (getD before r 0)
+
+-- position q was looked at from behind: st and marks after those before
+pub record Backed (defs reads : ℕ → List ℕ) (q : ℕ) (st marks st′ marks′ : List ℕ) (r : ℕ) : Type 0 where
+  pub size : length st′ ≡ length st
+  pub each : (x : ℕ) → x < length st → getD st′ x 0 ≡ cond (not (in-set marks′ q) && mem x (reads q)) 1 (cond (mem x (defs q)) 0 (getD st x 0))
+  pub sifts : marks′ ≡ sifted marks q (all (λ x. eqb (getD st x 0) 0) (defs q))
+  pub loses : r ≡ lost marks q (all (λ x. eqb (getD st x 0) 0) (defs q))
+
+-- ---- the whole
+
+-- the words of n positions, the first m in x, a word a register twice, and marks
+pub record Set-up (recs ops w regs st marks : List ℕ) (m n : ℕ) : Type 0 where
+  pub safe : Safe recs ops w n (length st)
+  pub regs-size : length regs ≡ length st
+  pub in-x : m ≤ n
+  pub marks-size : length marks ≡ 800
+
+-- each register's last writer in the chain, as `analyse` leaves it
+pub record Ended (recs w : List ℕ) (n : ℕ) (regs : List ℕ) : Type 0 where
+  pub each : (r : ℕ) → r < length regs → getD regs r 0 / 16 ≡ writer (defs-of recs w) r n
+
+-- rule 2 for a register that p writes
+unfoldable pub result-test : List ℕ → List ℕ → ℕ → ℕ → Bool
+result-test regs needed p r = not (is-in needed r && eqb (getD regs r 0 / 16) (p + 1))
+
+-- the positions to begin with, by the words
+unfoldable pub begin-test : List ℕ → List ℕ → List ℕ → List ℕ → ℕ → ℕ → Bool
+begin-test recs w regs needed m p = ltb p m && eqb (cell w p 1) 1 && all (result-test regs needed p) (defs-of recs w p)
+
+-- the row stands for the registers needed elsewhere
+pub record Row (row : List ℕ) (R : ℕ) (needed : ℕ → Bool) : Type 0 where
+  pub each : (r : ℕ) → r < R → is-in row r ≡ needed r
+
+-- the marks are `model`'s greatest legal set, of r members, for whatever run and needs the words stand for
+pub record Greatest (recs ops w regs row marks : List ℕ) (m n r : ℕ) : Type 0 where
+  pub size : length marks ≡ 800
+  pub set : (run : List Fact) (needed : ℕ → Bool) → Told recs ops w regs n run → Row row (length regs) needed → (p : ℕ) → in-set marks p ≡ member (greatest run needed m) p
+  pub count : (run : List Fact) (needed : ℕ → Bool) → Told recs ops w regs n run → Row row (length regs) needed → r ≡ count (greatest run needed m)

@@ -1,0 +1,50 @@
+// A word a register, in a lent slice: the registers that a record writes, or reads, are stamped with a number. What stood there
+// below `keep` stays beside it.
+use crate::chain::places;
+use crate::chain::read_place;
+ghost use mathlib.Core.Path.{_≡_};
+ghost use mathlib.Core.Logic.{_⊎_};
+ghost use Prim.Native.Nat.{ℕ, _+_, _%_, _<_, _≤_};
+ghost use lib.ListN.{length};
+ghost use Rattle.model.specs.Picture.{inst, absent, reads, writes};
+ghost use Rattle.inst.specs.Record.{Used};
+ghost use Rattle.legalset.specs.Chain.{Fits, Good};
+ghost use Rattle.plan.specs.Passes.{put-in, Stamped, Beside};
+
+// Stamps register r, if it is one.
+fn put(st: &mut [u64], r: u32, keep: u64, v: u64)
+    requires { ⌜ ((r ≡ absent) ⊎ (r < length (now st))) × Beside keep v ⌝ }
+    ensures { λ _. ⌜ now (st .exit) ≡ put-in keep v r (now (st .entry)) ⌝ }
+{
+    if r != 4294967295 {
+        let k = inst::record::wide(r);
+        st[k] = st[k] % keep + v;
+    }
+}
+
+// Stamps what record g writes.
+pub fn put_writes(recs: &[u32], g: usize, uses: u32, st: &mut [u64], keep: u64, v: u64)
+    requires { ⌜ Used (now recs) g uses × Fits (now recs) (length (now st)) g × Beside keep v ⌝ }
+    ensures { λ _. ⌜ Stamped (writes (inst (now (recs .entry)) g)) keep v (now (st .entry)) (now (st .exit)) ⌝ }
+{
+    let mut s = 0usize;
+    while s < 5 {
+        let r = inst::access::write_at(recs, g, uses, s);
+        put(st, r, keep, v);
+        s += 1;
+    }
+}
+
+// Stamps what record g reads.
+pub fn put_reads(ops: &[u32], recs: &[u32], g: usize, uses: u32, st: &mut [u64], keep: u64, v: u64)
+    requires { ⌜ Used (now recs) g uses × Good (now recs) (now ops) (length (now st)) g × Beside keep v ⌝ }
+    ensures { λ _. ⌜ Stamped (reads (now (ops .entry)) (inst (now (recs .entry)) g)) keep v (now (st .entry)) (now (st .exit)) ⌝ }
+{
+    let n = places(ops, recs, g);
+    let mut k = 0usize;
+    while k < n {
+        let r = read_place(ops, recs, g, uses, k);
+        put(st, r, keep, v);
+        k += 1;
+    }
+}
