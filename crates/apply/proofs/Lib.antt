@@ -1,0 +1,4 @@
+pub mod Asked
+pub mod Walked
+pub mod Placed
+pub mod Done

@@ -1,0 +1,70 @@
+// Block bounds after c instructions went from one block to another (01, "The move"; blocks lie end to end): all words between
+// the one's end and the other's start, both included, shift by c, those of empty blocks too.
+ghost use mathlib.Core.Path.{_≡_};
+ghost use Prim.Native.Nat.{ℕ, _+_, _-_, _*_, _≤_, _<_};
+ghost use lib.ListN.{length, getD};
+ghost use mathlib.Core.Bool.{cond, not};
+ghost use lib.Dec.{eqb};
+ghost use Rattle.words.specs.Lists.{upto, filter};
+ghost use Rattle.mover.specs.Order.{goes};
+ghost use Rattle.mover.specs.Spans.{Mapped, Shifted, ShiftAsk};
+
+fn down(bounds: &mut [u32], lo: usize, hi: usize, c: u32)
+    requires { ⌜ (lo ≤ hi) × (hi ≤ length (now bounds)) ⌝ }
+    requires { ⌜ ((k : ℕ) → lo ≤ k → k < hi → c ≤ getD (now bounds) k 0) ⌝ }
+    ensures { λ _. ⌜ Mapped (λ w. w - c) lo (now (bounds .entry)) (now (bounds .exit)) hi ⌝ }
+{
+    let mut k = lo;
+    while k < hi {
+        bounds[k] = bounds[k] - c;
+        k += 1;
+    }
+}
+
+fn up(bounds: &mut [u32], lo: usize, hi: usize, c: u32)
+    requires { ⌜ (lo ≤ hi) × (hi ≤ length (now bounds)) ⌝ }
+    requires { ⌜ ((k : ℕ) → lo ≤ k → k < hi → getD (now bounds) k 0 + c < 4294967296) ⌝ }
+    ensures { λ _. ⌜ Mapped (λ w. w + c) lo (now (bounds .entry)) (now (bounds .exit)) hi ⌝ }
+{
+    let mut k = lo;
+    while k < hi {
+        bounds[k] = bounds[k] + c;
+        k += 1;
+    }
+}
+
+// The bounds after c instructions went from block x to block t.
+pub fn move_bounds(bounds: &mut [u32], x: usize, t: usize, c: u32)
+    requires { ⌜ ShiftAsk x t c (now bounds) ⌝ }
+    ensures { λ _. ⌜ Shifted x t c (now (bounds .entry)) (now (bounds .exit)) ⌝ }
+{
+    if x < t {
+        down(bounds, 2 * x + 1, 2 * t + 1, c);
+        return;
+    }
+    up(bounds, 2 * t + 1, 2 * x + 1, c);
+}
+
+// 1 for a mark that is not 0.
+fn one(mark: u32) -> u32
+    ensures { λ r. ⌜ (r ≡ cond (not (eqb mark 0)) 1 0) × (r ≤ 1) ⌝ }
+{
+    if mark == 0 {
+        return 0;
+    }
+    1
+}
+
+// How many of the first m positions of the chain are members.
+pub fn count(chain: &[u32], m: usize) -> u32
+    requires { ⌜ (10 * m ≤ length (now chain)) × (m ≤ 800) ⌝ }
+    ensures { λ r. ⌜ r ≡ length (filter (goes (now (chain .entry))) (upto m)) ⌝ }
+{
+    let mut n = 0u32;
+    let mut p = 0usize;
+    while p < m {
+        n = n + one(chain[10 * p + 6]);
+        p += 1;
+    }
+    n
+}

@@ -1,0 +1,78 @@
+-- `pool::types::add_type` meets its contract. Assumes nothing.
+use native.Mathlib.Omega.{arith}
+use mathlib.Core.Path.{sym, ap, _∙_}
+use Prim.Native.Nat.{ℕ}
+use lib.ListN.{getD, length-set}
+use Rattle.pool.proofs.Typing.{added-none, added-plain, added-signal, signal-fits}
+use borrow.Author.Needs.{needs}
+use Rattle.pool.proofs.types.add_type.Statement.{statement}
+use Rattle.pool.proofs.types.add_type.Tie as tie
+
+wide-requires : tie.Need-wide-requires
+wide-requires c κs = search needs
+
+returns : tie.Need-returns
+returns c = added-none (λ e. c .if1 .taken (c .before .wide .ensures ∙ e))
+
+wide-requires-2 : tie.Need-wide-requires-2
+wide-requires-2 c κs = search needs
+
+mul-ty : tie.Need-mul-ty
+mul-ty c = search needs
+
+slice-read-ty : tie.Need-slice-read-ty
+slice-read-ty c = omega (arith, c .before .wide2 .ensures, c .before .before .before .before .before .pre (sym (c .before .before .before .wide .ensures) ∙ c .before .before .if1 .left) .0)
+
+mul-types : tie.Need-mul-types
+mul-types c = search needs
+
+slice-write-types : tie.Need-slice-write-types
+slice-write-types c = omega (arith, c .before .before .before .before .before .pre (sym (c .before .before .before .wide .ensures) ∙ c .before .before .if1 .left) .1)
+
+add-types : tie.Need-add-types
+add-types c = search needs
+
+mul-types-2 : tie.Need-mul-types-2
+mul-types-2 c = search needs
+
+slice-write-types-2 : tie.Need-slice-write-types-2
+slice-write-types-2 c = simp length-set (signal-fits _ _ _ (c .before .before .before .before .before .before .pre (sym (c .before .before .before .before .wide .ensures) ∙ c .before .before .before .if1 .left) .1) (ap (λ (k : ℕ). getD (c .before .before .before .before .before .before .args .types .now) k 0) (sym (c .before .before .wide2 .ensures)) ∙ c .if2 .taken))
+
+add-result : tie.Need-add-result
+add-result c = search needs
+
+same-length : tie.Need-same-length
+same-length c = search needs
+
+returns-2 : tie.Need-returns-2
+returns-2 c = added-signal (sym (c .before .before .before .before .wide .ensures) ∙ c .before .before .before .if1 .left) (c .before .before .before .before .before .before .pre (sym (c .before .before .before .before .wide .ensures) ∙ c .before .before .before .if1 .left) .1) (ap (λ (k : ℕ). getD (c .before .before .before .before .before .before .args .types .now) k 0) (c .before .before .wide2 .ensures)) (c .if2 .taken)
+
+add-result-2 : tie.Need-add-result-2
+add-result-2 c = search needs
+
+same-length-2 : tie.Need-same-length-2
+same-length-2 c = search needs
+
+returns-3 : tie.Need-returns-3
+returns-3 c = added-plain (sym (c .before .before .before .before .wide .ensures) ∙ c .before .before .before .if1 .left) (c .before .before .before .before .before .before .pre (sym (c .before .before .before .before .wide .ensures) ∙ c .before .before .before .if1 .left) .1) (ap (λ (k : ℕ). getD (c .before .before .before .before .before .before .args .types .now) k 0) (c .before .before .wide2 .ensures)) (c .if2 .left)
+
+pub add-type-spec : {M : Type 1} → statement M
+add-type-spec =
+    tie.close
+    (tie.spec
+    wide-requires
+    returns
+    wide-requires-2
+    mul-ty
+    slice-read-ty
+    mul-types
+    slice-write-types
+    add-types
+    mul-types-2
+    slice-write-types-2
+    add-result
+    same-length
+    returns-2
+    add-result-2
+    same-length-2
+    returns-3)

@@ -1,0 +1,79 @@
+-- `pool::types::add_types` meets its contract. Assumes nothing.
+use borrow.Author.Needs.{needs}
+use Prim.Native.Nat.{_-_}
+use Rattle.pool.proofs.Typing.{Typing, typing-none, typing-ok, typing-more, typing-end}
+use Rattle.pool.proofs.types.add_types.Statement.{statement}
+use Rattle.pool.proofs.types.add_types.Tie as tie
+
+abbrev Inv-loop : tie.InvT-loop
+Inv-loop types₀ r w m n₀ p₀ types n p = Typing r m types₀ w types n p
+
+abbrev μ-loop : tie.MeasureT-loop
+μ-loop types₀ r w m n₀ p₀ types n p = m - p
+
+loop-holds : tie.Need-loop-holds Inv-loop μ-loop
+loop-holds c = typing-none (c .before .before .pre)
+
+mul-add-type : tie.Need-mul-add-type Inv-loop μ-loop
+mul-add-type c = search needs
+
+add-add-type : tie.Need-add-add-type Inv-loop μ-loop
+add-add-type c = search needs
+
+mul-add-type-2 : tie.Need-mul-add-type-2 Inv-loop μ-loop
+mul-add-type-2 c = search needs
+
+shared-slice-read-add-type : tie.Need-shared-slice-read-add-type Inv-loop μ-loop
+shared-slice-read-add-type c = search needs
+
+mul-add-type-3 : tie.Need-mul-add-type-3 Inv-loop μ-loop
+mul-add-type-3 c = search needs
+
+add-add-type-2 : tie.Need-add-add-type-2 Inv-loop μ-loop
+add-add-type-2 c = search needs
+
+mul-add-type-4 : tie.Need-mul-add-type-4 Inv-loop μ-loop
+mul-add-type-4 c = search needs
+
+shared-slice-read-add-type-2 : tie.Need-shared-slice-read-add-type-2 Inv-loop μ-loop
+shared-slice-read-add-type-2 c = search needs
+
+add-type-requires : tie.Need-add-type-requires Inv-loop μ-loop
+add-type-requires c κs = typing-ok (c .before .before .before .before .before .before .before .pre) (c .before .before .before .before .loop .inv) (c .before .before .before .loop-test .taken)
+
+add-p : tie.Need-add-p Inv-loop μ-loop
+add-p c = search needs
+
+loop-less : tie.Need-loop-less Inv-loop μ-loop
+loop-less c = search needs
+
+loop-again : tie.Need-loop-again Inv-loop μ-loop
+loop-again c = typing-more (c .before .before .before .before .before .before .before .before .before .before .pre) (c .before .before .before .before .before .before .before .loop .inv) (c .before .before .before .before .before .before .loop-test .taken) (c .before .before .add-type .ensures)
+
+same-length : tie.Need-same-length Inv-loop μ-loop
+same-length c = c .before .loop .inv .size
+
+returns : tie.Need-returns Inv-loop μ-loop
+returns c = typing-end (c .before .loop .inv) (c .loop-test .left)
+
+pub add-types-spec : {M : Type 1} → statement M
+add-types-spec =
+    tie.close
+    (tie.spec
+    Inv-loop
+    μ-loop
+    loop-holds
+    mul-add-type
+    add-add-type
+    mul-add-type-2
+    shared-slice-read-add-type
+    mul-add-type-3
+    add-add-type-2
+    mul-add-type-4
+    shared-slice-read-add-type-2
+    add-type-requires
+    add-p
+    loop-less
+    loop-again
+    same-length
+    returns)

@@ -1,0 +1,104 @@
+// One member's turn (01, "The move"): what nobody reads any more becomes free, and then the member gets a register for the one
+// that it writes.
+use crate::free::find;
+use crate::free::remove;
+use crate::held::release;
+ghost use mathlib.Core.Path.{_≡_};
+ghost use Prim.Native.Nat.{_+_, _≤_, _<_};
+ghost use lib.ListN.{length, getD};
+ghost use Rattle.pool.specs.Pool.{Gave, Turn, width};
+
+// How many registers are held, and free, and which is the next.
+pub struct Count {
+    pub nh: usize,
+    pub nf: usize,
+    pub next: u32,
+}
+
+// A register that was given, or absent, and the counts then.
+pub struct Given {
+    pub reg: u32,
+    pub n: Count,
+}
+
+pub fn wide(x: u32) -> usize
+    ensures { λ r. ⌜ r ≡ x ⌝ }
+{
+    x as usize
+}
+
+// A signal reference takes the next register as well.
+fn width_of(ty: u32) -> u32
+    ensures { λ r. ⌜ r ≡ width ty ⌝ }
+{
+    if ty == 4 {
+        return 2;
+    }
+    1
+}
+
+// The topmost free register of type ty, or else the next, is held until `until`.
+fn give(pool: &mut [u32], n: Count, until: u32, ty: u32) -> Given
+    requires { ⌜ (n .nh + n .nf < 800) × (until < 4096) × (n .next < 131000) × (ty < 8) × (1600 ≤ length (now pool)) ⌝ }
+    ensures { λ r. ⌜ Gave 800 until ty (n .nh) (n .nf) (n .next) (now (pool .entry)) (now (pool .exit)) (r .reg) (r .n .nh) (r .n .nf) (r .n .next) ⌝ }
+{
+    let nh = n.nh;
+    let nf = n.nf;
+    let next = n.next;
+    let at = find(pool, nf, ty);
+    if at == 0 {
+        pool[nh] = until * 1048576 + (next * 8 + ty);
+        return Given {
+            reg: next,
+            n: Count {
+                nh: nh + 1,
+                nf: nf,
+                next: next + width_of(ty),
+            },
+        };
+    }
+    let w = pool[800 + (at - 1)] % 1048576;
+    remove(pool, nf, at - 1);
+    pool[nh] = until * 1048576 + w;
+    Given {
+        reg: w / 8,
+        n: Count {
+            nh: nh + 1,
+            nf: nf - 1,
+            next: next,
+        },
+    }
+}
+
+// Member p's turn: registers whose last reader is before it become free; then its own, for the register d that it writes, if any.
+pub fn turn(pool: &mut [u32], n: Count, p: u32, until: u32, d: u32, types: &[u32]) -> Given
+    requires { ⌜ (n .nh + n .nf < 800) × (until < 4096) × (n .next < 131000) × (1600 ≤ length (now pool)) ⌝ }
+    requires { ⌜ ((d ≡ 4294967295 → ⊥) → (d < length (now types)) × (getD (now types) d 0 < 8)) ⌝ }
+    ensures { λ r. ⌜ Turn 800 p until d (n .nh) (n .nf) (n .next) (now (types .entry)) (now (pool .entry)) (now (pool .exit)) (r .reg) (r .n .nh) (r .n .nf) (r .n .next) ⌝ }
+{
+    let nh = n.nh;
+    let nf = n.nf;
+    let next = n.next;
+    let g = release(pool, nh, nf, p);
+    if d == 4294967295 {
+        return Given {
+            reg: d,
+            n: Count {
+                nh: nh - g,
+                nf: nf + g,
+                next: next,
+            },
+        };
+    }
+    let ty = types[wide(d)];
+    give(
+        pool,
+        Count {
+            nh: nh - g,
+            nf: nf + g,
+            next: next,
+        },
+        until,
+        ty,
+    )
+}

@@ -1,0 +1,39 @@
+// The new registers' types, written behind those in use once it is known that they fit (01, "The move"; "room past the counts in
+// use keeps what it held"). A member that was given the register next in line made it, and any other got one that was free.
+use crate::turn::wide;
+ghost use mathlib.Core.Path.{_≡_};
+ghost use Prim.Native.Nat.{_+_, _*_, _≤_, _<_};
+ghost use lib.ListN.{length, getD, take};
+ghost use Rattle.pool.specs.Pool.{width, typed};
+ghost use Rattle.pool.specs.Types.{TypeAdded, TypesFit, over};
+
+// The type of register d once more, at n, if it is n that was given. Returns the types in use then.
+fn add_type(types: &mut [u32], n: usize, d: u32, reg: u32) -> usize
+    requires { ⌜ (reg ≡ n → (d < length (now types)) × (n + width (getD (now types) d 0) ≤ length (now types))) ⌝ }
+    ensures { λ r. ⌜ TypeAdded n d reg (now (types .entry)) (now (types .exit)) r ⌝ }
+{
+    if wide(reg) != n {
+        return n;
+    }
+    let ty = types[wide(d)];
+    types[n] = ty;
+    if ty == 4 {
+        types[n + 1] = 0;
+        return n + 2;
+    }
+    n + 1
+}
+
+// The types of the registers that `allot` gave. Returns how many are in use then.
+pub fn add_types(types: &mut [u32], r: usize, w: &[u32], m: usize) -> usize
+    requires { ⌜ TypesFit r m (now types) (now w) ⌝ }
+    ensures { λ k. ⌜ (now (types .exit) ≡ over (typed (now (types .entry)) (now (w .entry)) m (take r (now (types .entry)))) (now (types .entry))) × (k ≡ length (typed (now (types .entry)) (now (w .entry)) m (take r (now (types .entry))))) ⌝ }
+{
+    let mut n = r;
+    let mut p = 0;
+    while p < m {
+        n = add_type(types, n, w[10 * p + 8], w[10 * p + 9]);
+        p += 1;
+    }
+    n
+}

@@ -1,0 +1,12 @@
+pub mod Naming
+pub mod Operands
+pub mod Slotting
+pub mod Records
+pub mod Remakes
+pub mod Sequence
+pub mod Both
+pub mod Lines
+pub mod Passing
+pub mod Owning
+pub mod Counting
+pub mod Whole

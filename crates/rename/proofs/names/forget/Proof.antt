@@ -1,0 +1,56 @@
+-- `rename::names::forget` meets its contract. Assumes nothing.
+use borrow.Author.Needs.{needs}
+use native.Mathlib.Omega.{arith}
+use mathlib.Core.Path.{_≡_, subst}
+use Prim.Native.Nat.{ℕ, _≤_, _-_}
+use Rattle.model.specs.Picture.{inst, absent}
+use Rattle.rename.specs.Names.{Forgot}
+use Rattle.inst.specs.Record.{write-at}
+use Rattle.rename.proofs.Naming.{forgot-none, forgot-more, forgot-end}
+use Rattle.rename.proofs.names.forget.Statement.{statement}
+use Rattle.rename.proofs.names.forget.Tie as tie
+
+abbrev Inv-loop : tie.InvT-loop
+Inv-loop recs p uses names₀ s₀ names s = (s ≤ 5) × Forgot (inst recs p) names₀ names s
+
+abbrev μ-loop : tie.MeasureT-loop
+μ-loop recs p uses names₀ s₀ names s = 5 - s
+
+loop-holds : tie.Need-loop-holds Inv-loop μ-loop
+loop-holds c = (omega arith, forgot-none _ _)
+
+write-at-requires : tie.Need-write-at-requires Inv-loop μ-loop
+write-at-requires c κs = search needs
+
+put-requires : tie.Need-put-requires Inv-loop μ-loop
+put-requires c κs = let i = c .before .before .before .loop .inv in λ f. omega (arith, c .write-at .ensures, i .1 .size, c .before .before .before .before .before .before .pre .1 (c .before .before .before .loop .s) (c .before .before .loop-test .taken) (subst (λ (k : ℕ). k ≡ absent → ⊥) (c .write-at .ensures) f))
+
+add-s : tie.Need-add-s Inv-loop μ-loop
+add-s c = search needs
+
+loop-less : tie.Need-loop-less Inv-loop μ-loop
+loop-less c = search needs
+
+loop-again : tie.Need-loop-again Inv-loop μ-loop
+loop-again c = let i = c .before .before .before .before .before .before .loop .inv in (omega arith, forgot-more (i .1) (λ f. omega (arith, i .1 .size, c .before .before .before .before .before .before .before .before .before .pre .1 (c .before .before .before .before .before .before .loop .s) (c .before .before .before .before .before .loop-test .taken) f)) (c .before .before .before .write-at .ensures) (c .before .before .put .ensures))
+
+same-length : tie.Need-same-length Inv-loop μ-loop
+same-length c = c .before .loop .inv .1 .size
+
+returns : tie.Need-returns Inv-loop μ-loop
+returns c = forgot-end (c .before .loop .inv .1) (c .before .loop .inv .0) (c .loop-test .left)
+
+pub forget-spec : {M : Type 1} → statement M
+forget-spec =
+    tie.close
+    (tie.spec
+    Inv-loop
+    μ-loop
+    loop-holds
+    write-at-requires
+    put-requires
+    add-s
+    loop-less
+    loop-again
+    same-length
+    returns)

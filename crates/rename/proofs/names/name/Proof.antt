@@ -1,0 +1,33 @@
+-- `rename::names::name` meets its contract. Assumes nothing.
+use mathlib.Core.Path.{ap, _∙_}
+use Prim.Native.Nat.{ℕ, _%_}
+use lib.ListN.{getD}
+use Rattle.model.specs.Picture.{absent}
+use Rattle.rename.specs.Names.{reg-or}
+use Rattle.rename.proofs.Naming.{getD-any}
+use borrow.Author.Needs.{needs}
+use Rattle.rename.proofs.names.name.Statement.{statement}
+use Rattle.rename.proofs.names.name.Tie as tie
+
+wide-requires : tie.Need-wide-requires
+wide-requires c κs = search needs
+
+mul-low : tie.Need-mul-low
+mul-low c = search needs
+
+shared-slice-read-low : tie.Need-shared-slice-read-low
+shared-slice-read-low c = search needs
+
+low-requires : tie.Need-low-requires
+low-requires c κs = search needs
+
+or-requires : tie.Need-or-requires
+or-requires c κs = search needs
+
+returns : tie.Need-returns
+returns c = let a = c .before .before .before .before .before .args in c .or .ensures ∙ ap (λ (k : ℕ). reg-or k (a .r)) (c .before .low .ensures ∙ ap (λ (k : ℕ). getD (a .names .now) k 0 % 4294967296) (c .before .before .before .wide .ensures) ∙ ap (λ (k : ℕ). k % 4294967296) (getD-any (a .names .now) (a .r) 0 absent (c .before .before .before .before .before .pre)))
+
+pub name-spec : {M : Type 1} → statement M
+name-spec =
+    tie.close
+    (tie.spec wide-requires mul-low shared-slice-read-low low-requires or-requires returns)

@@ -1,0 +1,4 @@
+pub mod Names
+pub mod Runs
+pub mod Counts
+pub mod All
