@@ -12,7 +12,7 @@ use lib.ListN.{length, getD, drop, replicate}
 use lib.Seq.{getD-drop}
 use Rattle.words.specs.Bits.{digit, digit-in, is-in}
 use Rattle.words.specs.Lists.{In, any, hit}
-use Rattle.words.proofs.Bools.{T-true, bool-ext, or-cases, left, right, T-false}
+use Rattle.words.proofs.Bools.{T-true, bool-ext, or-cases, left, right, T-false, hit-inj}
 use Rattle.words.proofs.Members.{any-in, any-of, in-getD, in-index}
 use Rattle.words.proofs.Rows.{hit-in, row-word, row-place}
 use Rattle.model.specs.Picture.{Picture, code, succs}
@@ -22,7 +22,7 @@ use Rattle.flow.specs.Drawn.{drawn}
 use Rattle.flow.specs.Graph.{Blocks}
 use Rattle.flow.specs.Sets.{blocks, Below, Room}
 use Rattle.flow.specs.Progress.{cell, Among, Solved}
-use Rattle.flow.specs.Live.{Live}
+use Rattle.flow.specs.Live.{Live, Wrote}
 use Rattle.flow.proofs.Whole.{succs-ops}
 use Rattle.flow.proofs.Firsts.{at, first-bits, written-bits, cleared}
 
@@ -129,3 +129,10 @@ module _ (bounds recs ops pairs targets : List ℕ) (w : ℕ) (lₛ l₀ l m : L
 
   pub live-rows : Live P w m
   live-rows = record { row = λ b r h j. is-live r j b h }
+
+  -- the rows of what is written are as the sets were made
+  pub written-rows : Wrote P w m
+  written-rows = record {
+    row = λ b r h j. hit-inj (is-in m (at w (n + b) r)) (written r (code P b))
+        (sym (cell-is m w (n + b) r) ∙ sym (cell-drop m w n b r) ∙ ap (λ (t : List ℕ). cell t w b r) (s .rest) ∙ kill b r h j);
+  }

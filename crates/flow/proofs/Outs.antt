@@ -44,7 +44,7 @@ gathered-end bits w i x ss j h = ap (gathered bits w i x) (drop-of-length-le ss 
 
 -- ---- its bits
 
-gathered-bit : (bits : List ℕ) (w r x : ℕ) (ss : List ℕ)
+pub gathered-bit : (bits : List ℕ) (w r x : ℕ) (ss : List ℕ)
     → digit (gathered bits w (r / 64) x ss) (r % 64) ≡ max (digit x (r % 64)) (hit (any (λ s. is-in bits (at w s r)) ss))
 unfolding gathered cell
 gathered-bit bits w r x [] = omega arith

@@ -10,6 +10,7 @@ use Rattle.words.proofs.Members.{any-on, filter-on}
 use Rattle.model.specs.Picture.{Picture, End, goes, parts, cases, stops, nblocks, code, ending, end-succs, succs, preds}
 use Rattle.model.specs.Live.{Node, node, live-at, live-in, live-out, read-first, written}
 use Rattle.flow.specs.Drawn.{drawn}
+use Rattle.flow.specs.Live.{Live, Wrote}
 
 -- the end of a block, seen from two pictures with the same tables
 pub end-same : (bounds bounds′ recs recs′ ops ops′ pairs targets : List ℕ) (e : End)
@@ -53,3 +54,10 @@ module _ (P : Picture) where
   live-out-whole b r =
       ap (any (λ s. live-in (Q (P .ops)) s r)) (succs-whole (P .ops) b)
       ∙ any-on (λ s. live-in (Q (P .ops)) s r) (λ s. live-in P s r) (succs P b) (λ s i. live-in-whole s r)
+
+  -- so rows of the one are rows of the other
+  pub live-rows-whole : (w : ℕ) (bits : List ℕ) → Live (Q (P .ops)) w bits → Live P w bits
+  live-rows-whole w bits l = record { row = λ b r h i. l .row b r h i ∙ live-in-whole b r }
+
+  pub wrote-whole : (ops : List ℕ) (w : ℕ) (bits : List ℕ) → Wrote (Q ops) w bits → Wrote P w bits
+  wrote-whole ops w bits l = record { row = l .row }

@@ -22,7 +22,7 @@ ghost use Rattle.flow.specs.Drawn.{drawn};
 ghost use Rattle.flow.specs.Graph.{Graph};
 ghost use Rattle.flow.specs.Sets.{Code, Below, Room};
 ghost use Rattle.flow.specs.Progress.{raised, Among, Edges, Progress, Solved};
-ghost use Rattle.flow.specs.Live.{Live, LiveOut, gathered};
+ghost use Rattle.flow.specs.Live.{Live, Wrote, LiveOut, gathered};
 
 // One word: a takes what stands at c and not at d. Tells whether it changed.
 fn raise(bits: &mut [u64], a: usize, c: usize, d: usize) -> bool
@@ -161,6 +161,7 @@ pub fn live_in<'a>(
         × Room (length (now bounds) / 2) w (now bits) ⌝ }
     ensures { λ _. ⌜ Live (drawn (now (bounds .entry)) (now (recs .entry)) (now (ops .entry)) (now (pairs .entry)) (now (targets .entry))) w (now (bits .exit)) ⌝ }
     ensures { λ _. ⌜ drop (length (now (bounds .entry)) / 2 * w + length (now (bounds .entry)) / 2 * w) (now (bits .exit)) ≡ drop (length (now (bounds .entry)) / 2 * w + length (now (bounds .entry)) / 2 * w) (now (bits .entry)) ⌝ }
+    ensures { λ _. ⌜ Wrote (drawn (now (bounds .entry)) (now (recs .entry)) (now (ops .entry)) (now (pairs .entry)) (now (targets .entry))) w (now (bits .exit)) ⌝ }
 {
     let n = bounds.len() / 2;
     clear_first(bits, n * w + n * w);
@@ -169,7 +170,7 @@ pub fn live_in<'a>(
 }
 
 // Word i of every row of the list.
-fn gather(bits: &[u64], list: &[u32], w: usize, i: usize) -> u64
+pub fn gather(bits: &[u64], list: &[u32], w: usize, i: usize) -> u64
     requires { ⌜ (i < w) × ((j : ℕ) → j < length (now list) → getD (now list) j 0 * w + w ≤ length (now bits)) ⌝ }
     ensures { λ r. ⌜ r ≡ gathered (now (bits .entry)) w i 0 (now (list .entry)) ⌝ }
 {

@@ -1,5 +1,4 @@
--- Laws on lists that belong in `words` (on branch wt-c some stand there: and-left, and-right are left-true, right-true,
--- mem-append is any-append, getD-map-in is getD-map, getD-range has its name). Assumes nothing.
+-- Laws on lists beside those of `words`: membership, places in ranges and maps. Assumes nothing.
 use mathlib.Core.Bool.{Bool, true, false, _&&_, _||_}
 use mathlib.Core.Path.{_≡_, refl, ap, sym, _∙_}
 use mathlib.Core.List.{List, [], _∷_, _++_, map}

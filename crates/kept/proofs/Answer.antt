@@ -65,7 +65,7 @@ module _ (P : Picture) (w64 w32 : ℕ) (accept : refusal P w64 w32 ≡ 0) where
   ok : Accepted P
   ok = accepted P w64 w32 accept
 
-  kept-after : (k : ℕ) → Keeps P (after P k .now) (after P k .was)
+  pub kept-after : (k : ℕ) → Keeps P (after P k .now) (after P k .was)
   kept-after k =
       let s = standing P ok k in
       record {

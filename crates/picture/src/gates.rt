@@ -19,7 +19,7 @@ const CAT: u32 = 39;
 const BUDGET: usize = 2097152;
 
 // A Cat of form 0.
-fn plain_cat(recs: &[u32], p: usize) -> bool
+pub fn plain_cat(recs: &[u32], p: usize) -> bool
     requires { ⌜ Within (now recs) p ⌝ }
     ensures { λ r. ⌜ r ≡ plain-cat (inst (now (recs .entry)) p) ⌝ }
 {
