@@ -3,12 +3,12 @@
 use mathlib.Core.Bool.{cond}
 use mathlib.Core.List.{List, [], _∷_, _++_, map}
 use mathlib.Core.Option.{Option, some}
-use mathlib.Core.Path.{_≡_, refl, sym, ap, _∙_, subst}
-use Prim.Native.Nat.{ℕ, suc, _+_, _*_, _/_, _≤_, _<_}
+use mathlib.Core.Path.{_≡_, sym, ap, _∙_, subst}
+use Prim.Native.Nat.{ℕ, _+_, _*_, _/_, _≤_, _<_}
 use native.Mathlib.Nat.{zero-add, not-suc-le-zero}
 use native.Mathlib.Numerals.{add-one}
 use native.Mathlib.Omega.{arith}
-use lib.ListN.{getD, length, take}
+use lib.ListN.{getD, length, take, length-map}
 use lib.Seq.{getD-take, take-suc, length-take-le}
 use Rattle.words.specs.Lists.{mem}
 use Rattle.words.proofs.Lists.{getD-map}
@@ -16,7 +16,7 @@ use Rattle.model.specs.Picture.{Inst, inst, writes}
 use Rattle.model.specs.Analyse.{Facts, Fact, no-fact, analyse, last-writer}
 use Rattle.laws.proofs.Analysed.{analysed}
 use Rattle.analyse.specs.Written.{Written}
-use Rattle.analyse.specs.State.{cell, opt-at, Words, State, Safe}
+use Rattle.analyse.specs.State.{opt-at, Words, State, Near, Safe}
 use Rattle.analyse.specs.Step.{marked, Forgot}
 use Rattle.analyse.proofs.Marking.{last-more, opt-settle, settle-within}
 use Rattle.analyse.proofs.Puts.{seen-kept, flags-kept-by}
@@ -26,13 +26,9 @@ use Rattle.analyse.proofs.Chained.{forgot-flags, none-yet}
 pub defs-at : (G : Facts) (recs ops places : List ℕ) (p : ℕ) → p < length places → getD (analyse G ops [] (map (inst recs) places)) p no-fact .defs ≡ writes (inst recs (getD places p 0))
 defs-at G recs ops places p h =
     let is = map (inst recs) places in
-    let l : p < length is = rw (length-map (inst recs) places) h in
+    let l : p < length is = rw (length-map places (inst recs)) h in
     ap (λ (k : ℕ). getD (analyse G ops [] is) k no-fact .defs) (sym (zero-add p))
     ∙ ap (λ (f : Fact). f .defs) (analysed G ops [] is p l) ∙ ap writes (getD-map (inst recs) 0 [] places p h)
-  where
-    length-map : (f : ℕ → Inst) (xs : List ℕ) → length (map f xs) ≡ length xs
-    length-map f [] = refl
-    length-map f (x ∷ xs) = ap suc (length-map f xs)
 
 -- the words of registers stand for the state before position p of the run
 pub record Again (G : Facts) (run : List Fact) (R p : ℕ) (regs w : List ℕ) : Type 0 where
@@ -40,7 +36,7 @@ pub record Again (G : Facts) (run : List Fact) (R p : ℕ) (regs w : List ℕ) :
   pub few : length run < 1000
   pub room : length run * 10 ≤ length w
   pub words : (q : ℕ) → q < length run → Words w q (getD run q no-fact)
-  pub near : (q : ℕ) → q < length run → cell w q 2 < 10000
+  pub near : (q : ℕ) → q < length run → Near w q
   pub safe : Safe R p regs w
   pub state : State G (take p run) R regs w
 

@@ -19,7 +19,7 @@ use Rattle.chains.proofs.Struct.{blocks-long}
 use Rattle.chains.proofs.Laid.{part-step}
 use Rattle.analyse.specs.Flags.{Seen}
 use Rattle.analyse.specs.State.{cell, opt-at, State, Safe}
-use Rattle.analyse.specs.Step.{Forgot, Part, Ran, RanPart, Ready, Analysed}
+use Rattle.analyse.specs.Step.{Forgot, Holds, Part, Ran, RanPart, Ready, Analysed}
 use Rattle.analyse.proofs.Puts.{seen-kept}
 use Rattle.analyse.proofs.Run.{ran-none, ran-append}
 
@@ -104,11 +104,14 @@ module _ {t recs ops regs w bounds : List ℕ} {c : Chain} {B R n : ℕ} (y : Re
     }
 
   pub chained-end : {regs₀ regs₁ w₁ : List ℕ} {k p : ℕ} → Forgot R regs regs₀ → Chained recs ops bounds bs R regs₀ w regs₁ w₁ k p → c .count ≤ k → Analysed recs ops regs w bounds c R p regs₁ w₁
+  unfolding blank
   chained-end {regs₀} {regs₁} {w₁} {k} {p} f h l = record {
     regs-size = h .ran .regs-size ∙ f .size;
     size = h .ran .size;
     kept = λ r. h .ran .kept r ∙ forgot-flags f r;
     safe = subst (λ (m : ℕ). Safe R m regs₁ w₁) (zero-add (length (h .places)) ∙ sym (h .at)) (h .ran .safe);
+    short = let s = y .short blank refl in omega (arith, s, h .at, ap length (all blank refl));
+    holds = λ j q. subst (Holds recs ops R w₁) (zero-add j) (h .ran .holds j (omega (arith, q, h .at)));
     positions = λ P e. h .at ∙ ap length (all P e);
     numbers = λ P e j q. ap (λ (m : ℕ). cell w₁ m 0) (sym (zero-add j)) ∙ h .ran .numbers j (omega (arith, q, h .at)) ∙ ap (λ (m : List ℕ). getD m j 0) (all P e);
     state = λ P e G s. subst (λ (m : List ℕ). State G (analyse G ops [] (map (inst recs) m)) R regs₁ w₁) (all P e) (h .ran .state G [] refl (fresh-state w f s));

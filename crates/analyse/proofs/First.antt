@@ -14,7 +14,8 @@ use Rattle.words.proofs.Lists.{getD-made, getD-past, length-made}
 use Rattle.words.proofs.Members.{in-map, range-in}
 use Rattle.model.specs.Picture.{Picture, Inst, inst, writes}
 use Rattle.model.specs.Analyse.{Known, unknown, from-writers, facts, known-of, when-some, small, positive}
-use Rattle.analyse.specs.Flags.{num, flags-of, known-from, Found, Seen}
+use Rattle.effects.specs.Origin.{num}
+use Rattle.analyse.specs.Flags.{flags-of, known-from, Found, Seen}
 
 -- ---- a register that nobody writes
 

@@ -9,5 +9,6 @@ pub mod Puts
 pub mod Run
 pub mod Chained
 pub mod First
+pub mod Accepted
 pub mod Again
 pub mod RunOf

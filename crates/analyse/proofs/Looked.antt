@@ -12,8 +12,8 @@ use lib.Dec.{eqb}
 use lib.ListN.{getD, length, List·getD-eq-default}
 use Rattle.model.specs.Picture.{absent}
 use Rattle.model.specs.Analyse.{Facts, Fact, Known, unknown, Org, Unknown, Ro, Frame, Temp, Img, no-fact, last-writer, org-of, len-of, is-layout, sized, when-some, known-of, small, positive, Read}
-use Rattle.effects.specs.Origin.{org-at}
-use Rattle.analyse.specs.Flags.{flags-of, num, Seen}
+use Rattle.effects.specs.Origin.{org-at, num}
+use Rattle.analyse.specs.Flags.{flags-of, Seen}
 use Rattle.analyse.specs.State.{opt-at, cell, pack, Words, State, Safe, org-reg, len-reg, Reg?}
 
 -- ---- bits
@@ -157,6 +157,10 @@ module _ {G : Facts} {past : List Fact} {R : ℕ} {regs w : List ℕ} (s : State
 -- the last writer is among the positions so far
 pub maker : {R n : ℕ} {regs w : List ℕ} → Safe R n regs w → (r v : ℕ) → r < R → v ≡ getD regs r 0 → v / 16 ≤ n
 maker s r v h e = let k = s .within r h in omega (arith, ap (λ (x : ℕ). x / 16) e, k)
+
+-- and its origin is small
+pub near-org : {R n : ℕ} {regs w : List ℕ} → Safe R n regs w → (p o : ℕ) → o ≡ cell w p 2 → p < n → o < 10000
+near-org s p o e h = let k = s .near p h .org in omega (arith, k, e)
 
 -- ---- layouts
 

@@ -13,14 +13,15 @@ use lib.Seq.{sets, length-sets, getD-append-seam}
 use Rattle.words.specs.Lists.{mem, range}
 use Rattle.words.proofs.Bools.{lt?}
 use Rattle.words.proofs.Copying.{getD-sets-before, getD-sets-in, getD-sets-after}
-use Rattle.model.specs.Picture.{Inst, inst, absent, writes}
+use Rattle.model.specs.Kinds.{row, cat}
+use Rattle.model.specs.Picture.{Inst, inst, absent, kind, writes}
 use Rattle.model.specs.Analyse.{Facts, Fact, fact, no-fact, last-writer, may-suspend}
 use Rattle.effects.specs.Origin.{org-at, class-at, wrote-at, from-at}
 use Rattle.effects.specs.declared.arms.Effect.{Effect}
 use Rattle.analyse.specs.Written.{Fits, Written}
 use Rattle.analyse.specs.Flags.{Seen}
-use Rattle.analyse.specs.State.{cell, pack, opt-at, Words, State, Safe, Judged}
-use Rattle.analyse.specs.Step.{marked, words-of, Put, Part, Ran}
+use Rattle.analyse.specs.State.{cell, pack, opt-at, Words, State, Near, Safe, Low, Judged}
+use Rattle.analyse.specs.Step.{marked, words-of, Put, Good, Holds, Part, Ran}
 use Rattle.analyse.proofs.Marking.{last-more, opt-settle, settle-flags, settle-within}
 
 -- ---- seven words
@@ -66,6 +67,13 @@ words-keep {w} {w′} {p} {f} h s = record {
   written = h 6 (omega arith) ∙ s .written;
 }
 
+near-keep : {w w′ : List ℕ} {p : ℕ} → ((j : ℕ) → j < 10 → cell w′ p j ≡ cell w p j) → Near w p → Near w′ p
+near-keep {w} {w′} {p} h s = record {
+  org = subst (λ (n : ℕ). n < 10000) (sym (h 2 (omega arith))) (s .org);
+  wrote = subst (λ (n : ℕ). n ≤ 10000) (sym (h 4 (omega arith))) (s .wrote);
+  from = subst (λ (n : ℕ). (n ≤ 10000) ⊎ (n ≡ 4294967295)) (sym (h 5 (omega arith))) (s .from);
+}
+
 words-new : {w w′ : List ℕ} {p g : ℕ} {e : Effect} {b : Bool} {r : ℕ} {f : Fact} → Put w w′ p g e b r → Judged e f → b ≡ f .suspends → r ≡ getD (f .defs) 0 absent → Words w′ p f
 unfolding words-of
 words-new {w} {w′} {p} {g} {e} {b} {r} {f} u j s er = record {
@@ -98,7 +106,7 @@ flags-kept-by p i {xs} {ys} m k =
     (λ (h : length xs ≤ k). ap (λ (x : ℕ). x % 16) (List·getD-eq-default ys 0 (omega (arith, m .size)) ∙ sym (List·getD-eq-default xs 0 h))) (lt? k (length xs))
 
 module _ (recs : List ℕ) {regs w regs′ w′ : List ℕ} {g p R : ℕ} {e : Effect} {b : Bool} {r : ℕ} (ops : List ℕ) (safe : Safe R p regs w) (few : p + 1 < 1000) (room : p * 10 + 10 ≤ length w)
-    (u : Put w w′ p g e b r) (m : Written (marked p) (inst recs g) regs regs′) (near : e .org < 10000) where
+    (u : Put w w′ p g e b r) (m : Written (marked p) (inst recs g) regs regs′) (good : Good recs ops R g) (low : Low (inst recs g) e) where
   flags-kept : (k : ℕ) → getD regs′ k 0 % 16 ≡ getD regs k 0 % 16
   flags-kept = flags-kept-by p (inst recs g) m
 
@@ -127,10 +135,31 @@ module _ (recs : List ℕ) {regs w regs′ w′ : List ℕ} {g p R : ℕ} {e : E
       each = λ q h. at q h (ℕ-discrete q p);
     }
 
-  near-at : (q : ℕ) → q < p + 1 → Dec (q ≡ p) → cell w′ q 2 < 10000
+  near-new : Near w′ p
   unfolding words-of
-  near-at q h (yes z) = subst (λ (k : ℕ). cell w′ k 2 < 10000) (sym z) (subst (λ (n : ℕ). n < 10000) (sym (u .inside 2 (omega arith))) near)
-  near-at q h (no z) = subst (λ (n : ℕ). n < 10000) (sym (u .others q 2 z (omega arith))) (safe .near q (omega (arith, h, z)))
+  near-new = record {
+    org = subst (λ (n : ℕ). n < 10000) (sym (u .inside 2 (omega arith))) (low .org);
+    wrote = subst (λ (n : ℕ). n ≤ 10000) (sym (u .inside 4 (omega arith))) (low .wrote);
+    from = ⊎-elim (λ (l : e .from ≤ 10000). inl (subst (λ (n : ℕ). n ≤ 10000) (sym (u .inside 5 (omega arith))) l))
+        (λ (l : (e .from ≡ 4294967295) × (row (kind (inst recs g)) .arm ≡ cat)). inr (u .inside 5 (omega arith) ∙ l .0)) (low .from);
+  }
+
+  near-at : (q : ℕ) → q < p + 1 → Dec (q ≡ p) → Near w′ q
+  near-at q h (yes z) = subst (Near w′) (sym z) near-new
+  near-at q h (no z) = near-keep (λ j l. u .others q j z l) (safe .near q (omega (arith, h, z)))
+
+  holds-new : Holds recs ops R w′ p
+  unfolding words-of
+  holds-new =
+      let n : cell w′ p 0 ≡ g = u .inside 0 (omega arith) in
+      record {
+        good = subst (Good recs ops R) (sym n) good;
+        cat = λ q. subst (λ (k : ℕ). row (kind (inst recs k)) .arm ≡ cat) (sym n) (coded (low .from) (sym (u .inside 5 (omega arith)) ∙ q));
+      }
+    where
+      coded : (e .from ≤ 10000) ⊎ ((e .from ≡ 4294967295) × (row (kind (inst recs g)) .arm ≡ cat)) → e .from ≡ 4294967295 → row (kind (inst recs g)) .arm ≡ cat
+      coded (inl l) q = absurd (omega arith)
+      coded (inr l) q = l .1
 
   pub ran-one : b ≡ may-suspend (inst recs g) → r ≡ getD (writes (inst recs g)) 0 absent
       → ((G : Facts) (past : List Fact) → length past ≡ p → State G past R regs w → Judged e (fact G ops past (inst recs g))) → Ran recs ops regs w regs′ w′ p R (g ∷ [])
@@ -148,7 +177,8 @@ module _ (recs : List ℕ) {regs w regs′ w′ : List ℕ} {g p R : ℕ} {e : E
       near = λ q h. near-at q h (ℕ-discrete q p);
     };
     numbers = λ k h. let z : k ≡ 0 = omega arith in ap (λ (x : ℕ). cell w′ (p + x) 0) z ∙ ap (λ (x : ℕ). cell w′ x 0) (add-zero p) ∙ u .inside 0 (omega arith) ∙ ap (λ (x : ℕ). getD (g ∷ []) x 0) (sym z);
-    others = λ q h. u .others q 0 (λ e. omega arith) (omega arith);
+    holds = λ k h. let z : p + k ≡ p = omega arith in subst (Holds recs ops R w′) (sym z) holds-new;
+    others = λ q j h l. u .others q j (λ e. omega arith) l;
     state = λ G past el s. goes-on G past el s (j G past el s) eb er;
   }
 

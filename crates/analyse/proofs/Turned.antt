@@ -22,7 +22,8 @@ use Rattle.inst.specs.Constant.{bits-of, constant-of}
 use Rattle.inst.specs.Record.{Within}
 use Rattle.inst.proofs.Constants.{constant-by}
 use Rattle.analyse.specs.Written.{Fits}
-use Rattle.analyse.specs.Flags.{many, sole, Soles, num, flags-of, flags-in, sole-of, known-from, Found}
+use Rattle.effects.specs.Origin.{num}
+use Rattle.analyse.specs.Flags.{many, sole, Soles, flags-of, flags-in, sole-of, known-from, Found}
 use Rattle.analyse.proofs.Soles.{sole-writer, sole-small}
 
 -- ---- a constant

@@ -1,7 +1,7 @@
 -- The numbers of one position stand for its fact. Assumes nothing.
 use mathlib.Core.Bool.{Bool, true, false, cond, _||_}
 use mathlib.Core.List.{List, [], _∷_, map}
-use mathlib.Core.Logic.{inl, inr}
+use mathlib.Core.Logic.{inl, inr, ⊎-elim}
 use mathlib.Core.Option.{none}
 use mathlib.Core.Path.{_≡_, refl, sym, ap, _∙_}
 use Prim.Native.Nat.{ℕ, zero, suc, _≤_, _<_}
@@ -11,18 +11,18 @@ use native.Mathlib.Omega.{arith}
 use borrow.Author.Tests.{ne-eqb}
 use lib.Dec.{eqb}
 use lib.ListN.{getD, length, drop, List·getD-eq-default}
-use Rattle.model.specs.Kinds.{row}
+use Rattle.model.specs.Kinds.{row, cat}
 use Rattle.model.specs.Picture.{Inst, inst, absent, reads, kind}
 use Rattle.model.specs.Analyse as M
 use Rattle.model.specs.Analyse.{Facts, Fact, Org, Unknown, Read, unread, last-writer, org-of, len-of, is-layout, when-some, known-of, positive, arm, pieces, placed, movable, fact}
-use Rattle.inst.specs.Table.{packed}
+use Rattle.inst.specs.Table.{packed, arm-at}
 use Rattle.inst.specs.Table as T
 use Rattle.inst.proofs.Rows.{arm-back, quiet-is}
 use Rattle.effects.specs.Origin.{org-at, class-at, wrote-at, from-at}
 use Rattle.effects.specs.Arms.{does, three, three-tests, asked, Right}
 use Rattle.effects.specs.declared.arms.Effect.{Effect}
 use Rattle.effects.specs.declared.arms.Input.{Input}
-use Rattle.analyse.specs.State.{org-reg, len-reg, Reg?, Readable, Asked, Judged, fill-in}
+use Rattle.analyse.specs.State.{org-reg, len-reg, Reg?, Readable, Asked, Low, Judged, fill-in}
 use Rattle.analyse.proofs.Alike.{arm-ext}
 
 pub reads-reg : {recs ops : List ℕ} {R g : ℕ} → Readable recs ops R g → (k : ℕ) → Reg? R (getD (reads ops (inst recs g)) k absent)
@@ -59,6 +59,16 @@ module _ (e : Effect) (q n : Bool) where
   pub placed-unknown : e .wrote ≡ 0 → (eqb (e .class) 1 || e .barrier || q || n) ≡ false → wrote-at 1 ≡ fill-in (wrote-at (e .wrote)) (movable (class-at (e .class)) || e .barrier || q || n)
   unfolding wrote-at fill-in org-at
   placed-unknown z t = sym (ap (λ (k : ℕ). fill-in (wrote-at k) (movable (class-at (e .class)) || e .barrier || q || n)) z ∙ ap (fill-in none) (tested false t))
+
+-- ---- small numbers
+
+pub low-is : (i : Inst) {x : Input} {r : Effect} {v : ℕ} → Right r (T.arm (packed (kind i))) x → v ≤ 10000
+    → Low i (record { class = r .class; org = r .org; len = r .len; layout = r .layout; creates = r .creates; wrote = v; barrier = r .barrier; from = r .from })
+low-is i {x} {r} {v} t h = record {
+  org = t .near;
+  wrote = h;
+  from = ⊎-elim (λ (l : r .from ≤ 10000). inl l) (λ (z : (r .from ≡ 4294967295) × (arm-at (T.arm (packed (kind i))) ≡ cat)). inr (z .0, sym (arm-back (getD i 0 0)) ∙ z .1)) (t .from);
+}
 
 -- ---- what is read
 

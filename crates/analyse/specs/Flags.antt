@@ -1,6 +1,6 @@
 -- 01, "A round", the facts on registers: the only writer of a register as a number, and the facts as flags. Assumes nothing.
 use mathlib.Core.Path.{_≡_}
-use mathlib.Core.Bool.{Bool, true, false, cond}
+use mathlib.Core.Bool.{cond}
 use mathlib.Core.List.{List, map}
 use Prim.Native.Nat.{ℕ, zero, suc, _+_, _*_, _%_, _≤_, _<_}
 use lib.Dec.{eqb}
@@ -10,6 +10,7 @@ use Rattle.model.specs.Picture.{inst, writes}
 use Rattle.model.specs.Analyse.{Known, unknown, known, from-writers, Facts, known-of, when-some, small, positive}
 use Rattle.inst.specs.declared.constant.Constant.{Constant}
 use Rattle.inst.specs.declared.constant.Constant.the-variants.{Whole, Float, Nan, Not}
+use Rattle.effects.specs.Origin.{num}
 use Rattle.analyse.specs.Written.{settle}
 
 abbrev pub many : ℕ
@@ -29,10 +30,6 @@ pub record Soles (recs : List ℕ) (n K : ℕ) (words : List ℕ) : Type 0 where
   pub each : (r : ℕ) → r < K → getD words r 0 ≡ sole recs r n
 
 -- ---- flags
-
-unfoldable pub num : Bool → ℕ
-num true = 1
-num false = 0
 
 -- read-only 1, frame 2, a length 4, above zero 8
 unfoldable pub flags-of : Known → ℕ

@@ -7,15 +7,16 @@ use mathlib.Core.List.{List}
 use mathlib.Core.Option.{Option, none, some}
 use Prim.Native.Nat.{ℕ, zero, suc, _+_, _*_, _/_, _≤_, _<_}
 use lib.Dec.{eqb}
-use lib.ListN.{getD, length}
-use Rattle.model.specs.Picture.{Inst, inst, absent, reads}
+use lib.ListN.{getD, length, drop}
+use Rattle.model.specs.Kinds.{row, cat}
+use Rattle.model.specs.Picture.{Inst, inst, absent, kind, reads, list-of}
 use Rattle.model.specs.Analyse.{Facts, Fact, Org, Unknown, no-fact, last-writer, org-of, len-of, is-layout, when-some, known-of, positive, small, whole, sized}
 use Rattle.inst.specs.Record as I
 use Rattle.inst.specs.Record.{Listed}
-use Rattle.effects.specs.Origin.{org-at, class-at, wrote-at, from-at}
+use Rattle.effects.specs.Origin.{org-at, class-at, wrote-at, from-at, num}
 use Rattle.effects.specs.declared.arms.Input.{Input}
 use Rattle.effects.specs.declared.arms.Effect.{Effect}
-use Rattle.analyse.specs.Flags.{num, Seen}
+use Rattle.analyse.specs.Flags.{Seen}
 
 -- ---- words
 
@@ -47,6 +48,12 @@ pub record State (G : Facts) (past : List Fact) (R : ℕ) (regs w : List ℕ) : 
   pub writer : (r : ℕ) → r < R → opt-at (getD regs r 0 / 16) ≡ last-writer 0 past r
   pub each : (p : ℕ) → p < length past → Words w p (getD past p no-fact)
 
+-- the numbers of position p are small, but for the code of a Cat
+pub record Near (w : List ℕ) (p : ℕ) : Type 0 where
+  pub org : cell w p 2 < 10000
+  pub wrote : cell w p 4 ≤ 10000
+  pub from : (cell w p 5 ≤ 10000) ⊎ (cell w p 5 ≡ 4294967295)
+
 -- the sizes that the code needs, and no word points past the n positions so far
 pub record Safe (R n : ℕ) (regs w : List ℕ) : Type 0 where
   pub in-use : R ≤ length regs
@@ -54,7 +61,7 @@ pub record Safe (R n : ℕ) (regs w : List ℕ) : Type 0 where
   pub room : n * 10 ≤ length w
   pub few : n < 1000
   pub within : (r : ℕ) → r < R → getD regs r 0 / 16 ≤ n
-  pub near : (p : ℕ) → p < n → cell w p 2 < 10000
+  pub near : (p : ℕ) → p < n → Near w p
 
 -- ---- a register that is read
 
@@ -71,11 +78,12 @@ len-reg G past r = cond (eqb r absent) false (len-of G past (record { reg = r; w
 
 -- ---- an instruction
 
--- record g is whole, and reads registers below R
+-- record g is whole, and reads registers below R; a Cat's list comes after three of them
 pub record Readable (recs ops : List ℕ) (R g : ℕ) : Type 0 where
   pub whole : I.Known recs g
   pub listed : Listed recs ops g
   pub each : (k : ℕ) → k < length (reads ops (inst recs g)) → getD (reads ops (inst recs g)) k absent < R
+  pub three : row (kind (inst recs g)) .arm ≡ cat → drop 3 (reads ops (inst recs g)) ≡ list-of ops (inst recs g)
 
 -- x holds what instruction i asks, at the position after the past
 pub record Asked (G : Facts) (past : List Fact) (ops : List ℕ) (i : Inst) (x : Input) : Type 0 where
@@ -95,6 +103,12 @@ pub record Asked (G : Facts) (past : List Fact) (ops : List ℕ) (i : Inst) (x :
 -- what is not named writes memory nobody can place
 unfoldable pub fill-in : Option Org → Bool → Option Org
 fill-in o b = elim o [ some w ↦ some w | none ↦ cond b none (some Unknown) ]
+
+-- the numbers of e are small; the memory read is the code only for a Cat
+pub record Low (i : Inst) (e : Effect) : Type 0 where
+  pub org : e .org < 10000
+  pub wrote : e .wrote ≤ 10000
+  pub from : (e .from ≤ 10000) ⊎ ((e .from ≡ 4294967295) × (row (kind i) .arm ≡ cat))
 
 -- the struct e stands for the fact f
 pub record Judged (e : Effect) (f : Fact) : Type 0 where

@@ -5,7 +5,8 @@ use mathlib.Core.List.{List, [], _∷_, map}
 use Prim.Native.Nat.{ℕ, _+_, _*_, _-_, _%_, _≤_, _<_}
 use lib.ListN.{getD, length}
 use Rattle.words.specs.Lists.{range}
-use Rattle.model.specs.Picture.{Picture, inst}
+use Rattle.model.specs.Kinds.{row, cat}
+use Rattle.model.specs.Picture.{Picture, inst, kind}
 use Rattle.model.specs.Analyse.{Facts, Fact, analyse}
 use Rattle.model.specs.Move.{chain-places}
 use Rattle.inst.specs.Table.{rows}
@@ -48,6 +49,11 @@ pub record Good (recs ops : List ℕ) (R g : ℕ) : Type 0 where
   pub fits : Fits recs R g
   pub small : g < 32768
 
+-- position p holds such a record, and the code of a Cat only if that is one
+pub record Holds (recs ops : List ℕ) (R : ℕ) (w : List ℕ) (p : ℕ) : Type 0 where
+  pub good : Good recs ops R (cell w p 0)
+  pub cat : cell w p 5 ≡ 4294967295 → row (kind (inst recs (cell w p 0))) .arm ≡ cat
+
 -- the records from one up to another
 abbrev pub Part : ℕ → ℕ → List ℕ
 Part from past = range from (past - from)
@@ -59,7 +65,8 @@ pub record Ran (recs ops regs w regs′ w′ : List ℕ) (p R : ℕ) (places : L
   pub kept : (r : ℕ) → getD regs′ r 0 % 16 ≡ getD regs r 0 % 16
   pub safe : Safe R (p + length places) regs′ w′
   pub numbers : (k : ℕ) → k < length places → cell w′ (p + k) 0 ≡ getD places k 0
-  pub others : (q : ℕ) → q < p → cell w′ q 0 ≡ cell w q 0
+  pub holds : (k : ℕ) → k < length places → Holds recs ops R w′ (p + k)
+  pub others : (q j : ℕ) → q < p → j < 10 → cell w′ q j ≡ cell w q j
   pub state : (G : Facts) (past : List Fact) → length past ≡ p → State G past R regs w → State G (analyse G ops past (map (inst recs) places)) R regs′ w′
 
 -- the records of a part can be analysed, from position p on
@@ -89,6 +96,8 @@ pub record Analysed (recs ops regs w bounds : List ℕ) (c : Chain) (R p : ℕ) 
   pub size : length w′ ≡ length w
   pub kept : (r : ℕ) → getD regs′ r 0 % 16 ≡ getD regs r 0 % 16
   pub safe : Safe R p regs′ w′
+  pub short : p ≤ 800
+  pub holds : (k : ℕ) → k < p → Holds recs ops R w′ k
   pub positions : (P : Picture) → P .bounds ≡ bounds → p ≡ length (chain-places P (blocks-of c))
   pub numbers : (P : Picture) → P .bounds ≡ bounds → (k : ℕ) → k < p → cell w′ k 0 ≡ getD (chain-places P (blocks-of c)) k 0
   pub state : (P : Picture) → P .bounds ≡ bounds → (G : Facts) → Seen G R regs → State G (analyse G ops [] (map (inst recs) (chain-places P (blocks-of c)))) R regs′ w′

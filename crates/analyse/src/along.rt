@@ -17,7 +17,7 @@ ghost use Rattle.model.specs.Picture.{inst};
 ghost use Rattle.model.specs.Analyse.{may-suspend};
 ghost use Rattle.inst.specs.Table.{rows};
 ghost use Rattle.inst.specs.Record.{Within};
-ghost use Rattle.analyse.specs.Flags.{num};
+ghost use Rattle.effects.specs.Origin.{num};
 ghost use Rattle.analyse.specs.State.{pack, Safe};
 ghost use Rattle.analyse.specs.Step.{Put, Good, Part, Ran, RanPart, Ready, Analysed};
 

@@ -16,7 +16,8 @@ ghost use Rattle.model.specs.Analyse.{known, small, positive};
 ghost use Rattle.inst.specs.Table.{rows};
 ghost use Rattle.inst.specs.Record.{Within};
 ghost use Rattle.analyse.specs.Written.{put-in, Fits, Written};
-ghost use Rattle.analyse.specs.Flags.{noted, many, Soles, num, flags-of, flags-in, sole-of, Found};
+ghost use Rattle.effects.specs.Origin.{num};
+ghost use Rattle.analyse.specs.Flags.{noted, many, Soles, flags-of, flags-in, sole-of, Found};
 
 // A register.
 pub fn at(r: u32) -> usize

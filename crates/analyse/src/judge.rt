@@ -20,7 +20,7 @@ use inst::table::row;
 ghost use mathlib.Core.Path.{_≡_};
 ghost use mathlib.Core.Bool.{_||_};
 ghost use mathlib.Core.List.{List};
-ghost use Prim.Native.Nat.{_<_};
+ghost use Prim.Native.Nat.{_≤_};
 ghost use lib.ListN.{length};
 ghost use Rattle.model.specs.Picture.{inst};
 ghost use Rattle.model.specs.Analyse.{Facts, Fact, fact, movable, small, whole};
@@ -28,7 +28,7 @@ ghost use Rattle.inst.specs.Table.{rows};
 ghost use Rattle.inst.specs.Record.{Within};
 ghost use Rattle.effects.specs.Origin.{class-at, wrote-at};
 ghost use Rattle.effects.specs.Arms.{Small};
-ghost use Rattle.analyse.specs.State.{State, Safe, Readable, Asked, fill-in, Judged};
+ghost use Rattle.analyse.specs.State.{State, Safe, Readable, Asked, fill-in, Low, Judged};
 
 // Is record g's constant a length?
 fn holds_length(recs: &[u32], g: usize) -> bool
@@ -81,7 +81,7 @@ fn ask(
 
 // The memory written: what is not named writes memory nobody can place.
 fn placed(e: Effect, quiet: bool, native: bool) -> u32
-    ensures { λ r. ⌜ wrote-at r ≡ fill-in (wrote-at (e .wrote)) (movable (class-at (e .class)) || e .barrier || quiet || native) ⌝ }
+    ensures { λ r. ⌜ (wrote-at r ≡ fill-in (wrote-at (e .wrote)) (movable (class-at (e .class)) || e .barrier || quiet || native)) × (e .wrote ≤ 10000 → r ≤ 10000) ⌝ }
 {
     if e.wrote != 0 {
         return e.wrote;
@@ -104,7 +104,7 @@ pub fn judge(
     count: usize,
 ) -> Effect
     requires { ⌜ (now t ≡ rows) × Safe count p (now regs) (now w) × Readable (now recs) (now ops) count g ⌝ }
-    ensures { λ e. ⌜ (e .org < 10000) × ((G : Facts) (past : List Fact) → length past ≡ p → State G past count (now (regs .entry)) (now (w .entry)) → Judged e (fact G (now (ops .entry)) past (inst (now (recs .entry)) g))) ⌝ }
+    ensures { λ e. ⌜ Low (inst (now (recs .entry)) g) e × ((G : Facts) (past : List Fact) → length past ≡ p → State G past count (now (regs .entry)) (now (w .entry)) → Judged e (fact G (now (ops .entry)) past (inst (now (recs .entry)) g))) ⌝ }
 {
     let k = kind(recs, g);
     let x = row(t, k);

@@ -6,7 +6,7 @@ use mathlib.Core.Path.{_≡_, refl, sym, ap, _∙_, subst}
 use Prim.Native.Nat.{ℕ, zero, suc, _+_, _*_, _/_, _%_, _≤_}
 use native.Mathlib.Decide.{ℕ-discrete}
 use native.Mathlib.Omega.{arith}
-use borrow.Author.Tests.{eq-eqb, ne-eqb, le-leb}
+use borrow.Author.Tests.{eq-eqb, ne-eqb, eqb-true, le-leb}
 use lib.Dec.{eqb, leb}
 use Rattle.words.specs.Lists.{same}
 use Rattle.words.proofs.Bools.{true-T, both-true, clash}
@@ -81,6 +81,10 @@ same-at a b = go (ℕ-discrete a b)
     go : Dec (a ≡ b) → same-org (org-at a) (org-at b) ≡ eqb a b
     go (yes e) = ap (λ (x : ℕ). same-org (org-at x) (org-at b)) e ∙ same-refl (org-code (org-at b)) ∙ sym (eq-eqb a b e)
     go (no n) = by (same-org (org-at a) (org-at b)) refl n ∙ sym (ne-eqb a b n)
+
+-- memory that is Temp, by its number
+pub temp-number : (a k : ℕ) → org-at a ≡ Temp k → a ≡ 4 + 2 * k
+temp-number a k e = eqb-true a (4 + 2 * k) (sym (same-at a (4 + 2 * k)) ∙ ap (λ (o : Org). same-org o (org-at (4 + 2 * k))) (e ∙ sym (temp-at k)) ∙ same-at (4 + 2 * k) (4 + 2 * k) ∙ eq-eqb (4 + 2 * k) (4 + 2 * k) refl)
 
 -- ---- small steps
 

@@ -1,9 +1,11 @@
 -- An effect as a struct of numbers, and when it is what `model`'s `arm` says. Assumes nothing.
 use mathlib.Core.Bool.{Bool, false}
+use mathlib.Core.Logic.{_⊎_}
 use mathlib.Core.Path.{_≡_}
 use mathlib.Core.List.{List, [], _∷_}
-use Prim.Native.Nat.{ℕ, _<_}
+use Prim.Native.Nat.{ℕ, _≤_, _<_}
 use lib.ListN.{getD}
+use Rattle.model.specs.Kinds.{cat}
 use Rattle.model.specs.Picture.{Inst, form}
 use Rattle.model.specs.Analyse as M
 use Rattle.model.specs.Analyse.{Org, eff, arm, pieces, small, whole}
@@ -30,9 +32,11 @@ three-tests a b c k = getD (a ∷ b ∷ c ∷ []) k false
 unfoldable pub asked : Inst → ℕ → Input → List Org → M.Effect
 asked i a x list = arm i (x .p) (x .divisor) (three (x .o0) (x .o1) (x .o2)) (three-tests (x .l0) (x .l1) (x .l2)) (λ k. x .layout) list (arm-at a)
 
--- r is what `analyse` says of an instruction of arm number a
+-- r is what `analyse` says of an instruction of arm number a; its numbers are small, but for the code of a Cat
 pub record Right (r : Effect) (a : ℕ) (x : Input) : Type 0 where
   pub near : r .org < 10000
+  pub wrote : r .wrote ≤ 10000
+  pub from : (r .from ≤ 10000) ⊎ ((r .from ≡ 4294967295) × (arm-at a ≡ cat))
   pub right : (i : Inst) (list : List Org) → form i ≡ x .form → getD i 8 0 ≡ x .list → small (whole i) ≡ x .small → does r (pieces (getD i 9 0) list) ≡ asked i a x list
 
 -- positions and origins are small

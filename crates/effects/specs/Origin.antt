@@ -1,5 +1,5 @@
--- Origins, classes and memory as numbers: what each number stands for. Assumes nothing.
-use mathlib.Core.Bool.{cond}
+-- Origins, classes, memory and flags as numbers: what each number stands for. Assumes nothing.
+use mathlib.Core.Bool.{Bool, true, false, cond}
 use mathlib.Core.List.{List, [], _∷_}
 use mathlib.Core.Option.{Option, none, some}
 use Prim.Native.Nat.{ℕ, zero, suc, _/_, _%_}
@@ -28,3 +28,8 @@ wrote-at (suc n) = some (org-at n)
 unfoldable pub from-at : ℕ → List Org → List Org
 from-at zero cat = []
 from-at (suc n) cat = cond (eqb (suc n) 4294967295) cat (org-at n ∷ [])
+
+-- a flag
+unfoldable pub num : Bool → ℕ
+num true = 1
+num false = 0

@@ -10,7 +10,7 @@ use Rattle.words.specs.Lists.{all, mem, conj}
 use Rattle.words.proofs.Bools.{Hold, hold, conj-of, or-mono, and-mono, T-true, true-T, T-false, false-T, clash, bool?}
 use Rattle.words.proofs.Alls.{all-mono}
 use Rattle.legalset.specs.Chain.{View, writer}
-use Rattle.legalset.specs.Rules.{last-kept, when-in, own-memory, read-fine, org-fine, memory-fine, reads-ok, origins-ok, effects-ok, forward-ok, pending, backward-ok}
+use Rattle.legalset.specs.Rules.{last-kept, when-in, own-memory, read-fine, org-fine, still-fine, reads-ok, origins-ok, suspends-ok, memory-ok, own-ok, forward-ok, pending, backward-ok}
 use Rattle.legalset.specs.Marks.{_⊑_}
 use Rattle.legalset.proofs.Lasting.{kept-mono}
 use Rattle.legalset.proofs.Dropping.{Mono}
@@ -48,23 +48,30 @@ org-mono p a a′ b b′ c c′ o ha hb hc t =
       ),
     )
 
-memory-mono : (L B : ℕ → Bool) → L ⊑ B → (p a a′ b b′ : ℕ) (y : Bool) (o : ℕ) → a′ ≤ a → b′ ≤ b → T (memory-fine L p a b y o) → T (memory-fine B p a′ b′ y o)
-unfolding memory-fine
-memory-mono L B s p a a′ b b′ y o ha hb t =
-    let h = hold (leb a (p + 1) ∷ (leb b (p + 1) || (not y && eqb o 0)) ∷ own-memory L o ∷ []) t in
-    conj-of (leb a′ (p + 1) ∷ (leb b′ (p + 1) || (not y && eqb o 0)) ∷ own-memory B o ∷ [])
-    (leb-mono a a′ (p + 1) ha (h .0), (or-mono (leb b (p + 1)) (not y && eqb o 0) (leb b′ (p + 1)) (not y && eqb o 0) (leb-mono b b′ (p + 1) hb) (λ t. t) (h .1 .0), (own-mono L B s o (h .1 .1 .0), tt)))
+still-mono : (p b b′ : ℕ) (y : Bool) (o : ℕ) → b′ ≤ b → T (still-fine p b y o) → T (still-fine p b′ y o)
+unfolding still-fine
+still-mono p b b′ y o h = or-mono (leb b (p + 1)) (not y && eqb o 0) (leb b′ (p + 1)) (not y && eqb o 0) (leb-mono b b′ (p + 1) h) (λ t. t)
 
 module _ (C : View) (n : ℕ) where
+  origins-mono : (L A : ℕ → Bool) → L ⊑ A → (p : ℕ) → T (origins-ok C n L p) → T (origins-ok C n A p)
+  unfolding origins-ok
+  origins-mono L A s p = all-mono _ _ (λ o. org-mono p _ _ _ _ _ _ o (kept-mono L A _ n s) (kept-mono L A _ n s) (kept-mono L A _ n s)) (C .from p)
+
+  memory-mono : (L A : ℕ → Bool) → L ⊑ A → (p : ℕ) → T (memory-ok C n L p) → T (memory-ok C n A p)
+  unfolding memory-ok
+  memory-mono L A s p =
+      and-mono (still-fine p (last-kept L (C .barrier) n) (C .creates p) (C .wrote p)) (origins-ok C n L p) (still-fine p (last-kept A (C .barrier) n) (C .creates p) (C .wrote p)) (origins-ok C n A p)
+      (still-mono p (last-kept L (C .barrier) n) (last-kept A (C .barrier) n) (C .creates p) (C .wrote p) (kept-mono L A (C .barrier) n s)) (origins-mono L A s p)
+
   pub forward-mono : Mono (forward-ok C n)
-  unfolding forward-ok reads-ok origins-ok effects-ok
+  unfolding forward-ok reads-ok suspends-ok own-ok
   forward-mono L A B s z p t =
-      let h = hold (reads-ok C n L L p ∷ origins-ok C n L p ∷ effects-ok C n L L p ∷ []) t in
-      conj-of (reads-ok C n A B p ∷ origins-ok C n A p ∷ effects-ok C n A B p ∷ []) (
-        all-mono _ _ (λ r. read-mono L B z p (writer (C .defs) r p) (last-kept L (λ q. mem r (C .defs q)) n) (last-kept A (λ q. mem r (C .defs q)) n) (kept-mono L A _ n s)) (C .reads p) (h .0),
+      let h = hold (reads-ok C n L L p ∷ suspends-ok C n L p ∷ memory-ok C n L p ∷ own-ok C n L p ∷ []) t in
+      conj-of (reads-ok C n A B p ∷ suspends-ok C n A p ∷ memory-ok C n A p ∷ own-ok C n B p ∷ []) (
+        all-mono _ _ (λ r. read-mono L B z p _ _ _ (kept-mono L A _ n s)) (C .reads p) (h .0),
         (
-          all-mono _ _ (λ o. org-mono p _ _ _ _ _ _ o (kept-mono L A (C .barrier) n s) (kept-mono L A (λ q. eqb (C .wrote q) 1) n s) (kept-mono L A (λ q. eqb (C .wrote q) (o + 1)) n s)) (C .from p) (h .1 .0),
-          (memory-mono L B z p _ _ _ _ (C .creates p) (C .wrote p) (kept-mono L A (C .suspends) n s) (kept-mono L A (C .barrier) n s) (h .1 .1 .0), tt),
+          leb-mono _ _ (p + 1) (kept-mono L A _ n s) (h .1 .0),
+          (memory-mono L A s p (h .1 .1 .0), (own-mono L B z (C .wrote p) (h .1 .1 .1 .0), tt)),
         ),
       )
 

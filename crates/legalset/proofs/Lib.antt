@@ -1,8 +1,7 @@
 pub mod Dropping
 pub mod Lasting
-pub mod Origins
-pub mod Easier
 pub mod Pending
 pub mod Lawful
+pub mod Easier
 pub mod Settling
 pub mod Telling

@@ -8,17 +8,16 @@ use native.Mathlib.Omega.{arith}
 use borrow.Author.Tests.{lt-ltb, ltb-true}
 use lib.Dec.{T, ltb, ltb→lt, lt→ltb}
 use lib.ListN.{length}
-use Rattle.words.specs.Lists.{member}
-use Rattle.words.proofs.Bools.{T-true, true-T, both, left, right, bool-ext}
+use Rattle.words.specs.Lists.{member, conj}
+use Rattle.words.proofs.Bools.{T-true, true-T, both, left, right, hold, conj-of, bool-ext}
 use Rattle.model.specs.Analyse.{Fact, movable}
 use Rattle.model.specs.Legal.{fact-at, legal, greatest}
-use Rattle.laws.proofs.Rules.{legal→Legal, Legal→legal}
 use Rattle.laws.proofs.Greatest.{greatest-legal, greatest-most, greatest-movable}
 use Rattle.legalset.specs.Chain.{View, Stands}
-use Rattle.legalset.specs.Rules.{forward-ok, backward-ok, result-ok, cycle-ok, begins}
+use Rattle.legalset.specs.Rules.{reads-ok, suspends-ok, memory-ok, own-ok, forward-ok, backward-ok, result-ok, cycle-ok, begins}
 use Rattle.legalset.specs.Marks.{in-set, members, own, Passed, Settled, _⊑_}
 use Rattle.legalset.proofs.Easier.{behind}
-use Rattle.legalset.proofs.Lawful.{forward-of, backward-of, result-of, lawful}
+use Rattle.legalset.proofs.Lawful.{legal-is}
 
 -- a pass forward over the first m, then one backward over all n
 pub cycled : (C : View) (n m : ℕ) → m ≤ n → {S U W : List ℕ} {a b : ℕ} → Passed (own (forward-ok C n)) 0 m S U a → Passed (own (behind C n)) 0 n U W b → Passed (cycle-ok C n) 0 m S W (a + b)
@@ -59,9 +58,27 @@ module _ (ok : (ℕ → Bool) → ℕ → Bool) (m : ℕ) where
   settled i z = record { size = i .size; within = i .within; holds = i .holds; keeps = i .done z }
 
 module _ (C : View) (n : ℕ) (run : List Fact) (s : Stands C n run) (needed mv : ℕ → Bool) (m : ℕ) (h : m ≤ n) (class : (p : ℕ) → p < n → movable (fact-at run p .does .class) ≡ mv p) where
+  abbrev all-six : (ℕ → Bool) → ℕ → List Bool
+  all-six L p = backward-ok (C .defs) (C .reads) n L p ∷ result-ok C n needed p ∷ reads-ok C n L L p ∷ suspends-ok C n L p ∷ memory-ok C n L p ∷ own-ok C n L p ∷ []
+
+  abbrev four : (ℕ → Bool) → ℕ → List Bool
+  four L p = reads-ok C n L L p ∷ suspends-ok C n L p ∷ memory-ok C n L p ∷ own-ok C n L p ∷ []
+
+  six : (L : ℕ → Bool) (p : ℕ) → T (cycle-ok C n L p) → T (result-ok C n needed p) → T (conj (all-six L p))
+  unfolding cycle-ok forward-ok
+  six L p t r =
+      let f = hold (four L p) (left (forward-ok C n L L p) (backward-ok (C .defs) (C .reads) n L p) t) in
+      conj-of (all-six L p) (right (forward-ok C n L L p) (backward-ok (C .defs) (C .reads) n L p) t, (r, f))
+
+  of-six : (L : ℕ → Bool) (p : ℕ) → T (conj (all-six L p)) → T (cycle-ok C n L p) × T (result-ok C n needed p)
+  unfolding cycle-ok forward-ok
+  of-six L p t =
+      let z = hold (all-six L p) t in
+      (both (forward-ok C n L L p) (backward-ok (C .defs) (C .reads) n L p) (conj-of (four L p) (z .1 .1)) (z .0), z .1 .0)
+
   pub settled-greatest : {S U : List ℕ} → ((p : ℕ) → in-set S p ≡ begins C n mv m needed p) → Settled (cycle-ok C n) m S U → (p : ℕ) → in-set U p ≡ member (greatest run needed m) p
-  unfolding begins cycle-ok
-  settled-greatest {S} {U} b d p = bool-ext (in-set U p) (member (greatest run needed m) p) (greatest-most run needed m (in-set U) low moves legal-now p) (d .holds (member (greatest run needed m)) first ruled p)
+  unfolding begins
+  settled-greatest {S} {U} b d p = bool-ext (in-set U p) (member (greatest run needed m) p) (greatest-most run needed m (in-set U) low moves legal-now p) (d .holds (member (greatest run needed m)) first (λ q t. kept q t .0) p)
     where
       start : (p : ℕ) → T (in-set U p) → (p < m) × T (mv p) × T (result-ok C n needed p)
       start p t =
@@ -78,21 +95,13 @@ module _ (C : View) (n : ℕ) (run : List Fact) (s : Stands C n run) (needed mv 
       legal-now : (p : ℕ) → T (in-set U p) → T (legal run needed (in-set U) p)
       legal-now p t =
           let z = start p t in
-          let k = d .keeps p (z .0) t in
-          Legal→legal run needed (in-set U) p (lawful C n run s needed (in-set U) p (le-trans (z .0) h)
-          (left (forward-ok C n (in-set U) (in-set U) p) (backward-ok (C .defs) (C .reads) n (in-set U) p) k) (right (forward-ok C n (in-set U) (in-set U) p) (backward-ok (C .defs) (C .reads) n (in-set U) p) k) (z .2))
+          subst T (legal-is C n run s needed (in-set U) p (le-trans (z .0) h)) (six (in-set U) p (d .keeps p (z .0) t) (z .2))
+
+      -- what a member of the greatest set keeps
+      kept : (p : ℕ) → T (member (greatest run needed m) p) → T (cycle-ok C n (member (greatest run needed m)) p) × T (result-ok C n needed p)
+      kept p t = of-six (member (greatest run needed m)) p (subst T (sym (legal-is C n run s needed (member (greatest run needed m)) p (le-trans (greatest-movable run needed m p t .0) h))) (greatest-legal run needed m p t))
 
       first : member (greatest run needed m) ⊑ in-set S
       first p t =
           let z = greatest-movable run needed m p t in
-          let l = le-trans (z .0) h in
-          let r = legal→Legal run needed (member (greatest run needed m)) p (greatest-legal run needed m p t) in
-          subst T (sym (b p)) (both (ltb p m && mv p) (result-ok C n needed p) (both (ltb p m) (mv p) (lt→ltb p m (z .0)) (subst T (class p l) (z .1)))
-          (result-of C n run s needed (member (greatest run needed m)) p l r))
-
-      ruled : (p : ℕ) → T (member (greatest run needed m) p) → T (forward-ok C n (member (greatest run needed m)) (member (greatest run needed m)) p && backward-ok (C .defs) (C .reads) n (member (greatest run needed m)) p)
-      ruled p t =
-          let l = le-trans (greatest-movable run needed m p t .0) h in
-          let r = legal→Legal run needed (member (greatest run needed m)) p (greatest-legal run needed m p t) in
-          both (forward-ok C n (member (greatest run needed m)) (member (greatest run needed m)) p) (backward-ok (C .defs) (C .reads) n (member (greatest run needed m)) p)
-          (forward-of C n run s needed (member (greatest run needed m)) p l r) (backward-of C n run s needed (member (greatest run needed m)) p l r)
+          subst T (sym (b p)) (both (ltb p m && mv p) (result-ok C n needed p) (both (ltb p m) (mv p) (lt→ltb p m (z .0)) (subst T (class p (le-trans (z .0) h)) (z .1))) (kept p t .1))

@@ -8,7 +8,7 @@ use Prim.Native.Nat.{ℕ, zero, suc, _+_, _*_, _/_, _%_, _≤_, _<_}
 use native.Mathlib.Nat.{zero-add}
 use native.Mathlib.Omega.{arith}
 use lib.Dec.{eqb}
-use lib.ListN.{getD, length, take, drop, length-append}
+use lib.ListN.{getD, length, take, drop, length-append, length-map}
 use lib.Seq.{getD-take}
 use Rattle.words.proofs.Bools.{eq?}
 use Rattle.words.proofs.Lists.{map-map, map-ext, getD-map, length-made}
@@ -17,7 +17,8 @@ use Rattle.model.specs.Picture.{Inst, inst, kind, reads, list-of}
 use Rattle.model.specs.Analyse.{Facts, Known, Fact, Read, Org, Unknown, Ro, Frame, Effect, fact, analyse, no-fact, last-writer, org-of, len-of, known-of, pieces, arm, is-layout, when-some, positive, unread}
 use Rattle.model.specs.Legal.{fact-at}
 use Rattle.laws.proofs.Analysed.{analysed}
-use Rattle.legalset.specs.Chain.{org-at, wrote-at, from-at, cell, flag, num, reg-org, picked, origins, writer, defs-of, view, place-at, View, Stands, Told, Says, Heard}
+use Rattle.effects.specs.Origin.{org-at, from-at, num}
+use Rattle.legalset.specs.Chain.{cell, flag, reg-org, picked, origins, writer, defs-of, view, place-at, View, Stands, Told, Says, Heard}
 use Rattle.legalset.proofs.Lasting.{Wrote, writer-wrote, writer-is′}
 
 -- ---- flags
@@ -78,22 +79,18 @@ length-analyse G ops past (i ∷ is) =
     let k = length-append past (fact G ops past i ∷ []) in
     omega arith
 
-length-map : {A B : Type 0} (f : A → B) (xs : List A) → length (map f xs) ≡ length xs
-length-map f [] = refl
-length-map f (x ∷ xs) = ap suc (length-map f xs)
-
 module _ {G : Facts} {recs ops w regs places : List ℕ} {run : List Fact} (s : Heard G recs ops w regs places run) where
   abbrev n : ℕ
   n = length places
 
   long : length run ≡ n
-  long = ap length (s .is-run) ∙ length-analyse G ops [] (map (inst recs) places) ∙ zero-add (length (map (inst recs) places)) ∙ length-map (inst recs) places
+  long = ap length (s .is-run) ∙ length-analyse G ops [] (map (inst recs) places) ∙ zero-add (length (map (inst recs) places)) ∙ length-map places (inst recs)
 
   fact-is : (q : ℕ) → q < n → fact-at run q ≡ fact G ops (take q run) (inst recs (cell w q 0))
   fact-is q h =
       ap (λ (l : List Fact). getD l q no-fact) (s .is-run)
       ∙ ap (λ (k : ℕ). getD (analyse G ops [] (map (inst recs) places)) k no-fact) (sym (zero-add q))
-      ∙ analysed G ops [] (map (inst recs) places) q (subst (λ (k : ℕ). q < k) (sym (length-map (inst recs) places)) h)
+      ∙ analysed G ops [] (map (inst recs) places) q (subst (λ (k : ℕ). q < k) (sym (length-map places (inst recs))) h)
       ∙ ap₂ (λ (k : ℕ) (i : Inst). fact G ops (take k (analyse G ops [] (map (inst recs) places))) i) (zero-add q)
       (getD-map (inst recs) 0 [] places q h ∙ ap (inst recs) (sym (s .numbers q h)))
       ∙ ap (λ (l : List Fact). fact G ops (take q l) (inst recs (cell w q 0))) (sym (s .is-run))
@@ -132,9 +129,12 @@ module _ {G : Facts} {recs ops w regs places : List ℕ} {run : List Fact} (s : 
       plain : (cell w q 5 ≡ 4294967295 → ⊥) → fact-at run q .does .from ≡ map org-at (origins w regs ops i d (cell w q 5))
       plain k = sym (s .says q h .from k) ∙ go (cell w q 5) k
         where
-          go : (x : ℕ) → (x ≡ 4294967295 → ⊥) → from-at x ≡ map org-at (origins w regs ops i d x)
+          go : (x : ℕ) → (x ≡ 4294967295 → ⊥) → from-at x [] ≡ map org-at (origins w regs ops i d x)
           go zero k = refl
-          go (suc o) k = sym (ap (λ (b : Bool). map org-at (cond b (map (λ r. reg-org w regs r (d r)) (picked (getD i 9 0) (list-of ops i))) (o ∷ []))) (borrow.Author.Tests.ne-eqb (suc o) 4294967295 k))
+          go (suc o) k =
+              let e = borrow.Author.Tests.ne-eqb (suc o) 4294967295 k in
+              ap (λ (b : Bool). cond b [] (org-at o ∷ [])) e
+              ∙ sym (ap (λ (b : Bool). map org-at (cond b (map (λ r. reg-org w regs r (d r)) (picked (getD i 9 0) (list-of ops i))) (o ∷ []))) e)
 
       coded : cell w q 5 ≡ 4294967295 → fact-at run q .does .from ≡ map org-at (origins w regs ops i d (cell w q 5))
       coded k =

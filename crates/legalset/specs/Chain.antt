@@ -2,45 +2,21 @@
 -- `model`'s facts. Assumes nothing.
 use mathlib.Core.Path.{_≡_}
 use mathlib.Core.Logic.{_⊎_}
-use mathlib.Core.Bool.{Bool, true, false, cond}
+use mathlib.Core.Bool.{Bool, cond}
 use mathlib.Core.List.{List, [], _∷_, map}
 use mathlib.Core.Option.{Option, none, some}
-use Prim.Native.Nat.{ℕ, zero, suc, _+_, _*_, _-_, _/_, _%_, _≤_, _<_}
-use lib.Dec.{eqb, ltb}
+use Prim.Native.Nat.{ℕ, zero, suc, _+_, _*_, _/_, _%_, _≤_, _<_}
+use lib.Dec.{eqb}
 use lib.ListN.{getD, length, take, drop}
 use Rattle.words.specs.Lists.{mem}
 use Rattle.words.specs.Last.{last-below}
-use Rattle.model.specs.Kinds.{row, Row, cat}
+use Rattle.model.specs.Kinds.{row, cat}
 use Rattle.model.specs.Picture.{Inst, inst, absent, kind, reads, writes, list-of}
-use Rattle.model.specs.Analyse.{Org, Unknown, Ro, Heap, Frame, Temp, Img, Class, No, Movable, Free, Facts, Known, Fact, Read, last-writer, known-of, analyse}
+use Rattle.model.specs.Analyse.{Facts, Known, Fact, last-writer, known-of, analyse}
 use Rattle.model.specs.Legal.{fact-at}
+use Rattle.effects.specs.Origin.{org-at, class-at, wrote-at, from-at, num}
 use Rattle.inst.specs.Record as I
 use Rattle.inst.specs.Record.{Within, Listed, read-at, write-at}
-
--- ---- numbers
-
--- 0 Unknown, 1 Ro, 2 Heap, 3 Frame, 4 + 2 k Temp k, 5 + 2 k Img k
-unfoldable pub org-at : ℕ → Org
-org-at zero = Unknown
-org-at (suc zero) = Ro
-org-at (suc (suc zero)) = Heap
-org-at (suc (suc (suc zero))) = Frame
-org-at (suc (suc (suc (suc n)))) = cond (eqb (n % 2) 0) (Temp (n / 2)) (Img (n / 2))
-
-unfoldable pub class-at : ℕ → Class
-class-at zero = No
-class-at (suc zero) = Movable
-class-at (suc (suc n)) = Free
-
--- memory written: 0 none, or an origin's number and 1
-unfoldable pub wrote-at : ℕ → Option Org
-wrote-at zero = none
-wrote-at (suc n) = some (org-at n)
-
--- memory read: none, or an origin's number and 1
-unfoldable pub from-at : ℕ → List Org
-from-at zero = []
-from-at (suc n) = org-at n ∷ []
 
 -- a position and 1, or 0 for none
 unfoldable pub place-at : ℕ → Option ℕ
@@ -149,10 +125,6 @@ pub record Told (recs ops w regs : List ℕ) (n : ℕ) (run : List Fact) : Type 
 
 -- ---- what `analyse` says of the words, from which the above follows
 
-unfoldable pub num : Bool → ℕ
-num true = 1
-num false = 0
-
 -- the words of position p, record number g, stand for the fact f of instruction i; where word 5 is 4294967295, i is a Cat of three
 -- registers and a list
 pub record Says (w ops : List ℕ) (i : Inst) (p : ℕ) (f : Fact) : Type 0 where
@@ -160,7 +132,7 @@ pub record Says (w ops : List ℕ) (i : Inst) (p : ℕ) (f : Fact) : Type 0 wher
   pub org : org-at (cell w p 2) ≡ f .does .org
   pub flags : cell w p 3 ≡ num (f .does .len) + 2 * num (f .does .layout) + 4 * num (f .does .creates) + 8 * num (f .does .barrier) + 16 * num (f .suspends)
   pub wrote : wrote-at (cell w p 4) ≡ f .does .wrote
-  pub from : (cell w p 5 ≡ 4294967295 → ⊥) → from-at (cell w p 5) ≡ f .does .from
+  pub from : (cell w p 5 ≡ 4294967295 → ⊥) → from-at (cell w p 5) [] ≡ f .does .from
   pub cat : cell w p 5 ≡ 4294967295 → (row (kind i) .arm ≡ cat) × (drop 3 (reads ops i) ≡ list-of ops i)
 
 -- the chain's records, its facts, and the facts G of before round 1 in the registers' flags

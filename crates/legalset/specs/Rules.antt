@@ -31,9 +31,9 @@ read-fine L p d k = when-in L d || leb k (p + 1)
 unfoldable pub org-fine : ℕ → ℕ → ℕ → ℕ → ℕ → Bool
 org-fine p bar any own o = conj ((eqb o 1 || leb 3 o) ∷ (leb bar (p + 1) || eqb o 1) ∷ leb any (p + 1) ∷ (leb o 2 || leb own (p + 1)) ∷ [])
 
--- rule 4; rule 5 for what creates or writes; rule 6
-unfoldable pub memory-fine : (ℕ → Bool) → ℕ → ℕ → ℕ → Bool → ℕ → Bool
-memory-fine L p sus bar creates wrote = conj (leb sus (p + 1) ∷ (leb bar (p + 1) || (not creates && eqb wrote 0)) ∷ own-memory L wrote ∷ [])
+-- rule 5 for what p creates or writes: then no kept barrier after p
+unfoldable pub still-fine : ℕ → ℕ → Bool → ℕ → Bool
+still-fine p bar creates wrote = leb bar (p + 1) || (not creates && eqb wrote 0)
 
 -- ---- rule 1, over what the positions write and read
 
@@ -56,13 +56,21 @@ module _ (C : View) (n : ℕ) where
   origins-ok L₀ p =
       all (λ o. org-fine p (last-kept L₀ (C .barrier) n) (last-kept L₀ (λ q. eqb (C .wrote q) 1) n) (last-kept L₀ (λ q. eqb (C .wrote q) (o + 1)) n) o) (C .from p)
 
-  -- rules 4 and 6, and rule 5 for what p creates or writes
-  unfoldable pub effects-ok : (ℕ → Bool) → (ℕ → Bool) → ℕ → Bool
-  effects-ok L₀ L p = memory-fine L p (last-kept L₀ (C .suspends) n) (last-kept L₀ (C .barrier) n) (C .creates p) (C .wrote p)
+  -- rule 4
+  unfoldable pub suspends-ok : (ℕ → Bool) → ℕ → Bool
+  suspends-ok L₀ p = leb (last-kept L₀ (C .suspends) n) (p + 1)
+
+  -- rule 5
+  unfoldable pub memory-ok : (ℕ → Bool) → ℕ → Bool
+  memory-ok L₀ p = still-fine p (last-kept L₀ (C .barrier) n) (C .creates p) (C .wrote p) && origins-ok L₀ p
+
+  -- rule 6
+  unfoldable pub own-ok : (ℕ → Bool) → ℕ → Bool
+  own-ok L p = own-memory L (C .wrote p)
 
   -- rules 3 to 6
   unfoldable pub forward-ok : (ℕ → Bool) → (ℕ → Bool) → ℕ → Bool
-  forward-ok L₀ L p = conj (reads-ok L₀ L p ∷ origins-ok L₀ p ∷ effects-ok L₀ L p ∷ [])
+  forward-ok L₀ L p = conj (reads-ok L₀ L p ∷ suspends-ok L₀ p ∷ memory-ok L₀ p ∷ own-ok L p ∷ [])
 
   -- ---- rule 2: a register that p writes last in the chain is not needed
   unfoldable pub result-ok : (ℕ → Bool) → ℕ → Bool

@@ -2,23 +2,26 @@
 use mathlib.Core.Path.{_≡_, refl, sym, ap, _∙_, subst}
 use mathlib.Core.Bool.{Bool, true, false, not, _&&_}
 use mathlib.Core.List.{List, [], _∷_}
-use Prim.Native.Nat.{ℕ, zero, suc, _+_, _≤_, _<_}
+use Prim.Native.Nat.{ℕ, zero, suc, _+_, _*_, _-_, _≤_, _<_}
 use native.Mathlib.Omega.{arith}
 use mathlib.Core.Logic.{_⊎_, ⊎-elim}
 use borrow.Author.Tests.{le-ltb}
+use borrow.Rule.Slice.PartMut.{putMid, same-len-mid, mid-len, take-put, drop-put}
 use lib.Dec.{eqb, ltb}
-use lib.ListN.{getD, length}
+use lib.ListN.{getD, length, take, drop}
 use Rattle.words.specs.Lists.{hit, all, member, count}
 use Rattle.words.specs.Bits.{is-in}
 use Rattle.words.proofs.Bools.{lt?}
 use Rattle.model.specs.Analyse.{Fact, Class, movable}
 use Rattle.model.specs.Legal.{fact-at, greatest}
-use Rattle.legalset.specs.Chain.{cell, view, defs-of, writer, class-at, Safe, Stands, Told}
+use Rattle.effects.specs.Origin.{class-at}
+use Rattle.legalset.specs.Chain.{cell, view, defs-of, writer, Safe, Stands, Told}
 use Rattle.legalset.specs.Marks.{in-set, members, Settled}
 use Rattle.legalset.specs.Rules.{result-ok, cycle-ok, begins}
 use Rattle.legalset.proofs.Settling.{settled-greatest}
-use Rattle.plan.specs.Passes.{Row, Greatest, Set-up}
+use Rattle.plan.specs.Passes.{Row, Greatest, Set-up, Lent, Around}
 use Rattle.plan.proofs.Backing.{all-on, writes-low}
+use Rattle.plan.proofs.Summing.{safe-len}
 
 movable-is : (x : ℕ) → movable (class-at x) ≡ eqb x 1
 unfolding class-at
@@ -45,21 +48,43 @@ as-many (x ∷ S) (true ∷ G) h = let a = ap hit (h 0) in let b = as-many S G (
 as-many (x ∷ S) (false ∷ G) h = let a = ap hit (h 0) in let b = as-many S G (λ p. h (suc p)) in omega arith
 
 -- the row in place of the needs
-begins-row : (regs : List ℕ) {recs ops w row : List ℕ} {m n : ℕ} {needed : ℕ → Bool} → Safe recs ops w n (length regs) → m ≤ n → Row row (length regs) needed → (p : ℕ)
-    → begins (view recs ops w regs) n (λ q. eqb (cell w q 1) 1) m (is-in row) p ≡ begins (view recs ops w regs) n (λ q. eqb (cell w q 1) 1) m needed p
-unfolding begins result-ok
-begins-row regs {recs} {ops} {w} {row} {m} {n} {needed} s h k p = ⊎-elim
-    (λ (l : p < m). ap (λ (b : Bool). ltb p m && eqb (cell w p 1) 1 && b)
-    (all-on (λ r. not (is-in row r && eqb (writer (defs-of recs w) r n) (p + 1))) (λ r. not (needed r && eqb (writer (defs-of recs w) r n) (p + 1))) (defs-of recs w p)
-    (λ r i. ap (λ (y : Bool). not (y && eqb (writer (defs-of recs w) r n) (p + 1))) (k .each r (writes-low recs (length regs) (cell w p 0) (s .good p (omega arith) .fits) r i)))))
-    (λ (l : m ≤ p). ap (λ (b : Bool). b && eqb (cell w p 1) 1 && all (λ r. not (is-in row r && eqb (writer (defs-of recs w) r n) (p + 1))) (defs-of recs w p)) (le-ltb p m l)
-    ∙ sym (ap (λ (b : Bool). b && eqb (cell w p 1) 1 && all (λ r. not (needed r && eqb (writer (defs-of recs w) r n) (p + 1))) (defs-of recs w p)) (le-ltb p m l))) (lt? p m)
+pub results-row : (regs : List ℕ) {recs ops w bits : List ℕ} {o n p : ℕ} {needed : ℕ → Bool} → Safe recs ops w n (length regs) → p < n → Row bits o (length regs) needed
+    → result-ok (view recs ops w regs) n (λ r. is-in bits (64 * o + r)) p ≡ result-ok (view recs ops w regs) n needed p
+unfolding result-ok
+results-row regs {recs} {ops} {w} {bits} {o} {n} {p} {needed} s h k =
+    all-on (λ r. not (is-in bits (64 * o + r) && eqb (writer (defs-of recs w) r n) (p + 1))) (λ r. not (needed r && eqb (writer (defs-of recs w) r n) (p + 1))) (defs-of recs w p)
+    (λ r i. ap (λ (y : Bool). not (y && eqb (writer (defs-of recs w) r n) (p + 1))) (k .each r (writes-low recs (length regs) (cell w p 0) (s .good p h .fits) r i)))
 
-module _ {recs ops w : List ℕ} (regs row : List ℕ) {m n : ℕ} {S U : List ℕ} (s : Safe recs ops w n (length regs)) (h : m ≤ n)
-    (b : (p : ℕ) → in-set S p ≡ begins (view recs ops w regs) n (λ q. eqb (cell w q 1) 1) m (is-in row) p) (d : Settled (cycle-ok (view recs ops w regs) n) m S U) (e : length S ≡ 800) where
-  chosen-set : (run : List Fact) (needed : ℕ → Bool) → Told recs ops w regs n run → Row row (length regs) needed → (p : ℕ) → in-set U p ≡ member (greatest run needed m) p
+begins-row : (regs : List ℕ) {recs ops w bits : List ℕ} {o m n : ℕ} {needed : ℕ → Bool} → Safe recs ops w n (length regs) → m ≤ n → Row bits o (length regs) needed → (p : ℕ)
+    → begins (view recs ops w regs) n (λ q. eqb (cell w q 1) 1) m (λ r. is-in bits (64 * o + r)) p ≡ begins (view recs ops w regs) n (λ q. eqb (cell w q 1) 1) m needed p
+unfolding begins
+begins-row regs {recs} {ops} {w} {bits} {o} {m} {n} {needed} s h k p = ⊎-elim
+    (λ (l : p < m). ap (λ (b : Bool). ltb p m && eqb (cell w p 1) 1 && b) (results-row regs s (omega arith) k))
+    (λ (l : m ≤ p). ap (λ (b : Bool). b && eqb (cell w p 1) 1 && result-ok (view recs ops w regs) n (λ r. is-in bits (64 * o + r)) p) (le-ltb p m l)
+    ∙ sym (ap (λ (b : Bool). b && eqb (cell w p 1) 1 && result-ok (view recs ops w regs) n needed p) (le-ltb p m l))) (lt? p m)
+
+module _ {recs ops w : List ℕ} (regs bits : List ℕ) (o : ℕ) {m n : ℕ} {S U : List ℕ} (s : Safe recs ops w n (length regs)) (h : m ≤ n)
+    (b : (p : ℕ) → in-set S p ≡ begins (view recs ops w regs) n (λ q. eqb (cell w q 1) 1) m (λ r. is-in bits (64 * o + r)) p) (d : Settled (cycle-ok (view recs ops w regs) n) m S U) (e : length S ≡ 800) where
+  chosen-set : (run : List Fact) (needed : ℕ → Bool) → Told recs ops w regs n run → Row bits o (length regs) needed → (p : ℕ) → in-set U p ≡ member (greatest run needed m) p
   chosen-set run needed t k =
       settled-greatest (view recs ops w regs) n run (t .stands) needed (λ q. eqb (cell w q 1) 1) m h (λ p l. ap movable (t .class p l) ∙ movable-is (cell w p 1)) (λ p. b p ∙ begins-row regs s h k p) d
 
-  pub chosen : {r : ℕ} → r ≡ members U → Greatest recs ops w regs row U m n r
+  pub chosen : {r : ℕ} → r ≡ members U → Greatest recs ops w regs bits o U m n r
   chosen f = record { size = d .size ∙ e; set = chosen-set; count = λ run needed t k. f ∙ as-many U (greatest run needed m) (chosen-set run needed t k) }
+
+-- ---- the words of registers, lent as a part of the work
+
+pub lent-part : {recs ops w regs work marks marks′ : List ℕ} {o s m n : ℕ} → Lent recs ops w regs work marks o s m n → length marks′ ≡ 800 → Set-up recs ops w regs (take (s + length regs - s) (drop s work)) marks′ m n
+lent-part {regs = regs} {work = work} {s = s} h e =
+    let z : length (take (s + length regs - s) (drop s work)) ≡ length regs = mid-len s (s + length regs) work (h .room) ∙ omega arith in
+    record { safe = safe-len (h .safe) z; regs-size = sym z; in-x = h .in-x; marks-size = e }
+
+pub around : {recs ops w regs work marks : List ℕ} (ys : List ℕ) {o s m n : ℕ} → Lent recs ops w regs work marks o s m n → length ys ≡ length (take (s + length regs - s) (drop s work))
+    → Around s (length regs) work (putMid s (s + length regs - s) work ys)
+around {regs = regs} {work = work} ys {s = s} h e =
+    let r = h .room in
+    record {
+      size = same-len-mid s (s + length regs - s) work ys e;
+      below = take-put s (s + length regs - s) work ys (omega arith);
+      behind = drop-put s (s + length regs) work ys (omega arith) r (e ∙ mid-len s (s + length regs) work r);
+    }

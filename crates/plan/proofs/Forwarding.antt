@@ -6,7 +6,7 @@ use mathlib.Core.List.{List, [], _∷_, map}
 use Prim.Native.Nat.{ℕ, zero, suc, _+_, _*_, _-_, _/_, _%_, _≤_, _<_}
 use native.Mathlib.Numerals.{add-one}
 use native.Mathlib.Omega.{arith}
-use lib.Dec.{eqb}
+use lib.Dec.{eqb, leb}
 use lib.ListN.{getD, length, set}
 use Rattle.words.specs.Lists.{In, all, mem, conj, hit}
 use Rattle.words.specs.Last.{last-below}
@@ -14,11 +14,11 @@ use Rattle.words.proofs.Members.{in-map, map-on, in-index}
 use Rattle.model.specs.Picture.{Inst, inst, absent, reads, writes, list-of}
 use Rattle.legalset.specs.Chain.{View, view, cell, flag, defs-of, writer, reg-org, picked, origins, Good, Safe}
 use Rattle.legalset.specs.Marks.{in-set, members, sifted, lost, own, Passed}
-use Rattle.legalset.specs.Rules.{last-kept, read-fine, org-fine, memory-fine, reads-ok, origins-ok, effects-ok, forward-ok}
+use Rattle.legalset.specs.Rules.{last-kept, read-fine, org-fine, own-memory, still-fine, reads-ok, origins-ok, suspends-ok, memory-ok, own-ok, forward-ok}
 use Rattle.legalset.proofs.Lasting.{kept-low, writer-low, last-step}
 use Rattle.legalset.proofs.Dropping.{passed-none, passed-up}
 use Rattle.legalset.proofs.Easier.{forward-mono}
-use Rattle.plan.specs.Passes.{stamp, Stamped, Beside, Stamps, Writes, read-test, org-test, from-test, stay-test, Near, Forwarded, Summed}
+use Rattle.plan.specs.Passes.{stamp, Stamped, Beside, Stamps, Writes, read-test, org-test, from-test, memory-test, stay-test, Near, Forwarded, Summed}
 use Rattle.plan.proofs.Places.{Placed, reads-placed, read-low}
 
 all-on : {A : Type 0} (f g : A → Bool) (xs : List A) → ((a : A) → In a xs → f a ≡ g a) → all f xs ≡ all g xs
@@ -90,7 +90,7 @@ module _ (regs marks : List ℕ) {recs ops w : List ℕ} {n R p : ℕ} (s : Safe
       let f = s .few in
       omega arith
 
-  reads-are : all (read-test st marks p) (reads ops (inst recs (cell w p 0))) ≡ reads-ok (view recs ops w regs) n L₀ (in-set marks) p
+  pub reads-are : all (read-test st marks p) (reads ops (inst recs (cell w p 0))) ≡ reads-ok (view recs ops w regs) n L₀ (in-set marks) p
   unfolding read-test reads-ok
   reads-are = all-on (read-test st marks p) (λ r. read-fine (in-set marks) p (writer (defs-of recs w) r p) (last-kept L₀ (λ q. mem r (defs-of recs w q)) n)) (reads ops (inst recs (cell w p 0)))
       (λ r i. let l = reads-low recs ops R (cell w p 0) (s .good p h) r i in ap₂ (read-fine (in-set marks) p) (writer-at r l) (kept-at r l))
@@ -110,11 +110,19 @@ module _ (regs marks : List ℕ) {recs ops w : List ℕ} {n R p : ℕ} (s : Safe
           ap (λ (z : ℕ). org-fine p z (getD lasts 1 0) (getD lasts (o + 1) 0) o) eb
           ∙ ap₂ (λ (a b : ℕ). org-fine p (last-kept L₀ (flag w 8) n) a b o) (y .each 1 (omega arith) (omega arith)) (y .each (o + 1) (omega arith) (omega arith))
 
+  pub memory-are : memory-test recs ops w regs st lasts (cell w p 0) bar p ≡ memory-ok (view recs ops w regs) n L₀ p
+  unfolding memory-test memory-ok
+  memory-are = ap₂ (λ (a b : Bool). a && b) (ap (λ (z : ℕ). still-fine p z (flag w 4 p) (cell w p 4)) eb) froms-are
+
+  pub suspends-are : leb sus (p + 1) ≡ suspends-ok (view recs ops w regs) n L₀ p
+  unfolding suspends-ok
+  suspends-are = ap (λ (z : ℕ). leb z (p + 1)) es
+
   pub stay-is : stay-test recs ops w regs st lasts marks (cell w p 0) sus bar p ≡ forward-ok (view recs ops w regs) n L₀ (in-set marks) p
-  unfolding stay-test forward-ok effects-ok
+  unfolding stay-test forward-ok own-ok
   stay-is =
-      ap₂ (λ (a b : Bool). conj (a ∷ b ∷ memory-fine (in-set marks) p sus bar (flag w 4 p) (cell w p 4) ∷ [])) reads-are froms-are
-      ∙ ap₂ (λ (a b : ℕ). conj (reads-ok (view recs ops w regs) n L₀ (in-set marks) p ∷ origins-ok (view recs ops w regs) n L₀ p ∷ memory-fine (in-set marks) p a b (flag w 4 p) (cell w p 4) ∷ [])) es eb
+      ap₂ (λ (a b : Bool). conj (a ∷ leb sus (p + 1) ∷ b ∷ own-memory (in-set marks) (cell w p 4) ∷ [])) reads-are memory-are
+      ∙ ap (λ (a : Bool). conj (reads-ok (view recs ops w regs) n L₀ (in-set marks) p ∷ a ∷ memory-ok (view recs ops w regs) n L₀ p ∷ own-memory (in-set marks) (cell w p 4) ∷ [])) suspends-are
 
   pub near-is : Near w st n
   near-is = record {
@@ -147,11 +155,11 @@ pub record Going (recs ops w regs : List ℕ) (n p : ℕ) (st₀ marks₀ st mar
   pub stamps : Stamps (defs-of recs w) (in-set marks₀) n p st
   pub passed : Passed (own (forward-ok (view recs ops w regs) n)) 0 p marks₀ marks r
 
-pub going-none : {recs ops w regs : List ℕ} {n : ℕ} {st lasts marks : List ℕ} {sus bar : ℕ} → Summed recs ops w regs n st lasts marks sus bar → Going recs ops w regs n 0 st marks st marks 0
+pub going-none : {recs ops w regs : List ℕ} {n : ℕ} {st lasts marks : List ℕ} {sus bar : ℕ} → Summed recs ops w regs n 0 st lasts marks sus bar → Going recs ops w regs n 0 st marks st marks 0
 going-none {recs} {ops} {w} {regs} {n} {st} {lasts} {marks} s = record { size = refl; stamps = s .stamps; passed = passed-none (forward-ok (view recs ops w regs) n) 0 marks }
 
 pub going-more : {recs ops w regs : List ℕ} {n p : ℕ} {st₀ marks₀ st marks lasts st′ marks′ : List ℕ} {sus bar r d : ℕ} → Safe recs ops w n (length st₀) → p < n
-    → Summed recs ops w regs n st₀ lasts marks₀ sus bar → Going recs ops w regs n p st₀ marks₀ st marks r → Forwarded recs ops w regs lasts sus bar p st marks st′ marks′ d
+    → Summed recs ops w regs n 0 st₀ lasts marks₀ sus bar → Going recs ops w regs n p st₀ marks₀ st marks r → Forwarded recs ops w regs lasts sus bar p st marks st′ marks′ d
     → Going recs ops w regs n (p + 1) st₀ marks₀ st′ marks′ (r + d)
 going-more {recs} {ops} {w} {regs} {n} {marks = marks} s h z i f = record {
   size = f .stamped .size ∙ i .size;
@@ -160,7 +168,7 @@ going-more {recs} {ops} {w} {regs} {n} {marks = marks} s h z i f = record {
 }
 
 pub going-near : {recs ops w regs : List ℕ} {n p : ℕ} {st₀ marks₀ st marks lasts : List ℕ} {sus bar r : ℕ} → Safe recs ops w n (length st₀) → p < n
-    → Summed recs ops w regs n st₀ lasts marks₀ sus bar → Going recs ops w regs n p st₀ marks₀ st marks r → Near w st n
+    → Summed recs ops w regs n 0 st₀ lasts marks₀ sus bar → Going recs ops w regs n p st₀ marks₀ st marks r → Near w st n
 going-near {recs} {ops} {w} {regs} {marks = marks} s h z i = near-is regs marks s h (i .size) (i .stamps) (z .writes) (z .barrier) (z .suspension)
 
 pub going-end : {recs ops w regs : List ℕ} {n p m : ℕ} {st₀ marks₀ st marks : List ℕ} {r : ℕ} → Going recs ops w regs n p st₀ marks₀ st marks r → p ≤ m → m ≤ p

@@ -3,7 +3,7 @@ use mathlib.Core.Path.{_≡_, refl, sym, ap, ap₂, _∙_, subst}
 use mathlib.Core.Logic.{_⊎_, inl, inr, ⊎-elim}
 use mathlib.Core.Bool.{Bool, true, false, not, _&&_, _||_, cond}
 use mathlib.Core.List.{List, [], _∷_, _++_}
-use Prim.Native.Nat.{ℕ, zero, suc, _+_, _-_, _/_, _≤_, _<_, max}
+use Prim.Native.Nat.{ℕ, zero, suc, _+_, _*_, _-_, _/_, _≤_, _<_, max}
 use native.Mathlib.Nat.{zero-add}
 use native.Mathlib.Numerals.{add-one}
 use native.Mathlib.Omega.{arith}
@@ -75,14 +75,14 @@ module _ (C : View) (n : ℕ) (run : List Fact) (s : Stands C n run) (p : ℕ) w
 
 -- ---- past the end
 
-module _ (recs w regs there ls : List ℕ) (p n : ℕ) {g x : ℕ} {b : Bool} (e : x ≡ cell w p 0) (f : g ≡ x) (k : b ≡ all (result-test regs there p) (writes (inst recs g))) where
-  same : b ≡ all (result-test regs there p) (defs-of recs w p)
-  same = k ∙ ap (λ (y : ℕ). all (result-test regs there p) (writes (inst recs y))) (f ∙ e)
+module _ (recs w regs bits : List ℕ) (o : ℕ) (ls : List ℕ) (p n : ℕ) {g x : ℕ} {b : Bool} (e : x ≡ cell w p 0) (f : g ≡ x) (k : b ≡ all (result-test regs bits o p) (writes (inst recs g))) where
+  same : b ≡ all (result-test regs bits o p) (defs-of recs w p)
+  same = k ∙ ap (λ (y : ℕ). all (result-test regs bits o p) (writes (inst recs y))) (f ∙ e)
 
-  pub use-inside : b ≡ true → getD ls p 0 ≡ cond (all (result-test regs there p) (defs-of recs w p)) (getD ls p 0) n
+  pub use-inside : b ≡ true → getD ls p 0 ≡ cond (all (result-test regs bits o p) (defs-of recs w p)) (getD ls p 0) n
   use-inside t = ap (λ (y : Bool). cond y (getD ls p 0) n) (sym t ∙ same)
 
-  pub use-past : b ≡ false → n ≡ cond (all (result-test regs there p) (defs-of recs w p)) (getD ls p 0) n
+  pub use-past : b ≡ false → n ≡ cond (all (result-test regs bits o p) (defs-of recs w p)) (getD ls p 0) n
   use-past t = ap (λ (y : Bool). cond y (getD ls p 0) n) (sym t ∙ same)
 
 module _ (C : View) (n : ℕ) (run : List Fact) (s : Stands C n run) (p : ℕ) (h : p < n) where
@@ -101,13 +101,13 @@ module _ (C : View) (n : ℕ) (run : List Fact) (s : Stands C n run) (p : ℕ) (
       (λ q a b. let l = s .long in let m : q < n = omega arith in false-T (mem r (fact-at run q .defs)) (ap (mem r) (s .defs q m) ∙ w .none q a m)))
 
   -- `model`'s last use, by the last writers in the registers' words and a row of what the target reads
-  pub last-use-is : (regs row : List ℕ) (there : ℕ → Bool) → ((r : ℕ) → In r (C .defs p) → (getD regs r 0 / 16 ≡ writer (C .defs) r n) × (is-in row r ≡ there r))
-      → last-use run there p ≡ cond (all (result-test regs row p) (C .defs p)) (last-reader (C .defs) (C .reads) n p) n
+  pub last-use-is : (regs bits : List ℕ) (o : ℕ) (there : ℕ → Bool) → ((r : ℕ) → In r (C .defs p) → (getD regs r 0 / 16 ≡ writer (C .defs) r n) × (is-in bits (64 * o + r) ≡ there r))
+      → last-use run there p ≡ cond (all (result-test regs bits o p) (C .defs p)) (last-reader (C .defs) (C .reads) n p) n
   unfolding result-test
-  last-use-is regs row there k =
+  last-use-is regs bits o there k =
       ap (λ (b : Bool). elim b as (λ z. ℕ) [ true ↦ length run | false ↦ last-of run there p (upto (length run)) ])
       (ap (any (reaches run there p)) (s .defs p h) ∙ split (C .defs p) (λ r i. i))
-      ∙ go (all (result-test regs row p) (C .defs p))
+      ∙ go (all (result-test regs bits o p) (C .defs p))
     where
       one : (a b : Bool) → (a && b) ≡ not (not (a && b))
       one true true = refl
@@ -118,13 +118,13 @@ module _ (C : View) (n : ℕ) (run : List Fact) (s : Stands C n run) (p : ℕ) (
       two true b = refl
       two false b = refl
 
-      split : (xs : List ℕ) → ((r : ℕ) → In r xs → In r (C .defs p)) → any (reaches run there p) xs ≡ not (all (result-test regs row p) xs)
+      split : (xs : List ℕ) → ((r : ℕ) → In r xs → In r (C .defs p)) → any (reaches run there p) xs ≡ not (all (result-test regs bits o p) xs)
       split [] i = refl
       split (x ∷ xs) i =
           ap₂ (λ (a b : Bool). a || b)
-          (ap₂ (λ (a b : Bool). a && b) (sym (k x (i x (inl refl)) .1)) (last-is x (i x (inl refl)) ∙ ap (λ (y : ℕ). eqb y (p + 1)) (sym (k x (i x (inl refl)) .0))) ∙ one (is-in row x) (eqb (getD regs x 0 / 16) (p + 1)))
+          (ap₂ (λ (a b : Bool). a && b) (sym (k x (i x (inl refl)) .1)) (last-is x (i x (inl refl)) ∙ ap (λ (y : ℕ). eqb y (p + 1)) (sym (k x (i x (inl refl)) .0))) ∙ one (is-in bits (64 * o + x)) (eqb (getD regs x 0 / 16) (p + 1)))
           (split xs (λ r j. i r (inr j)))
-          ∙ two (not (is-in row x && eqb (getD regs x 0 / 16) (p + 1))) (all (result-test regs row p) xs)
+          ∙ two (not (is-in bits (64 * o + x) && eqb (getD regs x 0 / 16) (p + 1))) (all (result-test regs bits o p) xs)
 
       go : (b : Bool) → elim (not b) as (λ z. ℕ) [ true ↦ length run | false ↦ last-of run there p (upto (length run)) ] ≡ cond b (last-reader (C .defs) (C .reads) n p) n
       go true = ap (λ (m : ℕ). last-of run there p (upto m)) (s .long) ∙ last-of-is C n run s p there n (omega arith)

@@ -9,5 +9,7 @@ pub mod Backing
 pub mod Cycling
 pub mod Starting
 pub mod Chosen
+pub mod Six
 pub mod Using
 pub mod LastUse
+pub mod Heard

@@ -3,7 +3,7 @@ use mathlib.Core.Path.{_≡_, refl, sym, ap, ap₂, _∙_, subst}
 use mathlib.Core.Logic.{_⊎_, inl, inr, ⊎-elim}
 use mathlib.Core.Bool.{Bool, true, false, not, _&&_, _||_}
 use mathlib.Core.List.{List, [], _∷_}
-use Prim.Native.Nat.{ℕ, zero, suc, _+_, _-_, _/_, _≤_, _<_}
+use Prim.Native.Nat.{ℕ, zero, suc, _+_, _*_, _-_, _/_, _≤_, _<_}
 use native.Mathlib.Omega.{arith}
 use borrow.Author.Tests.{eq-eqb, ne-eqb, lt-ltb, le-ltb}
 use borrow.Author.Count.{below-more}
@@ -23,43 +23,48 @@ use Rattle.plan.proofs.Places.{all-placed, writes-placed}
 use Rattle.plan.proofs.Marking.{past-marks}
 use Rattle.plan.proofs.Backing.{all-on, writes-low}
 
-module _ (regs needed : List ℕ) (p r : ℕ) where
-  pub result-absent : r ≡ absent → true ≡ (eqb r absent || result-test regs needed p r)
-  result-absent e = sym (ap (λ (b : Bool). b || result-test regs needed p r) (eq-eqb r absent e))
+module _ (regs bits : List ℕ) (o p r : ℕ) where
+  pub result-absent : r ≡ absent → true ≡ (eqb r absent || result-test regs bits o p r)
+  result-absent e = sym (ap (λ (b : Bool). b || result-test regs bits o p r) (eq-eqb r absent e))
 
-  pub result-there : {k : ℕ} {b : Bool} → (r ≡ absent → ⊥) → k ≡ r → b ≡ is-in needed k → not (b && eqb (getD regs k 0 / 16) (p + 1)) ≡ (eqb r absent || result-test regs needed p r)
+  pub result-there : {k : ℕ} {b : Bool} → (r ≡ absent → ⊥) → k ≡ r → b ≡ is-in bits (64 * o + k) → not (b && eqb (getD regs k 0 / 16) (p + 1)) ≡ (eqb r absent || result-test regs bits o p r)
   unfolding result-test
   result-there {k} n e f =
-      ap (λ (x : Bool). not (x && eqb (getD regs k 0 / 16) (p + 1))) f ∙ ap (λ (j : ℕ). not (is-in needed j && eqb (getD regs j 0 / 16) (p + 1))) e
-      ∙ sym (ap (λ (b : Bool). b || not (is-in needed r && eqb (getD regs r 0 / 16) (p + 1))) (ne-eqb r absent n))
+      ap (λ (x : Bool). not (x && eqb (getD regs k 0 / 16) (p + 1))) f ∙ ap (λ (j : ℕ). not (is-in bits (64 * o + j) && eqb (getD regs j 0 / 16) (p + 1))) e
+      ∙ sym (ap (λ (b : Bool). b || not (is-in bits (64 * o + r) && eqb (getD regs r 0 / 16) (p + 1))) (ne-eqb r absent n))
 
 pub writes-tested : {recs : List ℕ} {R g : ℕ} (f : ℕ → Bool) → Fits recs R g → all (λ k. eqb (write-at (inst recs g) k) absent || f (write-at (inst recs g) k)) (upto 5) ≡ all f (writes (inst recs g))
 writes-tested {recs} {R} {g} f h = sym (all-placed (writes-placed recs g (h .within)) f)
 
-module _ (recs w regs needed : List ℕ) (m p : ℕ) where
-  pub begin-past : m ≤ p → false ≡ begin-test recs w regs needed m p
+module _ (recs w regs bits : List ℕ) (o m p : ℕ) where
+  pub begin-past : m ≤ p → false ≡ begin-test recs w regs bits o m p
   unfolding begin-test
-  begin-past h = sym (ap (λ (b : Bool). b && eqb (cell w p 1) 1 && all (result-test regs needed p) (defs-of recs w p)) (le-ltb p m h))
+  begin-past h = sym (ap (λ (b : Bool). b && eqb (cell w p 1) 1 && all (result-test regs bits o p) (defs-of recs w p)) (le-ltb p m h))
 
-  pub begin-fixed : {x : ℕ} → p < m → x ≡ cell w p 1 → (x ≡ 1 → ⊥) → false ≡ begin-test recs w regs needed m p
+  pub begin-fixed : {x : ℕ} → p < m → x ≡ cell w p 1 → (x ≡ 1 → ⊥) → false ≡ begin-test recs w regs bits o m p
   unfolding begin-test
-  begin-fixed h e n = sym (ap₂ (λ (a b : Bool). a && b && all (result-test regs needed p) (defs-of recs w p)) (lt-ltb p m h) (ne-eqb (cell w p 1) 1 (λ q. n (e ∙ q))))
+  begin-fixed h e n = sym (ap₂ (λ (a b : Bool). a && b && all (result-test regs bits o p) (defs-of recs w p)) (lt-ltb p m h) (ne-eqb (cell w p 1) 1 (λ q. n (e ∙ q))))
 
-  pub begin-may : {x g y : ℕ} {b : Bool} → p < m → x ≡ cell w p 1 → x ≡ 1 → y ≡ cell w p 0 → g ≡ y → b ≡ all (result-test regs needed p) (writes (inst recs g)) → b ≡ begin-test recs w regs needed m p
+  pub begin-may : {x g y : ℕ} {b : Bool} → p < m → x ≡ cell w p 1 → x ≡ 1 → y ≡ cell w p 0 → g ≡ y → b ≡ all (result-test regs bits o p) (writes (inst recs g)) → b ≡ begin-test recs w regs bits o m p
   unfolding begin-test
   begin-may h e n f k t =
-      t ∙ ap (λ (j : ℕ). all (result-test regs needed p) (writes (inst recs j))) (k ∙ f)
-      ∙ sym (ap₂ (λ (a b : Bool). a && b && all (result-test regs needed p) (defs-of recs w p)) (lt-ltb p m h) (eq-eqb (cell w p 1) 1 (sym e ∙ n)))
+      t ∙ ap (λ (j : ℕ). all (result-test regs bits o p) (writes (inst recs j))) (k ∙ f)
+      ∙ sym (ap₂ (λ (a b : Bool). a && b && all (result-test regs bits o p) (defs-of recs w p)) (lt-ltb p m h) (eq-eqb (cell w p 1) 1 (sym e ∙ n)))
 
-begins-is : (needed : List ℕ) {recs ops w regs : List ℕ} {m n : ℕ} → Safe recs ops w n (length regs) → m ≤ n → Ended recs w n regs → (p : ℕ)
-    → begin-test recs w regs needed m p ≡ begins (view recs ops w regs) n (λ q. eqb (cell w q 1) 1) m (is-in needed) p
-unfolding begin-test begins result-ok result-test
-begins-is needed {recs} {ops} {w} {regs} {m} {n} s h d p = ⊎-elim
-    (λ (l : p < m). ap (λ (b : Bool). ltb p m && eqb (cell w p 1) 1 && b)
-    (all-on (result-test regs needed p) (λ r. not (is-in needed r && eqb (writer (defs-of recs w) r n) (p + 1))) (defs-of recs w p)
-    (λ r i. ap (λ (y : ℕ). not (is-in needed r && eqb y (p + 1))) (d .each r (writes-low recs (length regs) (cell w p 0) (s .good p (omega arith) .fits) r i)))))
-    (λ (l : m ≤ p). ap (λ (b : Bool). b && eqb (cell w p 1) 1 && all (result-test regs needed p) (defs-of recs w p)) (le-ltb p m l)
-    ∙ sym (ap (λ (b : Bool). b && eqb (cell w p 1) 1 && all (λ r. not (is-in needed r && eqb (writer (defs-of recs w) r n) (p + 1))) (defs-of recs w p)) (le-ltb p m l))) (lt? p m)
+pub results-are : (bits : List ℕ) (o : ℕ) {recs ops w regs : List ℕ} {n p : ℕ} → Safe recs ops w n (length regs) → p < n → Ended recs w n regs
+    → all (result-test regs bits o p) (defs-of recs w p) ≡ result-ok (view recs ops w regs) n (λ r. is-in bits (64 * o + r)) p
+unfolding result-ok result-test
+results-are bits o {recs} {ops} {w} {regs} {n} {p} s h d =
+    all-on (result-test regs bits o p) (λ r. not (is-in bits (64 * o + r) && eqb (writer (defs-of recs w) r n) (p + 1))) (defs-of recs w p)
+    (λ r i. ap (λ (y : ℕ). not (is-in bits (64 * o + r) && eqb y (p + 1))) (d .each r (writes-low recs (length regs) (cell w p 0) (s .good p h .fits) r i)))
+
+begins-is : (bits : List ℕ) (o : ℕ) {recs ops w regs : List ℕ} {m n : ℕ} → Safe recs ops w n (length regs) → m ≤ n → Ended recs w n regs → (p : ℕ)
+    → begin-test recs w regs bits o m p ≡ begins (view recs ops w regs) n (λ q. eqb (cell w q 1) 1) m (λ r. is-in bits (64 * o + r)) p
+unfolding begin-test begins
+begins-is bits o {recs} {ops} {w} {regs} {m} {n} s h d p = ⊎-elim
+    (λ (l : p < m). ap (λ (b : Bool). ltb p m && eqb (cell w p 1) 1 && b) (results-are bits o s (omega arith) d))
+    (λ (l : m ≤ p). ap (λ (b : Bool). b && eqb (cell w p 1) 1 && all (result-test regs bits o p) (defs-of recs w p)) (le-ltb p m l)
+    ∙ sym (ap (λ (b : Bool). b && eqb (cell w p 1) 1 && result-ok (view recs ops w regs) n (λ r. is-in bits (64 * o + r)) p) (le-ltb p m l))) (lt? p m)
 
 -- ---- the marks
 
@@ -77,15 +82,15 @@ starting-more {f} {p} {x} {b} {marks} i h e k = record {
       (λ (y : q ≡ p → ⊥). getD-set-other marks p q x 0 y ∙ i .each q (omega arith)) (eq? q p);
 }
 
-pub starting-end : (needed : List ℕ) {recs ops w regs : List ℕ} {m n p : ℕ} {marks : List ℕ} → Safe recs ops w n (length regs) → m ≤ n → Ended recs w n regs → Starting (begin-test recs w regs needed m) p marks → 800 ≤ p
-    → (length marks ≡ 800) × ((q : ℕ) → in-set marks q ≡ begins (view recs ops w regs) n (λ q. eqb (cell w q 1) 1) m (is-in needed) q)
+pub starting-end : (bits : List ℕ) (o : ℕ) {recs ops w regs : List ℕ} {m n p : ℕ} {marks : List ℕ} → Safe recs ops w n (length regs) → m ≤ n → Ended recs w n regs → Starting (begin-test recs w regs bits o m) p marks → 800 ≤ p
+    → (length marks ≡ 800) × ((q : ℕ) → in-set marks q ≡ begins (view recs ops w regs) n (λ q. eqb (cell w q 1) 1) m (λ r. is-in bits (64 * o + r)) q)
 unfolding in-set
-starting-end needed {recs} {ops} {w} {regs} {m} {n} {p} {marks} s h d i l = (i .size, λ q. one q (lt? q 800) ∙ begins-is needed s h d q)
+starting-end bits o {recs} {ops} {w} {regs} {m} {n} {p} {marks} s h d i l = (i .size, λ q. one q (lt? q 800) ∙ begins-is bits o s h d q)
   where
     is : (b : Bool) → not (eqb (hit b) 0) ≡ b
     is true = refl
     is false = refl
 
-    one : (q : ℕ) → (q < 800) ⊎ (800 ≤ q) → in-set marks q ≡ begin-test recs w regs needed m q
-    one q (inl k) = ap (λ (x : ℕ). not (eqb x 0)) (i .each q (omega arith)) ∙ is (begin-test recs w regs needed m q)
-    one q (inr k) = let f = s .few in let z = i .size in sym (past-marks marks q (omega arith)) ∙ begin-past recs w regs needed m q (omega arith)
+    one : (q : ℕ) → (q < 800) ⊎ (800 ≤ q) → in-set marks q ≡ begin-test recs w regs bits o m q
+    one q (inl k) = ap (λ (x : ℕ). not (eqb x 0)) (i .each q (omega arith)) ∙ is (begin-test recs w regs bits o m q)
+    one q (inr k) = let f = s .few in let z = i .size in sym (past-marks marks q (omega arith)) ∙ begin-past recs w regs bits o m q (omega arith)

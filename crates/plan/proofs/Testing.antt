@@ -11,11 +11,12 @@ use lib.Dec.{eqb, leb}
 use lib.ListN.{getD, length, drop, drop-of-length-le}
 use lib.Seq.{drop-cons}
 use Rattle.words.specs.Lists.{upto, all, conj}
+use Rattle.words.proofs.Alls.{and-yes, and-nay}
 use Rattle.model.specs.Picture.{Inst, inst, absent, reads, list-of}
 use Rattle.legalset.specs.Chain.{cell, flag, reg-org, picked, origins, Good}
 use Rattle.legalset.specs.Marks.{in-set}
-use Rattle.legalset.specs.Rules.{when-in, own-memory, read-fine, org-fine, memory-fine}
-use Rattle.plan.specs.Passes.{read-place, read-test, place-test, org-test, piece-test, from-test, stay-test, Near}
+use Rattle.legalset.specs.Rules.{when-in, own-memory, read-fine, org-fine, still-fine}
+use Rattle.plan.specs.Passes.{read-place, read-test, place-test, org-test, piece-test, from-test, memory-test, stay-test, Near}
 use Rattle.inst.proofs.Lists.{getD-any}
 use Rattle.plan.proofs.Places.{Placed, all-placed, reads-placed}
 
@@ -162,7 +163,7 @@ module _ (w regs ops : List ℕ) (i : Inst) (st lasts : List ℕ) (bar p : ℕ) 
       ∙ sym (all-map (org-test lasts bar p) (λ r. reg-org w regs r (getD st r 0 / 1024)) (picked (getD i 9 0) (list-of ops i)))
       ∙ ap (λ (y : ℕ). all (org-test lasts bar p) (origins w regs ops i (λ r. getD st r 0 / 1024) y)) (sym z ∙ e)
 
--- ---- rules 4 and 6
+-- ---- rule 6, and rule 5 for what creates or writes
 
 module _ (L : ℕ → Bool) (o : ℕ) where
   pub own-none : o ≡ 0 → true ≡ own-memory L o
@@ -181,39 +182,39 @@ module _ (L : ℕ → Bool) (o : ℕ) where
   unfolding own-memory
   own-odd n h k e f = f ∙ ap L e ∙ sym (ap₂ (λ (a b : Bool). a || (b && eqb (o % 2) 1 && L ((o - 5) / 2))) (ne-eqb o 0 n) (le-leb 5 o h) ∙ ap (λ (b : Bool). b && L ((o - 5) / 2)) (eq-eqb (o % 2) 1 k))
 
-and3 : (a b c : Bool) → ((a && b) && c) ≡ conj (a ∷ b ∷ c ∷ [])
-and3 true true true = refl
-and3 true true false = refl
-and3 true false c = refl
-and3 false b c = refl
+pub still-is : (w : List ℕ) (p bar : ℕ) {f o : ℕ} → f ≡ cell w p 3 → o ≡ cell w p 4 → (leb bar (p + 1) || (not (eqb (f / 4 % 2) 1) && eqb o 0)) ≡ still-fine p bar (flag w 4 p) (cell w p 4)
+unfolding still-fine flag
+still-is w p bar e g = ap₂ (λ (x y : ℕ). leb bar (p + 1) || (not (eqb (x / 4 % 2) 1) && eqb y 0)) e g
 
-pub effects-are : (w : List ℕ) (L : ℕ → Bool) (p sus bar : ℕ) {f o : ℕ} {b : Bool} → f ≡ cell w p 3 → o ≡ cell w p 4 → b ≡ own-memory L o
-    → ((leb sus (p + 1) && (leb bar (p + 1) || (not (eqb (f / 4 % 2) 1) && eqb o 0))) && b) ≡ memory-fine L p sus bar (flag w 4 p) (cell w p 4)
-unfolding memory-fine flag
-effects-are w L p sus bar {f} {o} {b} e g h =
-    ap (λ (x : Bool). (leb sus (p + 1) && (leb bar (p + 1) || (not (eqb (f / 4 % 2) 1) && eqb o 0))) && x) h
-    ∙ and3 (leb sus (p + 1)) (leb bar (p + 1) || (not (eqb (f / 4 % 2) 1) && eqb o 0)) (own-memory L o)
-    ∙ ap₂ (λ (x y : ℕ). conj (leb sus (p + 1) ∷ (leb bar (p + 1) || (not (eqb (x / 4 % 2) 1) && eqb y 0)) ∷ own-memory L y ∷ [])) e g
+module _ (recs ops w regs st lasts : List ℕ) (g bar p : ℕ) {x : Bool} (e : x ≡ still-fine p bar (flag w 4 p) (cell w p 4)) where
+  pub memory-no : not x ≡ true → false ≡ memory-test recs ops w regs st lasts g bar p
+  unfolding memory-test
+  memory-no t = and-nay (from-test w regs ops (inst recs g) st lasts bar p) e (not-true x t)
+
+  pub memory-on : {y : Bool} → not x ≡ false → y ≡ from-test w regs ops (inst recs g) st lasts bar p → y ≡ memory-test recs ops w regs st lasts g bar p
+  unfolding memory-test
+  memory-on t f = and-yes e (not-false x t) f
 
 -- ---- all of them
 
-last-no : (a b : Bool) → false ≡ conj (a ∷ b ∷ false ∷ [])
-last-no true true = refl
-last-no true false = refl
-last-no false b = refl
+no-second : (a c d : Bool) → false ≡ conj (a ∷ false ∷ c ∷ d ∷ [])
+no-second true c d = refl
+no-second false c d = refl
 
-pub stay-effects : (a b : Bool) {c x : Bool} → x ≡ c → not x ≡ true → false ≡ conj (a ∷ b ∷ c ∷ [])
-stay-effects a b {c} {x} e t = last-no a b ∙ ap (λ (y : Bool). conj (a ∷ b ∷ y ∷ [])) (sym (not-true x t) ∙ e)
+no-last : (a b c : Bool) → false ≡ conj (a ∷ b ∷ c ∷ false ∷ [])
+no-last true true true = refl
+no-last true true false = refl
+no-last true false c = refl
+no-last false b c = refl
 
-pub stay-reads : {a : Bool} (b c : Bool) {x : Bool} → x ≡ a → not x ≡ true → false ≡ conj (a ∷ b ∷ c ∷ [])
-stay-reads {a} b c {x} e t = ap (λ (y : Bool). conj (y ∷ b ∷ c ∷ [])) (sym (not-true x t) ∙ e)
+no-third : (a b d : Bool) → false ≡ conj (a ∷ b ∷ false ∷ d ∷ [])
+no-third true true d = refl
+no-third true false d = refl
+no-third false b d = refl
 
-pub stay-froms : {a b c x y z : Bool} → x ≡ c → not x ≡ false → y ≡ a → not y ≡ false → z ≡ b → z ≡ conj (a ∷ b ∷ c ∷ [])
-stay-froms {a} {b} {c} {x} {y} {z} e t f u h = h ∙ end b ∙ ap₂ (λ (k m : Bool). conj (k ∷ b ∷ m ∷ [])) (sym (not-false y u) ∙ f) (sym (not-false x t) ∙ e)
-  where
-    end : (b : Bool) → b ≡ conj (true ∷ b ∷ true ∷ [])
-    end true = refl
-    end false = refl
+only-first : (a : Bool) → a ≡ conj (a ∷ true ∷ true ∷ true ∷ [])
+only-first true = refl
+only-first false = refl
 
 -- ---- sizes
 
@@ -227,13 +228,33 @@ list-low {recs} {ops} {R} {g} {xs} h e k l =
     subst (λ (x : ℕ). x < R) (sym (ap (λ (y : List ℕ). getD y k 0) e ∙ getD-any (list-of ops (inst recs g)) k 0 absent m)) (h .list k m)
 
 module _ (recs ops w regs st lasts marks : List ℕ) (g sus bar p : ℕ) where
-  pub no-effects : {x : Bool} → x ≡ memory-fine (in-set marks) p sus bar (flag w 4 p) (cell w p 4) → not x ≡ true → false ≡ stay-test recs ops w regs st lasts marks g sus bar p
-  unfolding stay-test
-  no-effects e t = stay-effects (all (read-test st marks p) (reads ops (inst recs g))) (from-test w regs ops (inst recs g) st lasts bar p) e t
+  abbrev three : Bool
+  three = all (read-test st marks p) (reads ops (inst recs g))
 
-  pub no-reads : {x : Bool} → x ≡ all (read-test st marks p) (reads ops (inst recs g)) → not x ≡ true → false ≡ stay-test recs ops w regs st lasts marks g sus bar p
+  abbrev five : Bool
+  five = memory-test recs ops w regs st lasts g bar p
+
+  abbrev six : Bool
+  six = own-memory (in-set marks) (cell w p 4)
+
+  pub no-rule4 : {x : Bool} → x ≡ leb sus (p + 1) → not x ≡ true → false ≡ stay-test recs ops w regs st lasts marks g sus bar p
   unfolding stay-test
-  no-reads e t = stay-reads (from-test w regs ops (inst recs g) st lasts bar p) (memory-fine (in-set marks) p sus bar (flag w 4 p) (cell w p 4)) e t
+  no-rule4 {x} e t = no-second three five six ∙ ap (λ (y : Bool). conj (three ∷ y ∷ five ∷ six ∷ [])) (sym (not-true x t) ∙ e)
+
+  pub no-rule6 : {x : Bool} → x ≡ six → not x ≡ true → false ≡ stay-test recs ops w regs st lasts marks g sus bar p
+  unfolding stay-test
+  no-rule6 {x} e t = no-last three (leb sus (p + 1)) five ∙ ap (λ (y : Bool). conj (three ∷ leb sus (p + 1) ∷ five ∷ y ∷ [])) (sym (not-true x t) ∙ e)
+
+  pub no-rule5 : {x : Bool} → x ≡ five → not x ≡ true → false ≡ stay-test recs ops w regs st lasts marks g sus bar p
+  unfolding stay-test
+  no-rule5 {x} e t = no-third three (leb sus (p + 1)) six ∙ ap (λ (y : Bool). conj (three ∷ leb sus (p + 1) ∷ y ∷ six ∷ [])) (sym (not-true x t) ∙ e)
+
+  pub by-rule3 : {x y z v : Bool} → x ≡ leb sus (p + 1) → not x ≡ false → y ≡ six → not y ≡ false → z ≡ five → not z ≡ false → v ≡ three → v ≡ stay-test recs ops w regs st lasts marks g sus bar p
+  unfolding stay-test
+  by-rule3 {x} {y} {z} e a f b k d m =
+      m ∙ only-first three
+      ∙ ap₂ (λ (i j : Bool). conj (three ∷ i ∷ j ∷ true ∷ [])) (sym (not-false x a) ∙ e) (sym (not-false z d) ∙ k)
+      ∙ ap (λ (j : Bool). conj (three ∷ leb sus (p + 1) ∷ five ∷ j ∷ [])) (sym (not-false y b) ∙ f)
 
   pub skipped : {x : Bool} → x ≡ in-set marks p → not x ≡ true → true ≡ (not (in-set marks p) || stay-test recs ops w regs st lasts marks g sus bar p)
   skipped {x} e t = sym (ap (λ (y : Bool). not y || stay-test recs ops w regs st lasts marks g sus bar p) (sym e ∙ not-true x t))

@@ -3,8 +3,8 @@ use mathlib.Core.Path.{_≡_}
 use mathlib.Core.Bool.{Bool, true, false, not, _&&_, _||_, cond}
 use mathlib.Core.List.{List, [], _∷_}
 use Prim.Native.Nat.{ℕ, zero, suc, _+_, _*_, _-_, _/_, _%_, _≤_, _<_}
-use lib.Dec.{eqb, ltb}
-use lib.ListN.{getD, length, set}
+use lib.Dec.{eqb, leb, ltb}
+use lib.ListN.{getD, length, set, take, drop}
 use Rattle.words.specs.Lists.{mem, hit, all, conj, member, count}
 use Rattle.words.specs.Bits.{is-in}
 use Rattle.model.specs.Picture.{Inst, inst, absent, reads, writes, list-of}
@@ -13,7 +13,7 @@ use Rattle.model.specs.Legal.{greatest}
 use Rattle.inst.specs.Record.{read-at}
 use Rattle.legalset.specs.Chain.{writer, cell, flag, defs-of, origins, reg-org, Safe, Told}
 use Rattle.legalset.specs.Marks.{in-set, sifted, lost}
-use Rattle.legalset.specs.Rules.{last-kept, read-fine, org-fine, memory-fine, pending}
+use Rattle.legalset.specs.Rules.{last-kept, read-fine, org-fine, own-memory, still-fine, pending}
 
 -- read k: slots 0 to 4, then the list; absent where there is none
 unfoldable pub read-place : List ℕ → Inst → ℕ → ℕ
@@ -91,10 +91,14 @@ pub record Near (w st : List ℕ) (n : ℕ) : Type 0 where
   pub writer : (r : ℕ) → r < length st → getD st r 0 / 1024 ≤ n
   pub org : (p : ℕ) → p < n → cell w p 2 < 10000
 
+-- rule 5 for position p, record g
+unfoldable pub memory-test : List ℕ → List ℕ → List ℕ → List ℕ → List ℕ → List ℕ → ℕ → ℕ → ℕ → Bool
+memory-test recs ops w regs st lasts g bar p = still-fine p bar (flag w 4 p) (cell w p 4) && from-test w regs ops (inst recs g) st lasts bar p
+
 -- rules 3 to 6 for position p, record g
 unfoldable pub stay-test : List ℕ → List ℕ → List ℕ → List ℕ → List ℕ → List ℕ → List ℕ → ℕ → ℕ → ℕ → ℕ → Bool
 stay-test recs ops w regs st lasts marks g sus bar p =
-    conj (all (read-test st marks p) (reads ops (inst recs g)) ∷ from-test w regs ops (inst recs g) st lasts bar p ∷ memory-fine (in-set marks) p sus bar (flag w 4 p) (cell w p 4) ∷ [])
+    conj (all (read-test st marks p) (reads ops (inst recs g)) ∷ leb sus (p + 1) ∷ memory-test recs ops w regs st lasts g bar p ∷ own-memory (in-set marks) (cell w p 4) ∷ [])
 
 -- position p was looked at: st and marks after those before
 pub record Forwarded (recs ops w regs lasts : List ℕ) (sus bar p : ℕ) (st marks st′ marks′ : List ℕ) (r : ℕ) : Type 0 where
@@ -102,9 +106,9 @@ pub record Forwarded (recs ops w regs lasts : List ℕ) (sus bar p : ℕ) (st ma
   pub sifts : marks′ ≡ sifted marks p (stay-test recs ops w regs st lasts marks (cell w p 0) sus bar p)
   pub loses : r ≡ lost marks p (stay-test recs ops w regs st lasts marks (cell w p 0) sus bar p)
 
--- what the forward pass starts from: the summary of the marks
-pub record Summed (recs ops w regs : List ℕ) (n : ℕ) (st lasts marks : List ℕ) (sus bar : ℕ) : Type 0 where
-  pub stamps : Stamps (defs-of recs w) (in-set marks) n 0 st
+-- the summary of the marks, with the writers before p
+pub record Summed (recs ops w regs : List ℕ) (n p : ℕ) (st lasts marks : List ℕ) (sus bar : ℕ) : Type 0 where
+  pub stamps : Stamps (defs-of recs w) (in-set marks) n p st
   pub writes : Writes (λ q. cell w q 4) (in-set marks) n lasts
   pub barrier : bar ≡ last-kept (in-set marks) (flag w 8) n
   pub suspension : sus ≡ last-kept (in-set marks) (flag w 16) n
@@ -134,20 +138,34 @@ pub record Set-up (recs ops w regs st marks : List ℕ) (m n : ℕ) : Type 0 whe
 pub record Ended (recs w : List ℕ) (n : ℕ) (regs : List ℕ) : Type 0 where
   pub each : (r : ℕ) → r < length regs → getD regs r 0 / 16 ≡ writer (defs-of recs w) r n
 
--- rule 2 for a register that p writes
-unfoldable pub result-test : List ℕ → List ℕ → ℕ → ℕ → Bool
-result-test regs needed p r = not (is-in needed r && eqb (getD regs r 0 / 16) (p + 1))
+-- rule 2 for a register that p writes; the row of registers needed begins at word o of bits
+unfoldable pub result-test : List ℕ → List ℕ → ℕ → ℕ → ℕ → Bool
+result-test regs bits o p r = not (is-in bits (64 * o + r) && eqb (getD regs r 0 / 16) (p + 1))
 
 -- the positions to begin with, by the words
-unfoldable pub begin-test : List ℕ → List ℕ → List ℕ → List ℕ → ℕ → ℕ → Bool
-begin-test recs w regs needed m p = ltb p m && eqb (cell w p 1) 1 && all (result-test regs needed p) (defs-of recs w p)
+unfoldable pub begin-test : List ℕ → List ℕ → List ℕ → List ℕ → ℕ → ℕ → ℕ → Bool
+begin-test recs w regs bits o m p = ltb p m && eqb (cell w p 1) 1 && all (result-test regs bits o p) (defs-of recs w p)
 
--- the row stands for the registers needed elsewhere
-pub record Row (row : List ℕ) (R : ℕ) (needed : ℕ → Bool) : Type 0 where
-  pub each : (r : ℕ) → r < R → is-in row r ≡ needed r
+-- the row that begins at word o of bits stands for the registers needed elsewhere
+pub record Row (bits : List ℕ) (o R : ℕ) (needed : ℕ → Bool) : Type 0 where
+  pub each : (r : ℕ) → r < R → is-in bits (64 * o + r) ≡ needed r
+
+-- the words of n positions, the first m in x; of work, a row from word o on and the words from s on, one a register; and marks
+pub record Lent (recs ops w regs work marks : List ℕ) (o s m n : ℕ) : Type 0 where
+  pub safe : Safe recs ops w n (length regs)
+  pub in-x : m ≤ n
+  pub marks-size : length marks ≡ 800
+  pub row-room : o ≤ length work
+  pub room : s + length regs ≤ length work
+
+-- all but the k words from s on is as it was
+pub record Around (s k : ℕ) (before after : List ℕ) : Type 0 where
+  pub size : length after ≡ length before
+  pub below : take s after ≡ take s before
+  pub behind : drop (s + k) after ≡ drop (s + k) before
 
 -- the marks are `model`'s greatest legal set, of r members, for whatever run and needs the words stand for
-pub record Greatest (recs ops w regs row marks : List ℕ) (m n r : ℕ) : Type 0 where
+pub record Greatest (recs ops w regs bits : List ℕ) (o : ℕ) (marks : List ℕ) (m n r : ℕ) : Type 0 where
   pub size : length marks ≡ 800
-  pub set : (run : List Fact) (needed : ℕ → Bool) → Told recs ops w regs n run → Row row (length regs) needed → (p : ℕ) → in-set marks p ≡ member (greatest run needed m) p
-  pub count : (run : List Fact) (needed : ℕ → Bool) → Told recs ops w regs n run → Row row (length regs) needed → r ≡ count (greatest run needed m)
+  pub set : (run : List Fact) (needed : ℕ → Bool) → Told recs ops w regs n run → Row bits o (length regs) needed → (p : ℕ) → in-set marks p ≡ member (greatest run needed m) p
+  pub count : (run : List Fact) (needed : ℕ → Bool) → Told recs ops w regs n run → Row bits o (length regs) needed → r ≡ count (greatest run needed m)

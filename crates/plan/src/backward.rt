@@ -3,50 +3,19 @@
 use crate::chain::cell_at;
 use crate::marks::drop_unless;
 use crate::marks::marked;
+use crate::rules::rule1;
 use crate::stamps::put_reads;
 use crate::stamps::put_writes;
 ghost use mathlib.Core.Path.{_≡_};
-ghost use mathlib.Core.Logic.{_⊎_};
-ghost use mathlib.Core.Bool.{_||_};
-ghost use Prim.Native.Nat.{_<_, _≤_};
-ghost use lib.Dec.{eqb};
-ghost use lib.ListN.{length, getD, replicate};
-ghost use Rattle.words.specs.Lists.{all};
-ghost use Rattle.model.specs.Picture.{inst, absent, reads, writes};
+ghost use Prim.Native.Nat.{_<_};
+ghost use lib.ListN.{length, replicate};
+ghost use Rattle.model.specs.Picture.{inst, reads};
 ghost use Rattle.inst.specs.Table.{rows};
 ghost use Rattle.inst.specs.Record.{Used};
-ghost use Rattle.legalset.specs.Chain.{defs-of, reads-of, Fits, Good, Safe};
+ghost use Rattle.legalset.specs.Chain.{defs-of, reads-of, Good, Safe};
 ghost use Rattle.legalset.specs.Marks.{in-set, Passed};
 ghost use Rattle.legalset.specs.Rules.{backward-ok};
 ghost use Rattle.plan.specs.Passes.{Awaited, Backed};
-
-// Is register r, if it is one, not awaited?
-fn free(st: &[u64], r: u32) -> bool
-    requires { ⌜ (r ≡ absent) ⊎ (r < length (now st)) ⌝ }
-    ensures { λ b. ⌜ b ≡ (eqb r absent || eqb (getD (now (st .entry)) r 0) 0) ⌝ }
-{
-    if r == 4294967295 {
-        return true;
-    }
-    let k = inst::record::wide(r);
-    st[k] == 0
-}
-
-// Is nothing awaited that record g writes?
-fn all_free(recs: &[u32], g: usize, uses: u32, st: &[u64]) -> bool
-    requires { ⌜ Used (now recs) g uses × Fits (now recs) (length (now st)) g ⌝ }
-    ensures { λ b. ⌜ b ≡ all (λ x. eqb (getD (now (st .entry)) x 0) 0) (writes (inst (now (recs .entry)) g)) ⌝ }
-{
-    let mut s = 0usize;
-    while s < 5 {
-        let r = inst::access::write_at(recs, g, uses, s);
-        if !free(st, r) {
-            return false;
-        }
-        s += 1;
-    }
-    true
-}
 
 // What position q, record g, reads is awaited, if q is kept.
 fn await_reads(
@@ -83,7 +52,7 @@ fn back(
 {
     let g = inst::record::wide(cell_at(w, q, 0));
     let u = inst::access::uses(t, recs, g);
-    let ok = all_free(recs, g, u, st);
+    let ok = rule1(recs, g, u, st);
     let d = drop_unless(marks, q, ok);
     put_writes(recs, g, u, st, 1, 0);
     await_reads(ops, recs, marks, st, g, u, q);

@@ -6,7 +6,7 @@ ghost use mathlib.Core.Path.{_≡_};
 ghost use lib.ListN.{length};
 ghost use Rattle.inst.specs.Table.{rows};
 ghost use Rattle.model.specs.Move.{minimum};
-ghost use Rattle.plan.specs.Passes.{Set-up, Ended, Greatest};
+ghost use Rattle.plan.specs.Passes.{Lent, Ended, Greatest, Around};
 
 // The pass (01: "The thresholds 8, 3, 800 and 8 rounds belong to the pass itself").
 pub struct Sink;
@@ -31,23 +31,26 @@ impl Sink {
     }
 }
 
-// The marks become the greatest legal set. Says how many members it has. `needed` is a row of the registers needed elsewhere.
+// The marks become the greatest legal set. Says how many members it has. The row of registers needed elsewhere begins at word `o` of
+// `work`; its words from `s` on, one a register, are written.
 pub fn legal_set(
     t: &[u32; 101],
     recs: &[u32],
     ops: &[u32],
     w: &[u32],
-    regs: &[u64],
-    needed: &[u64],
-    st: &mut [u64],
+    regs: &[u32],
+    work: &mut [u64],
+    o: usize,
+    s: usize,
     marks: &mut [u32; 800],
     m: usize,
     n: usize,
 ) -> u32
-    requires { ⌜ (now t ≡ rows) × Set-up (now recs) (now ops) (now w) (now regs) (now st) (now marks) m n × Ended (now recs) (now w) n (now regs) ⌝ }
-    ensures { λ r. ⌜ Greatest (now (recs .entry)) (now (ops .entry)) (now (w .entry)) (now (regs .entry)) (now (needed .entry)) (now (marks .exit)) m n r × (length (now (st .exit)) ≡ length (now (st .entry))) ⌝ }
+    requires { ⌜ (now t ≡ rows) × Lent (now recs) (now ops) (now w) (now regs) (now work) (now marks) o s m n × Ended (now recs) (now w) n (now regs) ⌝ }
+    ensures { λ r. ⌜ Greatest (now (recs .entry)) (now (ops .entry)) (now (w .entry)) (now (regs .entry)) (now (work .entry)) o (now (marks .exit)) m n r × Around s (length (now (regs .entry))) (now (work .entry)) (now (work .exit)) ⌝ }
 {
-    start(t, recs, ops, w, regs, needed, marks, m, n);
-    settle(t, recs, ops, w, regs, st, marks, m, n);
+    start(t, recs, ops, w, regs, work, o, marks, m, n);
+    let e = s + regs.len();
+    settle(t, recs, ops, w, regs, &mut work[s..e], marks, m, n);
     count(marks)
 }

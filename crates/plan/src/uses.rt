@@ -3,8 +3,8 @@
 use crate::chain::cell_at;
 use crate::chain::places;
 use crate::chain::read_place;
+use crate::rules::rule2;
 use crate::stamps::put_writes;
-use crate::start::results_ok;
 ghost use mathlib.Core.Path.{_≡_};
 ghost use mathlib.Core.Logic.{_⊎_};
 ghost use mathlib.Core.Bool.{cond};
@@ -98,24 +98,26 @@ pub fn last_readers(
     }
 }
 
-// Position p's last use, by its last reader: past the end if the target reads its value, `there` being a row of what is live there.
+// Position p's last use, by its last reader: past the end if the target reads its value; the row of what is
+// live there begins at word `o` of `bits`.
 pub fn last_use(
     t: &[u32; 101],
     recs: &[u32],
     ops: &[u32],
     w: &[u32],
-    regs: &[u64],
-    there: &[u64],
+    regs: &[u32],
+    bits: &[u64],
+    o: usize,
     lasts: &[u32; 800],
     p: usize,
     n: usize,
 ) -> u32
-    requires { ⌜ (now t ≡ rows) × Safe (now recs) (now ops) (now w) n (length (now regs)) × (p < n) ⌝ }
-    ensures { λ r. ⌜ r ≡ cond (all (result-test (now (regs .entry)) (now (there .entry)) p) (defs-of (now (recs .entry)) (now (w .entry)) p)) (getD (now (lasts .entry)) p 0) n ⌝ }
+    requires { ⌜ (now t ≡ rows) × Safe (now recs) (now ops) (now w) n (length (now regs)) × (p < n) × (o ≤ length (now bits)) ⌝ }
+    ensures { λ r. ⌜ r ≡ cond (all (result-test (now (regs .entry)) (now (bits .entry)) o p) (defs-of (now (recs .entry)) (now (w .entry)) p)) (getD (now (lasts .entry)) p 0) n ⌝ }
 {
     let g = inst::record::wide(cell_at(w, p, 0));
     let u = inst::access::uses(t, recs, g);
-    if results_ok(recs, g, u, regs, there, p) {
+    if rule2(recs, g, u, regs, bits, o, p) {
         return lasts[p];
     }
     n as u32

@@ -36,7 +36,7 @@ same-length-2 : tie.Need-same-length-2
 same-length-2 c = search needs
 
 returns : tie.Need-returns
-returns c = ran-step _ _ (c .before .before .before .before .before .before .before .before .before .before .before .before .before .before .before .before .before .before .before .before .pre .1) (c .before .before .before .before .before .before .before .before .before .before .before .before .before .before .before .before .before .before .before .before .pre .4) (c .before .before .before .before .before .before .before .before .before .before .before .before .before .before .before .before .before .before .before .before .pre .3) (rw (c .before .before .before .before .before .before .before .before .before .wide .ensures, c .before .before .before .before .before .before .before .before .short .ensures) at (c .before .before .before .before .before .before .before .put .ensures)) (rw (c .before .before .before .wide2 .ensures) at (c .before .before .mark-record .ensures)) (c .before .before .before .before .before .before .before .before .before .before .before .before .before .judge .ensures .0) (c .before .before .before .before .before .before .before .before .before .before .before .before .may-suspend .ensures) (c .before .before .before .before .before .before .before .before .before .before .before .written .ensures) (c .before .before .before .before .before .before .before .before .before .before .before .before .before .judge .ensures .1)
+returns c = ran-step _ _ (c .before .before .before .before .before .before .before .before .before .before .before .before .before .before .before .before .before .before .before .before .pre .1) (c .before .before .before .before .before .before .before .before .before .before .before .before .before .before .before .before .before .before .before .before .pre .4) (c .before .before .before .before .before .before .before .before .before .before .before .before .before .before .before .before .before .before .before .before .pre .3) (rw (c .before .before .before .before .before .before .before .before .before .wide .ensures, c .before .before .before .before .before .before .before .before .short .ensures) at (c .before .before .before .before .before .before .before .put .ensures)) (rw (c .before .before .before .wide2 .ensures) at (c .before .before .mark-record .ensures)) (c .before .before .before .before .before .before .before .before .before .before .before .before .before .before .before .before .before .before .before .before .pre .2) (c .before .before .before .before .before .before .before .before .before .before .before .before .before .judge .ensures .0) (c .before .before .before .before .before .before .before .before .before .before .before .before .may-suspend .ensures) (c .before .before .before .before .before .before .before .before .before .before .before .written .ensures) (c .before .before .before .before .before .before .before .before .before .before .before .before .before .judge .ensures .1)
 
 pub step-spec : {M : Type 1} → statement M
 step-spec =

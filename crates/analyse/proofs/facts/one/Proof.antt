@@ -1,7 +1,7 @@
 -- `analyse::facts::one` meets its contract. Assumes nothing.
 use mathlib.Core.Path.{sym, ap}
 use native.Mathlib.Omega.{arith}
-use Rattle.analyse.specs.Flags.{num}
+use Rattle.effects.specs.Origin.{num}
 use Rattle.analyse.proofs.facts.one.Statement.{statement}
 use Rattle.analyse.proofs.facts.one.Tie as tie
 

@@ -4,7 +4,7 @@ use Prim.Native.Nat.{ℕ}
 use native.Mathlib.Omega.{arith}
 use lib.ListN.{getD}
 use denote.Ref.{now}
-use Rattle.analyse.proofs.Looked.{a-reg, org-none, org-flags, org-there, maker}
+use Rattle.analyse.proofs.Looked.{a-reg, org-none, org-flags, org-there, maker, near-org}
 use borrow.Author.Needs.{needs}
 use Rattle.analyse.proofs.look.origin.Statement.{statement}
 use Rattle.analyse.proofs.look.origin.Tie as tie
@@ -34,7 +34,7 @@ cell-at-requires : tie.Need-cell-at-requires
 cell-at-requires c κs = let m = maker (c .before .before .before .before .before .before .pre .0) _ _ (a-reg (c .before .before .before .before .before .before .pre .1) (c .before .before .before .if1 .left)) (ap (λ (k : ℕ). getD (now (c .before .before .before .before .before .before .args .regs)) k 0) (c .before .before .at .ensures)) in (omega (arith, m, c .if2 .left, c .before .before .before .before .before .before .pre .0 .room), omega arith)
 
 returns-3 : tie.Need-returns-3
-returns-3 c = let v = ap (λ (k : ℕ). getD (now (c .before .before .before .before .before .before .before .args .regs)) k 0) (c .before .before .before .at .ensures) in let h = a-reg (c .before .before .before .before .before .before .before .pre .1) (c .before .before .before .before .if1 .left) in let m = maker (c .before .before .before .before .before .before .before .pre .0) _ _ h v in (rw (c .cell-at .ensures) (c .before .before .before .before .before .before .before .pre .0 .near _ (omega (arith, m, c .before .if2 .left))), λ G past e s. org-there s _ (c .before .before .before .before .if1 .left) h _ v (c .before .if2 .left) (omega (arith, m, e)) _ (c .cell-at .ensures))
+returns-3 c = let v = ap (λ (k : ℕ). getD (now (c .before .before .before .before .before .before .before .args .regs)) k 0) (c .before .before .before .at .ensures) in let h = a-reg (c .before .before .before .before .before .before .before .pre .1) (c .before .before .before .before .if1 .left) in let m = maker (c .before .before .before .before .before .before .before .pre .0) _ _ h v in (near-org (c .before .before .before .before .before .before .before .pre .0) _ _ (c .cell-at .ensures) (omega (arith, m, c .before .if2 .left)), λ G past e s. org-there s _ (c .before .before .before .before .if1 .left) h _ v (c .before .if2 .left) (omega (arith, m, e)) _ (c .cell-at .ensures))
 
 pub origin-spec : {M : Type 1} → statement M
 origin-spec =

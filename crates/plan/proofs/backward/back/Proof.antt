@@ -16,8 +16,8 @@ wide-requires c κs = search needs
 uses-requires : tie.Need-uses-requires
 uses-requires c κs = (c .before .before .before .before .before .before .pre .0, good-at (c .before .before .before .before .before .before .pre .1) (c .before .before .before .before .before .before .pre .3) (c .before .cell-at .ensures) (c .wide .ensures) .known)
 
-all-free-requires : tie.Need-all-free-requires
-all-free-requires c κs = let k = good-at (c .before .before .before .before .before .before .before .before .pre .1) (c .before .before .before .before .before .before .before .before .pre .3) (c .before .before .before .cell-at .ensures) (c .before .before .wide .ensures) in (used-at k (c .before .uses .ensures), k .fits)
+rule1-requires : tie.Need-rule1-requires
+rule1-requires c κs = let k = good-at (c .before .before .before .before .before .before .before .before .pre .1) (c .before .before .before .before .before .before .before .before .pre .3) (c .before .before .before .cell-at .ensures) (c .before .before .wide .ensures) in (used-at k (c .before .uses .ensures), k .fits)
 
 drop-unless-requires : tie.Need-drop-unless-requires
 drop-unless-requires c κs = search needs
@@ -32,7 +32,7 @@ same-length : tie.Need-same-length
 same-length c = search needs
 
 returns : tie.Need-returns
-returns c = backed _ _ _ (c .before .before .before .before .before .before .before .before .before .before .before .before .before .before .before .cell-at .ensures) (c .before .before .before .before .before .before .before .before .before .before .before .before .before .before .wide .ensures) (c .before .before .before .before .before .before .before .before .before .before .before .all-free .ensures) (c .before .before .before .before .before .before .before .before .before .drop-unless .ensures) (c .before .before .before .before .before .before .before .put-writes .ensures) (c .before .before .await-reads .ensures)
+returns c = backed _ _ _ (c .before .before .before .before .before .before .before .before .before .before .before .before .before .before .before .cell-at .ensures) (c .before .before .before .before .before .before .before .before .before .before .before .before .before .before .wide .ensures) (c .before .before .before .before .before .before .before .before .before .before .before .rule1 .ensures) (c .before .before .before .before .before .before .before .before .before .drop-unless .ensures) (c .before .before .before .before .before .before .before .put-writes .ensures) (c .before .before .await-reads .ensures)
 
 pub back-spec : {M : Type 1} → statement M
 back-spec =
@@ -41,7 +41,7 @@ back-spec =
     cell-at-requires
     wide-requires
     uses-requires
-    all-free-requires
+    rule1-requires
     drop-unless-requires
     put-writes-requires
     await-reads-requires

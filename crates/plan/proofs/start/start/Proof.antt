@@ -8,10 +8,10 @@ use Rattle.plan.proofs.start.start.Statement.{statement}
 use Rattle.plan.proofs.start.start.Tie as tie
 
 abbrev Inv-loop : tie.InvT-loop
-Inv-loop t recs ops w regs needed marks₀ m n p₀ marks p = (p ≤ 800) × Starting (begin-test recs w regs needed m) p marks
+Inv-loop t recs ops w regs bits o marks₀ m n p₀ marks p = (p ≤ 800) × Starting (begin-test recs w regs bits o m) p marks
 
 abbrev μ-loop : tie.MeasureT-loop
-μ-loop t recs ops w regs needed marks₀ m n p₀ marks p = 800 - p
+μ-loop t recs ops w regs bits o marks₀ m n p₀ marks p = 800 - p
 
 loop-holds : tie.Need-loop-holds Inv-loop μ-loop
 loop-holds c = (omega arith, starting-none _ _ (c .before .before .before .before .before .pre .3))
@@ -38,7 +38,7 @@ loop-again : tie.Need-loop-again Inv-loop μ-loop
 loop-again c = (omega arith, starting-more (c .before .before .before .loop .inv .1) (c .before .before .loop-test .taken) (c .before .begins-in .ensures) (c .one .ensures))
 
 returns : tie.Need-returns Inv-loop μ-loop
-returns c = starting-end _ (c .before .before .before .before .before .before .before .pre .1) (c .before .before .before .before .before .before .before .pre .2) (c .before .before .before .before .before .before .before .pre .4) (c .before .loop .inv .1) (c .loop-test .left)
+returns c = starting-end _ _ (c .before .before .before .before .before .before .before .pre .1) (c .before .before .before .before .before .before .before .pre .2) (c .before .before .before .before .before .before .before .pre .4) (c .before .loop .inv .1) (c .loop-test .left)
 
 pub start-spec : {M : Type 1} → statement M
 start-spec =

@@ -1,0 +1,167 @@
+-- The words that `analyse` leaves of a chain are what the plan asks: they stand for the chain's facts, and their numbers are small.
+-- Assumes nothing.
+use mathlib.Core.Path.{_≡_, refl, sym, ap, _∙_, subst}
+use mathlib.Core.Logic.{_⊎_, inl, inr, ⊎-elim}
+use mathlib.Core.Bool.{Bool, cond}
+use mathlib.Core.List.{List, [], _∷_, map}
+use Prim.Native.Nat.{ℕ, zero, suc, _+_, _*_, _/_, _%_, _≤_, _<_}
+use native.Mathlib.Nat.{zero-add}
+use native.Mathlib.Omega.{arith}
+use borrow.Author.Tests.{ne-eqb}
+use lib.Dec.{eqb}
+use lib.ListN.{getD, length, take, drop, length-map, List·getD-eq-default}
+use lib.Seq.{getD-take, take-all, length-take-le}
+use Rattle.words.specs.Lists.{In, upto}
+use Rattle.words.proofs.Bools.{eq?, lt?}
+use Rattle.words.proofs.Members.{in-left, in-right, in-concat, map-in, in-range, in-getD, in-index}
+use Rattle.model.specs.Kinds.{row, cat, reading}
+use Rattle.model.specs.Picture.{Picture, Inst, inst, absent, kind, roles, slots, chosen, reads, list-of}
+use Rattle.model.specs.Analyse.{Facts, Known, unknown, Fact, Org, analyse, known-of, last-writer}
+use Rattle.model.specs.Legal.{fact-at}
+use Rattle.model.specs.Move.{chain-places}
+use Rattle.laws.proofs.Accepted as laws
+use Rattle.inst.specs.Record.{read-at, present}
+use Rattle.inst.proofs.Rest.{reads-by-place}
+use Rattle.effects.specs.Origin.{org-at, class-at, wrote-at, from-at}
+use Rattle.chains.specs.declared.chain.Chain.{Chain}
+use Rattle.chains.specs.Chain.{blocks-of}
+use Rattle.analyse.specs.Flags.{Seen, flags-of}
+use Rattle.analyse.specs.State as A
+use Rattle.analyse.specs.State.{opt-at, pack, Words, State}
+use Rattle.analyse.specs.Step as S
+use Rattle.analyse.specs.Step.{Analysed}
+use Rattle.analyse.proofs.Run.{length-run}
+use Rattle.analyse.proofs.Looked.{ro-bit, frame-bit}
+use Rattle.analyse.proofs.Accepted as accepted
+use Rattle.legalset.specs.Chain.{cell, place-at, writer, defs-of, view, Good, Safe, Told, Says, Heard}
+use Rattle.legalset.proofs.Lasting.{writer-is}
+use Rattle.legalset.proofs.Telling as telling
+use Rattle.plan.specs.Passes.{Ended}
+
+-- ---- one record
+
+present-in : (x : ℕ) → (x ≡ absent → ⊥) → In x (present x)
+unfolding present
+present-in x n = subst (λ (b : Bool). In x (cond b [] (x ∷ []))) (sym (ne-eqb x absent n)) (inl refl)
+
+-- a record that can be analysed is good for the plan
+module _ {recs ops : List ℕ} {R g : ℕ} (h : S.Good recs ops R g) where
+  abbrev i : Inst
+  i = inst recs g
+
+  low : (r : ℕ) → In r (reads ops i) → r < R
+  low r a = let z = in-index absent r (reads ops i) a in subst (λ (x : ℕ). x < R) (z .2) (h .readable .each (z .0) (z .1))
+
+  slot-in : (s : ℕ) → s < 5 → (read-at i s ≡ absent → ⊥) → In (read-at i s) (reads ops i)
+  slot-in s l n =
+      in-left (read-at i s) (chosen reading (roles i) (slots i)) (list-of ops i)
+      (subst (In (read-at i s)) (reads-by-place recs g (h .readable .whole .within))
+      (in-concat (read-at i s) (present (read-at i s)) (map (λ k. present (read-at i k)) (upto 5)) (present-in (read-at i s) n) (map-in (λ k. present (read-at i k)) s (upto 5) (in-range s 0 5 (omega arith) (omega arith)))))
+
+  pub good-of : Good recs ops R g
+  good-of = record {
+    known = h .readable .whole;
+    listed = h .readable .listed;
+    fits = record { within = h .readable .whole .within; few = h .fits .room; slot = h .fits .slot };
+    slot = λ s l. ⊎-elim (λ (e : read-at i s ≡ absent). inl e) (λ (n : read-at i s ≡ absent → ⊥). inr (low (read-at i s) (slot-in s l n))) (eq? (read-at i s) absent);
+    list = λ k l. low (getD (list-of ops i) k absent) (in-right (getD (list-of ops i) k absent) (chosen reading (roles i) (slots i)) (list-of ops i) (in-getD absent (list-of ops i) k l));
+  }
+
+pub good-given : (P : Picture) → laws.Accepted P → (g : ℕ) → g < length (P .locs) → Good (P .recs) (P .ops) (P .regs) g
+good-given P ok g h = good-of (accepted.good-given P ok g h)
+
+-- ---- the words of one position
+
+cell-is : (w : List ℕ) (p j : ℕ) → cell w p j ≡ A.cell w p j
+unfolding cell A.cell
+cell-is w p j = let e : 10 * p + j ≡ p * 10 + j = omega arith in ap (λ (n : ℕ). getD w n 0) e
+
+-- where it is not the code of a Cat, what is read is in the word
+from-plain : (n : ℕ) (os : List Org) → (n ≡ 4294967295 → ⊥) → from-at n os ≡ os → from-at n [] ≡ os
+unfolding from-at
+from-plain zero os k e = e
+from-plain (suc n) os k e = let z = ne-eqb (suc n) 4294967295 k in ap (λ (b : Bool). cond b [] (org-at n ∷ [])) z ∙ sym (ap (λ (b : Bool). cond b os (org-at n ∷ [])) z) ∙ e
+
+says : {w : List ℕ} {p : ℕ} {f : Fact} (ops : List ℕ) (i : Inst) → Words w p f → (A.cell w p 5 ≡ 4294967295 → (row (kind i) .arm ≡ cat) × (drop 3 (reads ops i) ≡ list-of ops i)) → Says w ops i p f
+unfolding pack
+says {w} {p} {f} ops i s c = record {
+  class = ap class-at (cell-is w p 1) ∙ s .class;
+  org = ap org-at (cell-is w p 2) ∙ s .org;
+  flags = cell-is w p 3 ∙ s .flags;
+  wrote = ap wrote-at (cell-is w p 4) ∙ s .wrote;
+  from = λ k. ap (λ (n : ℕ). from-at n []) (cell-is w p 5) ∙ from-plain (A.cell w p 5) (f .does .from) (λ e. k (cell-is w p 5 ∙ e)) (s .from);
+  cat = λ e. c (sym (cell-is w p 5) ∙ e);
+}
+
+-- ---- the whole chain
+
+same-place : (a b : ℕ) → opt-at a ≡ place-at b → a ≡ b
+unfolding opt-at place-at
+same-place zero zero e = refl
+same-place zero (suc b) e = let z : _≡_ {A = ℕ} 0 1 = cc in absurd (omega arith)
+same-place (suc a) zero e = let z : _≡_ {A = ℕ} 0 1 = cc in absurd (omega arith)
+same-place (suc a) (suc b) e = cc
+
+module _ {recs ops regs w bounds : List ℕ} {c : Chain} {R n : ℕ} {regs′ w′ : List ℕ} (a : Analysed recs ops regs w bounds c R n regs′ w′) where
+  pub safe : Safe recs ops w′ n R
+  safe = record {
+    few = a .short;
+    room = let h = a .safe .room in omega arith;
+    good = λ p h. subst (Good recs ops R) (sym (cell-is w′ p 0)) (good-of (a .holds p h .good));
+    org = λ p h. subst (λ (x : ℕ). x < 10000) (sym (cell-is w′ p 2)) (a .safe .near p h .org);
+    wrote = λ p h. subst (λ (x : ℕ). x ≤ 10000) (sym (cell-is w′ p 4)) (a .safe .near p h .wrote);
+    from = λ p h. subst (λ (x : ℕ). (x ≤ 10000) ⊎ (x ≡ 4294967295)) (sym (cell-is w′ p 5)) (a .safe .near p h .from);
+  }
+
+  module _ (P : Picture) (eb : P .bounds ≡ bounds) (G : Facts) (seen : Seen G R regs) (copy : List ℕ) (ec : copy ≡ take R regs′) where
+    abbrev places : List ℕ
+    places = chain-places P (blocks-of c)
+
+    abbrev run : List Fact
+    run = analyse G ops [] (map (inst recs) places)
+
+    state : State G run R regs′ w′
+    state = a .state P eb G seen
+
+    long : length run ≡ n
+    long = length-run G ops [] (map (inst recs) places) ∙ zero-add (length (map (inst recs) places)) ∙ length-map places (inst recs) ∙ sym (a .positions P eb)
+
+    size : length copy ≡ R
+    size = ap length ec ∙ length-take-le R regs′ (a .safe .in-use)
+
+    copied : (r : ℕ) → r < R → getD copy r 0 ≡ getD regs′ r 0
+    copied r h = ap (λ (l : List ℕ). getD l r 0) ec ∙ getD-take R regs′ r 0 h
+
+    flags : (r : ℕ) → r < R → getD copy r 0 % 16 ≡ flags-of (known-of G r)
+    flags r h = ap (λ (x : ℕ). x % 16) (copied r h) ∙ state .seen .flags r h
+
+    -- a register past the last has no facts
+    nothing : (r : ℕ) → R ≤ r → (getD copy r 0 ≡ 0) × (known-of G r ≡ unknown)
+    nothing r h = (List·getD-eq-default copy 0 (omega (arith, size)), List·getD-eq-default G unknown (omega (arith, seen .size)))
+
+    pub heard : Heard G recs ops w′ copy (chain-places P (blocks-of c)) (analyse G ops [] (map (inst recs) (chain-places P (blocks-of c))))
+    heard = record {
+      is-run = refl;
+      numbers = λ k h. cell-is w′ k 0 ∙ a .numbers P eb k (subst (λ (x : ℕ). k < x) (sym (a .positions P eb)) h);
+      says = λ p h.
+          let l : p < n = subst (λ (x : ℕ). p < x) (sym (a .positions P eb)) h in
+          let z = a .holds p l in
+          subst (λ (g : ℕ). Says w′ ops (inst recs g) p (fact-at run p)) (sym (cell-is w′ p 0))
+          (says ops (inst recs (A.cell w′ p 0)) (state .each p (subst (λ (x : ℕ). p < x) (sym long) l)) (λ e. (z .cat e, z .good .readable .three (z .cat e))));
+      ro = λ r. ⊎-elim (λ (h : r < R). ro-bit (known-of G r) (getD copy r 0) (flags r h))
+          (λ (h : R ≤ r). ap (λ (x : ℕ). eqb (x % 2) 1) (nothing r h .0) ∙ sym (ap (λ (k : Known). k .ro) (nothing r h .1))) (lt? r R);
+      frame = λ r. ⊎-elim (λ (h : r < R). frame-bit (known-of G r) (getD copy r 0) (flags r h))
+          (λ (h : R ≤ r). ap (λ (x : ℕ). eqb (x / 2 % 2) 1) (nothing r h .0) ∙ sym (ap (λ (k : Known). k .frame) (nothing r h .1))) (lt? r R);
+    }
+
+    pub told : Told recs ops w′ copy n (analyse G ops [] (map (inst recs) (chain-places P (blocks-of c))))
+    told = subst (λ (x : ℕ). Told recs ops w′ copy x run) (sym (a .positions P eb)) (telling.told heard)
+
+    pub ended : Ended recs w′ n copy
+    ended = record {
+      each = λ r h.
+          let l : r < R = subst (λ (x : ℕ). r < x) size h in
+          ap (λ (x : ℕ). x / 16) (copied r l)
+          ∙ same-place (getD regs′ r 0 / 16) (writer (defs-of recs w′) r n)
+          (state .writer r l ∙ ap (λ (fs : List Fact). last-writer 0 fs r) (sym (take-all n run (omega (arith, long)))) ∙ writer-is (view recs ops w′ copy) n run (told .stands) r n (omega arith));
+    }

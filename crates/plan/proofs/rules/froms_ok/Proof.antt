@@ -1,0 +1,48 @@
+-- `plan::rules::froms_ok` meets its contract. Assumes nothing.
+use native.Mathlib.Omega.{arith}
+use mathlib.Core.Path.{_∙_, sym}
+use Rattle.plan.proofs.Testing.{from-none, from-one, from-cat, from-small, list-low}
+use borrow.Author.Needs.{needs}
+use Rattle.plan.proofs.rules.froms_ok.Statement.{statement}
+use Rattle.plan.proofs.rules.froms_ok.Tie as tie
+
+cell-at-requires : tie.Need-cell-at-requires
+cell-at-requires c κs = search needs
+
+returns : tie.Need-returns
+returns c = from-none _ _ _ _ _ _ _ _ (c .before .cell-at .ensures) (c .if1 .taken)
+
+sub-org-ok : tie.Need-sub-org-ok
+sub-org-ok c = search needs
+
+org-ok-requires : tie.Need-org-ok-requires
+org-ok-requires c κs = (from-small (c .before .before .before .before .before .before .before .before .pre .5) (c .before .before .cell-at .ensures) (c .if2 .taken), omega arith)
+
+returns-2 : tie.Need-returns-2
+returns-2 c = from-one _ _ _ _ _ _ _ _ (c .before .before .before .cell-at .ensures) (c .before .before .if1 .left) (c .before .if2 .taken) (c .org-ok .ensures)
+
+list-requires : tie.Need-list-requires
+list-requires c κs = search needs
+
+word-requires : tie.Need-word-requires
+word-requires c κs = search needs
+
+pieces-ok-requires : tie.Need-pieces-ok-requires
+pieces-ok-requires c κs = (c .before .before .before .before .before .before .before .before .before .before .pre .1, list-low (c .before .before .before .before .before .before .before .before .before .before .pre .0) (c .before .list .ensures), c .before .before .before .before .before .before .before .before .before .before .pre .2, omega arith)
+
+returns-3 : tie.Need-returns-3
+returns-3 c = from-cat _ _ _ _ _ _ _ _ (c .before .before .before .before .before .cell-at .ensures) (c .before .before .before .if2 .left) (c .before .before .list .ensures) (c .before .word .ensures) (c .pieces-ok .ensures)
+
+pub froms-ok-spec : {M : Type 1} → statement M
+froms-ok-spec =
+    tie.close
+    (tie.spec
+    cell-at-requires
+    returns
+    sub-org-ok
+    org-ok-requires
+    returns-2
+    list-requires
+    word-requires
+    pieces-ok-requires
+    returns-3)

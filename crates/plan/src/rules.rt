@@ -1,0 +1,316 @@
+// The six rules that a member keeps, each a function of its own (01, "The legal set"), against what the kept positions do. `st` holds a
+// word a register: for rule 1 as `backward` keeps it, for rules 3 and 5 as `summary` and `forward` do. `sus`, `bar` and `lasts` are of
+// `summary`.
+use crate::chain::cell_at;
+use crate::chain::places;
+use crate::chain::read_place;
+use crate::marks::marked;
+ghost use mathlib.Core.Path.{_≡_};
+ghost use mathlib.Core.Logic.{_⊎_};
+ghost use mathlib.Core.Bool.{not, _||_};
+ghost use Prim.Native.Nat.{ℕ, _+_, _*_, _/_, _%_, _<_, _≤_};
+ghost use lib.ListN.{length, getD};
+ghost use lib.Dec.{eqb, leb};
+ghost use Rattle.words.specs.Lists.{all};
+ghost use Rattle.model.specs.Picture.{inst, absent, reads, writes};
+ghost use Rattle.inst.specs.Record.{Used};
+ghost use Rattle.legalset.specs.Chain.{cell, flag, reg-org, picked, Fits, Good};
+ghost use Rattle.legalset.specs.Marks.{in-set};
+ghost use Rattle.legalset.specs.Rules.{when-in, own-memory, still-fine};
+ghost use Rattle.plan.specs.Passes.{result-test, read-test, place-test, org-test, piece-test, from-test, memory-test, Near};
+
+// Is register r, if it is one, not awaited?
+fn free(st: &[u64], r: u32) -> bool
+    requires { ⌜ (r ≡ absent) ⊎ (r < length (now st)) ⌝ }
+    ensures { λ b. ⌜ b ≡ (eqb r absent || eqb (getD (now (st .entry)) r 0) 0) ⌝ }
+{
+    if r == 4294967295 {
+        return true;
+    }
+    let k = inst::record::wide(r);
+    st[k] == 0
+}
+
+// Rule 1: nothing that record g writes is awaited, that is, read further on by a kept position with no write in between.
+pub fn rule1(recs: &[u32], g: usize, uses: u32, st: &[u64]) -> bool
+    requires { ⌜ Used (now recs) g uses × Fits (now recs) (length (now st)) g ⌝ }
+    ensures { λ b. ⌜ b ≡ all (λ x. eqb (getD (now (st .entry)) x 0) 0) (writes (inst (now (recs .entry)) g)) ⌝ }
+{
+    let mut s = 0usize;
+    while s < 5 {
+        let r = inst::access::write_at(recs, g, uses, s);
+        if !free(st, r) {
+            return false;
+        }
+        s += 1;
+    }
+    true
+}
+
+// Rule 2 for register r, if it is one: p does not write it last in the chain, or it is not needed elsewhere.
+fn unneeded(regs: &[u32], bits: &[u64], o: usize, r: u32, p: usize) -> bool
+    requires { ⌜ ((r ≡ absent) ⊎ (r < length (now regs))) × (p < 800) × (o ≤ length (now bits)) ⌝ }
+    ensures { λ b. ⌜ b ≡ (eqb r absent || result-test (now (regs .entry)) (now (bits .entry)) o p r) ⌝ }
+{
+    if r == 4294967295 {
+        return true;
+    }
+    let k = inst::record::wide(r);
+    !(words::bits::bit_in(bits, o, k) & (regs[k] / 16 == p as u32 + 1))
+}
+
+// Rule 2: no register of the row that begins at word `o` of `bits` is written by record g, at p, and by none after it.
+pub fn rule2(
+    recs: &[u32],
+    g: usize,
+    uses: u32,
+    regs: &[u32],
+    bits: &[u64],
+    o: usize,
+    p: usize,
+) -> bool
+    requires { ⌜ Used (now recs) g uses × Fits (now recs) (length (now regs)) g × (p < 800) × (o ≤ length (now bits)) ⌝ }
+    ensures { λ b. ⌜ b ≡ all (result-test (now (regs .entry)) (now (bits .entry)) o p) (writes (inst (now (recs .entry)) g)) ⌝ }
+{
+    let mut s = 0usize;
+    while s < 5 {
+        let r = inst::access::write_at(recs, g, uses, s);
+        if !unneeded(regs, bits, o, r, p) {
+            return false;
+        }
+        s += 1;
+    }
+    true
+}
+
+// Is the position before d, if there is one, in the set?
+fn before_in(marks: &[u32; 800], d: u64) -> bool
+    requires { ⌜ length (now marks) ≡ 800 ⌝ }
+    ensures { λ b. ⌜ b ≡ when-in (in-set (now (marks .entry))) d ⌝ }
+{
+    if d == 0 {
+        return false;
+    }
+    marked(marks, (d - 1) as usize)
+}
+
+// Rule 3 for register r, if it is one.
+fn read_ok(st: &[u64], marks: &[u32; 800], r: u32, p: usize) -> bool
+    requires { ⌜ ((r ≡ absent) ⊎ (r < length (now st))) × (length (now marks) ≡ 800) × (p < 800) ⌝ }
+    ensures { λ b. ⌜ b ≡ place-test (now (st .entry)) (now (marks .entry)) p r ⌝ }
+{
+    if r == 4294967295 {
+        return true;
+    }
+    let k = inst::record::wide(r);
+    let v = st[k];
+    before_in(marks, v / 1024) | (v % 1024 <= p as u64 + 1)
+}
+
+// Rule 3: each register that record g reads has its writer in the set, or is written by no kept position after p.
+pub fn rule3(
+    ops: &[u32],
+    recs: &[u32],
+    g: usize,
+    uses: u32,
+    st: &[u64],
+    marks: &[u32; 800],
+    p: usize,
+) -> bool
+    requires { ⌜ Used (now recs) g uses × Good (now recs) (now ops) (length (now st)) g × (length (now marks) ≡ 800) × (p < 800) ⌝ }
+    ensures { λ b. ⌜ b ≡ all (read-test (now (st .entry)) (now (marks .entry)) p) (reads (now (ops .entry)) (inst (now (recs .entry)) g)) ⌝ }
+{
+    let n = places(ops, recs, g);
+    let mut k = 0usize;
+    while k < n {
+        let r = read_place(ops, recs, g, uses, k);
+        if !read_ok(st, marks, r, p) {
+            return false;
+        }
+        k += 1;
+    }
+    true
+}
+
+// Rule 4: no kept position after p may suspend. `sus` is the last that may, and 1.
+pub fn rule4(sus: u32, p: usize) -> bool
+    requires { ⌜ p < 800 ⌝ }
+    ensures { λ b. ⌜ b ≡ leb sus (p + 1) ⌝ }
+{
+    sus <= p as u32 + 1
+}
+
+// Rule 5 for the origin of number o.
+fn org_ok(lasts: &[u32; 10002], bar: u32, p: usize, o: u32) -> bool
+    requires { ⌜ (o < 10001) × (p < 800) ⌝ }
+    ensures { λ b. ⌜ b ≡ org-test (now (lasts .entry)) bar p o ⌝ }
+{
+    let e = p as u32 + 1;
+    let k = inst::record::wide(o) + 1;
+    ((o == 1) | (3 <= o)) & ((bar <= e) | (o == 1)) & (lasts[1] <= e) & ((o <= 2) | (lasts[k] <= e))
+}
+
+// Where register r points that is read at this place.
+fn reg_org(w: &[u32], regs: &[u32], st: &[u64], r: u32, n: usize) -> u32
+    requires { ⌜ Near (now w) (now st) n × (r < length (now st)) × (length (now regs) ≡ length (now st)) ⌝ }
+    ensures { λ o. ⌜ (o ≡ reg-org (now (w .entry)) (now (regs .entry)) r (getD (now (st .entry)) r 0 / 1024)) × (o < 10001) ⌝ }
+{
+    let k = inst::record::wide(r);
+    let d = (st[k] / 1024) as usize;
+    if d != 0 {
+        return cell_at(w, d - 1, 2);
+    }
+    if regs[k] % 2 == 1 {
+        return 1;
+    }
+    if regs[k] / 2 % 2 == 1 {
+        return 3;
+    }
+    0
+}
+
+// Rule 5 for a Cat's piece, if its bit says that it is an address.
+fn piece_ok(
+    w: &[u32],
+    regs: &[u32],
+    st: &[u64],
+    lasts: &[u32; 10002],
+    bar: u32,
+    p: usize,
+    n: usize,
+    sc: u32,
+    r: u32,
+) -> bool
+    requires { ⌜ Near (now w) (now st) n × (r < length (now st)) × (length (now regs) ≡ length (now st)) × (p < 800) ⌝ }
+    ensures { λ b. ⌜ b ≡ (not (eqb (sc % 2) 0) || piece-test (now (w .entry)) (now (regs .entry)) (now (st .entry)) (now (lasts .entry)) bar p r) ⌝ }
+{
+    if sc % 2 != 0 {
+        return true;
+    }
+    org_ok(lasts, bar, p, reg_org(w, regs, st, r, n))
+}
+
+// Rule 5 for all of a Cat's pieces, the registers xs.
+fn pieces_ok(
+    xs: &[u32],
+    w: &[u32],
+    regs: &[u32],
+    st: &[u64],
+    lasts: &[u32; 10002],
+    bar: u32,
+    p: usize,
+    n: usize,
+    scalars: u32,
+) -> bool
+    requires { ⌜ Near (now w) (now st) n × ((k : ℕ) → k < length (now xs) → getD (now xs) k 0 < length (now st)) × (length (now regs) ≡ length (now st)) × (p < 800) ⌝ }
+    ensures { λ b. ⌜ b ≡ all (piece-test (now (w .entry)) (now (regs .entry)) (now (st .entry)) (now (lasts .entry)) bar p) (picked scalars (now (xs .entry))) ⌝ }
+{
+    let mut k = 0usize;
+    let mut sc = scalars;
+    while k < xs.len() {
+        if xs.len() - k < 2 {
+            return true;
+        }
+        if !piece_ok(w, regs, st, lasts, bar, p, n, sc, xs[k]) {
+            return false;
+        }
+        k += 2;
+        sc = sc / 2;
+    }
+    true
+}
+
+// Rule 5 for all that position p, record g, reads.
+fn froms_ok(
+    ops: &[u32],
+    recs: &[u32],
+    w: &[u32],
+    regs: &[u32],
+    st: &[u64],
+    lasts: &[u32; 10002],
+    g: usize,
+    bar: u32,
+    p: usize,
+    n: usize,
+) -> bool
+    requires { ⌜ Good (now recs) (now ops) (length (now st)) g × Near (now w) (now st) n × (length (now regs) ≡ length (now st)) × (p < n) × (n ≤ 800) × ((cell (now w) p 5 ≤ 10000) ⊎ (cell (now w) p 5 ≡ 4294967295)) ⌝ }
+    ensures { λ b. ⌜ b ≡ from-test (now (w .entry)) (now (regs .entry)) (now (ops .entry)) (inst (now (recs .entry)) g) (now (st .entry)) (now (lasts .entry)) bar p ⌝ }
+{
+    let f = cell_at(w, p, 5);
+    if f == 0 {
+        return true;
+    }
+    if f != 4294967295 {
+        return org_ok(lasts, bar, p, f - 1);
+    }
+    let xs = inst::access::list(ops, recs, g);
+    pieces_ok(
+        xs,
+        w,
+        regs,
+        st,
+        lasts,
+        bar,
+        p,
+        n,
+        inst::record::word(recs, g, 9),
+    )
+}
+
+// Rule 5 for what position p creates or writes.
+fn still(w: &[u32], bar: u32, p: usize) -> bool
+    requires { ⌜ (10 * p + 10 ≤ length (now w)) × (p < 800) ⌝ }
+    ensures { λ b. ⌜ b ≡ still-fine p bar (flag (now (w .entry)) 4 p) (cell (now (w .entry)) p 4) ⌝ }
+{
+    let f = cell_at(w, p, 3);
+    let o = cell_at(w, p, 4);
+    (bar <= p as u32 + 1) | (!(f / 4 % 2 == 1) & (o == 0))
+}
+
+// Rule 5: after p no kept barrier if p creates, writes memory, or reads other than Ro or Heap; no kept write that may alias what p
+// reads; and p's reads are Ro, Frame, Img or Temp. `bar` is the last kept barrier and 1, `lasts` the last kept write of each origin and 1.
+pub fn rule5(
+    ops: &[u32],
+    recs: &[u32],
+    w: &[u32],
+    regs: &[u32],
+    st: &[u64],
+    lasts: &[u32; 10002],
+    g: usize,
+    bar: u32,
+    p: usize,
+    n: usize,
+) -> bool
+    requires { ⌜ Good (now recs) (now ops) (length (now st)) g × Near (now w) (now st) n × (length (now regs) ≡ length (now st)) × (p < n) × (n ≤ 800) × ((cell (now w) p 5 ≤ 10000) ⊎ (cell (now w) p 5 ≡ 4294967295)) ⌝ }
+    ensures { λ b. ⌜ b ≡ memory-test (now (recs .entry)) (now (ops .entry)) (now (w .entry)) (now (regs .entry)) (now (st .entry)) (now (lasts .entry)) g bar p ⌝ }
+{
+    if !still(w, bar, p) {
+        return false;
+    }
+    froms_ok(ops, recs, w, regs, st, lasts, g, bar, p, n)
+}
+
+// Rule 6 by the number of the memory written.
+fn own_ok(marks: &[u32; 800], o: u32) -> bool
+    requires { ⌜ length (now marks) ≡ 800 ⌝ }
+    ensures { λ b. ⌜ b ≡ own-memory (in-set (now (marks .entry))) o ⌝ }
+{
+    if o == 0 {
+        return true;
+    }
+    if o < 5 {
+        return false;
+    }
+    if o % 2 != 1 {
+        return false;
+    }
+    marked(marks, inst::record::wide((o - 5) / 2))
+}
+
+// Rule 6: the memory that position p writes is Temp of a member.
+pub fn rule6(w: &[u32], marks: &[u32; 800], p: usize) -> bool
+    requires { ⌜ (10 * p + 10 ≤ length (now w)) × (length (now marks) ≡ 800) ⌝ }
+    ensures { λ b. ⌜ b ≡ own-memory (in-set (now (marks .entry))) (cell (now (w .entry)) p 4) ⌝ }
+{
+    own_ok(marks, cell_at(w, p, 4))
+}
