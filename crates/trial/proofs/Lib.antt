@@ -1,0 +1,10 @@
+pub mod Copying
+pub mod Kept
+pub mod Learning
+pub mod Putting
+pub mod Planned
+pub mod Rooms
+pub mod Sets
+pub mod Plans
+pub mod Moves
+pub mod Trials

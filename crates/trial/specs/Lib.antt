@@ -1,0 +1,4 @@
+pub mod Work
+pub mod Puts
+pub mod Along
+pub mod Trial

@@ -1,0 +1,59 @@
+// The facts along the chain (01, "The legal set"), in the lent words: ten a position, and a copy of the words of the registers in
+// use, which the set is found by while the 64-bit slice takes its stamps.
+use crate::sizes::Sizes;
+use crate::sizes::at_regs;
+use analyse::along::analyse;
+use chains::chain::Chain;
+use inst::record::wide;
+ghost use mathlib.Core.Path.{_≡_};
+ghost use Prim.Native.Nat.{_+_, _*_, _≤_, _<_};
+ghost use lib.ListN.{length};
+ghost use Rattle.inst.specs.Table.{rows};
+ghost use Rattle.trial.specs.Puts.{Copying, Copied};
+ghost use Rattle.trial.specs.Along.{Learning, Learnt};
+
+// The first r words from word a on, from word 8,000 on.
+fn copy_regs(work64: &[u64], work32: &mut [u32], a: usize, r: usize)
+    requires { ⌜ Copying (now work64) a r (now work32) ⌝ }
+    ensures { λ _. ⌜ Copied (now (work64 .entry)) a r (now (work32 .entry)) (now (work32 .exit)) ⌝ }
+{
+    let mut i = 0usize;
+    while i < r {
+        work32[8000 + i] = work64[a + i] as u32;
+        i += 1;
+    }
+}
+
+// The facts of chain c. The answer is the number of its positions.
+pub fn learn(
+    t: &[u32; 101],
+    bounds: &[u32],
+    recs: &[u32],
+    ops: &[u32],
+    work64: &mut [u64],
+    work32: &mut [u32],
+    s: Sizes,
+    c: Chain,
+) -> usize
+    requires { ⌜ (now t ≡ rows) × Learning (now bounds) (now recs) (now ops) s c (now work64) (now work32) ⌝ }
+    ensures { λ n. ⌜ Learnt (now (bounds .entry)) (now (recs .entry)) (now (ops .entry)) s c (now (work64 .entry)) (now (work32 .entry)) (now (work64 .exit)) (now (work32 .exit)) n ⌝ }
+{
+    let k = s.lent;
+    let r = wide(s.regs);
+    let a = at_regs(s);
+    let e = a + k;
+    let n = analyse(
+        t,
+        recs,
+        ops,
+        &mut work64[a..e],
+        &mut work32[..8000],
+        bounds,
+        c,
+        s.blocks,
+        r,
+        s.insts,
+    );
+    copy_regs(work64, work32, a, r);
+    wide(n)
+}
