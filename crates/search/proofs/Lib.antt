@@ -1,0 +1,3 @@
+pub mod Start
+pub mod Looked
+pub mod Anew

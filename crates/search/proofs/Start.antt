@@ -1,0 +1,170 @@
+-- What the call begins with (01, "A round"): acceptance gives what the search for facts and predecessors asks, and the words that it
+-- leaves stand for them. Assumes nothing.
+use mathlib.Core.Path.{_≡_, sym, ap, ap₂, _∙_, subst}
+use mathlib.Core.List.{List, [], _∷_, _++_}
+use Prim.Native.Nat.{ℕ, _+_, _-_, _*_, _/_, _≤_, _<_}
+use native.Mathlib.Nat.{mul-le-mul, le-refl, le-of-eq}
+use native.Mathlib.Omega.{arith}
+use borrow.Author.Tests.{ne-eqb}
+use borrow.Rule.Slice.PartMut.{putMid, postOf, mid-len, same-len-mid}
+use lib.Dec.{eqb}
+use lib.ListN.{length, take, drop, length-map}
+use lib.Seq.{take-at, drop-at, length-take-le}
+use Rattle.words.specs.Lists.{upto}
+use Rattle.words.proofs.Lists.{length-range}
+use Rattle.model.specs.Picture.{Picture, nblocks, preds}
+use Rattle.model.specs.Refusal.{refusal}
+use Rattle.model.specs.Analyse.{facts}
+use Rattle.laws.proofs.Accepted.{Accepted, accepted, work-room}
+use Rattle.laws.proofs.Sizes as S
+use Rattle.flow.specs.Drawn.{drawn}
+use Rattle.flow.specs.Graph.{Graph}
+use Rattle.flow.specs.Preds as F
+use Rattle.flow.specs.Preds.{many, first}
+use Rattle.flow.proofs.Accepted.{graph-given}
+use Rattle.flow.proofs.Whole.{preds-whole}
+use Rattle.chains.specs.Chain as C
+use Rattle.analyse.specs.Written.{Fits}
+use Rattle.analyse.specs.Flags.{Found, Seen}
+use Rattle.analyse.proofs.Accepted.{fits-given, seen-given}
+use Rattle.trial.specs.Work.{width}
+use Rattle.search.specs.Search.{Beginning, Began}
+
+-- a part that came back as ys
+pub mid-back : {A : Type 0} (a k : ℕ) (xs ys : List A) (n : ℕ) → a ≤ length xs → length ys ≡ n → take n (drop a (putMid a k xs ys)) ≡ ys
+mid-back a k xs ys n h e = ap (take n) (drop-at (take a xs) (ys ++ postOf a k xs) a (length-take-le a xs h)) ∙ take-at ys (postOf a k xs) n e
+
+-- ---- sizes
+
+pub record Rooms (b lent insts w64 w32 : ℕ) : Type 0 where
+  pub few-blocks : b ≤ 4096
+  pub few-lent : lent ≤ 65536
+  pub few-insts : insts ≤ 32768
+  pub small : 4 * b * width lent ≤ 16777216
+  pub room64 : 4 * b * width lent + 2 * lent ≤ w64
+  pub room32 : 8 * lent + 16 * b + 8000 ≤ w32
+
+-- four rows a block are few words
+pub small-product : (a b : ℕ) → a ≤ 16384 → b ≤ 1024 → a * b ≤ 16777216
+small-product a b h g = mul-le-mul h g
+
+pub rooms-of : (P : Picture) (w64 w32 : ℕ) → refusal P w64 w32 ≡ 0 → Rooms (nblocks P) (length (P .types)) (length (P .locs)) w64 w32
+rooms-of P w64 w32 r =
+    let ok = accepted P w64 w32 r in
+    let b = S.few-blocks P ok in
+    let k = S.few-types P ok in
+    record {
+      few-blocks = b;
+      few-lent = k;
+      few-insts = S.few-insts P ok;
+      small = small-product (4 * nblocks P) (width (length (P .types))) (omega arith) (omega arith);
+      room64 = work-room P w64 w32 r .0;
+      room32 = work-room P w64 w32 r .1;
+    }
+
+pub rooms-at : (P : Picture) (w64 w32 : ℕ) → refusal P w64 w32 ≡ 0 → {b lent insts : ℕ} → b ≡ nblocks P → lent ≡ length (P .types) → insts ≡ length (P .locs) → Rooms b lent insts w64 w32
+rooms-at P w64 w32 r {b} {lent} {insts} e f g =
+    subst (λ (z : ℕ). Rooms z lent insts w64 w32) (sym e)
+    (subst (λ (z : ℕ). Rooms (nblocks P) z insts w64 w32) (sym f)
+    (subst (λ (z : ℕ). Rooms (nblocks P) (length (P .types)) z w64 w32) (sym g) (rooms-of P w64 w32 r)))
+
+pub graph-at : (P : Picture) → Accepted P → {bounds recs pairs targets : List ℕ} → bounds ≡ P .bounds → recs ≡ P .recs → pairs ≡ P .pairs → targets ≡ P .targets → Graph bounds recs pairs targets
+graph-at P ok {bounds} {recs} {pairs} {targets} e f g h =
+    subst (λ (z : List ℕ). Graph z recs pairs targets) (sym e)
+    (subst (λ (z : List ℕ). Graph (P .bounds) z pairs targets) (sym f)
+    (subst (λ (z : List ℕ). Graph (P .bounds) (P .recs) z targets) (sym g)
+    (subst (λ (z : List ℕ). Graph (P .bounds) (P .recs) (P .pairs) z) (sym h) (graph-given P ok))))
+
+pub start-at : (b lent r : ℕ) → r ≡ width lent → 4 * b * r ≡ 4 * b * width lent
+start-at b lent r e = ap (λ (z : ℕ). 4 * b * z) e
+
+-- ---- predecessors
+
+count-one : (ps : List ℕ) {k : ℕ} → k ≡ many ps → eqb k 1 ≡ eqb (length ps) 1
+count-one [] e = ap (λ (n : ℕ). eqb n 1) e
+count-one (x ∷ []) e = ap (λ (n : ℕ). eqb n 1) e
+count-one (x ∷ y ∷ l) e = ap (λ (n : ℕ). eqb n 1) e ∙ sym (ne-eqb (length (x ∷ y ∷ l)) 1 (λ q. omega arith))
+
+only : (ps : List ℕ) {w : ℕ} → w ≡ first ps → length ps ≡ 1 → ps ≡ w ∷ []
+only [] e h = absurd (omega arith)
+only (x ∷ []) e h = ap (λ (z : ℕ). z ∷ []) (sym e)
+only (x ∷ y ∷ l) e h = absurd (omega arith)
+
+pub preds-from : (P : Picture) {words : List ℕ} → F.Preds P words → C.Preds P words (nblocks P)
+preds-from P f = record { count = λ b h. count-one (preds P b) (f .told b h .count); sole = λ b h e. only (preds P b) (f .told b h .which) e }
+
+preds-at : (P : Picture) {bounds recs pairs targets words : List ℕ} → P .bounds ≡ bounds → P .recs ≡ recs → P .pairs ≡ pairs → P .targets ≡ targets
+    → F.Preds (drawn bounds recs [] pairs targets) words → F.Preds P words
+preds-at P {bounds} {recs} {pairs} {targets} {words} e f g h z =
+    let y : F.Preds (drawn (P .bounds) (P .recs) [] (P .pairs) (P .targets)) words =
+    subst (λ (l : List ℕ). F.Preds (drawn l (P .recs) [] (P .pairs) (P .targets)) words) (sym e)
+    (subst (λ (l : List ℕ). F.Preds (drawn bounds l [] (P .pairs) (P .targets)) words) (sym f)
+    (subst (λ (l : List ℕ). F.Preds (drawn bounds recs [] l (P .targets)) words) (sym g)
+    (subst (λ (l : List ℕ). F.Preds (drawn bounds recs [] pairs l) words) (sym h) z))) in
+    record { told = λ b u. subst (F.Told words b) (preds-whole P [] b) (y .told b u) }
+
+-- ---- the start
+
+facts-few : (P : Picture) → length (facts P) ≤ P .regs
+facts-few P = le-of-eq (length-map (upto (P .regs)) _ ∙ length-range 0 (P .regs))
+
+module _ {bounds recs pairs targets work64 work32 : List ℕ} {lent insts : ℕ} (k : Beginning bounds recs pairs targets work64 work32 lent insts) where
+  pub rooms : Rooms (length bounds / 2) lent insts (length work64) (length work32)
+  rooms = rooms-at (k .P) (length work64) (length work32) (k .accepted) (ap (λ (l : List ℕ). length l / 2) (k .bounds-are)) (k .lent-are) (k .insts-are)
+
+  -- r words hold a row
+  pub small-at : (r : ℕ) → r ≡ width lent → 4 * (length bounds / 2) * r ≤ 16777216
+  small-at r e = subst (λ (z : ℕ). 4 * (length bounds / 2) * z ≤ 16777216) (sym e) (rooms .small)
+
+  pub room-at : (r : ℕ) → r ≡ width lent → 4 * (length bounds / 2) * r + 2 * lent ≤ length work64
+  room-at r e = subst (λ (z : ℕ). 4 * (length bounds / 2) * z + 2 * lent ≤ length work64) (sym e) (rooms .room64)
+
+  good : Accepted (k .P)
+  good = accepted (k .P) (length work64) (length work32) (k .accepted)
+
+  part-long : (a : ℕ) → a ≡ 4 * (length bounds / 2) * width lent → length (take (a + lent - a) (drop a work64)) ≡ lent
+  part-long a e = let r = rooms .room64 in mid-len a (a + lent) work64 (omega arith) ∙ omega arith
+
+  pub facts-ask : (a : ℕ) → a ≡ 4 * (length bounds / 2) * width lent → (insts ≤ 32768) × ((p : ℕ) → p < insts → Fits recs (length (take (a + lent - a) (drop a work64))) p)
+  facts-ask a e = (
+    rooms .few-insts,
+    λ p h.
+        subst (λ (n : ℕ). Fits recs n p) (sym (part-long a e ∙ k .lent-are))
+        (subst (λ (l : List ℕ). Fits l (length (k .P .types)) p) (sym (k .recs-are)) (fits-given (k .P) good p (omega (arith, k .insts-are)))),
+  )
+
+  pub preds-ask : (p : ℕ) → p ≡ 8000 + lent → Graph bounds recs pairs targets × (2 * (length bounds / 2) ≤ length (take (p + 2 * (length bounds / 2) - p) (drop p work32)))
+  preds-ask p e = (
+    graph-at (k .P) good (k .bounds-are) (k .recs-are) (k .pairs-are) (k .targets-are),
+    let r = rooms .room32 in let z = mid-len p (p + 2 * (length bounds / 2)) work32 (omega arith) in omega arith,
+  )
+
+  pub began : (a p : ℕ) (ys zs : List ℕ) → a ≡ 4 * (length bounds / 2) * width lent → p ≡ 8000 + lent → Found recs insts (length (take (a + lent - a) (drop a work64))) ys
+      → length zs ≡ length (take (p + 2 * (length bounds / 2) - p) (drop p work32)) → F.Preds (drawn bounds recs [] pairs targets) zs
+      → Began bounds recs pairs targets work64 work32 lent insts (putMid a (a + lent - a) work64 ys) (putMid p (p + 2 * (length bounds / 2) - p) work32 zs)
+  began a p ys zs e f found long told = record {
+    size64 = same-len-mid a (a + lent - a) work64 ys (found .size);
+    size32 = same-len-mid p (p + 2 * (length bounds / 2) - p) work32 zs long;
+    begun = λ P r eb er ep et el ei.
+        let ok = accepted P (length work64) (length work32) r in
+        let n64 = rooms .room64 in
+        let n32 = rooms .room32 in
+        let size : length ys ≡ length (P .types) = found .size ∙ part-long a e ∙ sym el in
+        let blocks : nblocks P ≡ length bounds / 2 = ap (λ (l : List ℕ). length l / 2) eb in
+        let at : 4 * nblocks P * width (length (P .types)) ≡ a = ap₂ (λ (b n : ℕ). 4 * b * width n) blocks el ∙ sym e in
+        let y : take (length (P .types)) (drop (4 * nblocks P * width (length (P .types))) (putMid a (a + lent - a) work64 ys)) ≡ ys =
+        ap (λ (m : ℕ). take (length (P .types)) (drop m (putMid a (a + lent - a) work64 ys))) at ∙ mid-back a (a + lent - a) work64 ys (length (P .types)) (omega arith) size in
+        let size2 : length zs ≡ 2 * nblocks P = long ∙ mid-len p (p + 2 * (length bounds / 2)) work32 (omega arith) ∙ omega arith in
+        let at2 : 8000 + length (P .types) ≡ p = omega arith in
+        let z : take (2 * nblocks P) (drop (8000 + length (P .types)) (putMid p (p + 2 * (length bounds / 2) - p) work32 zs)) ≡ zs =
+        ap (λ (m : ℕ). take (2 * nblocks P) (drop m (putMid p (p + 2 * (length bounds / 2) - p) work32 zs))) at2
+        ∙ mid-back p (p + 2 * (length bounds / 2) - p) work32 zs (2 * nblocks P) (omega arith) size2 in
+        let found2 : Found (P .recs) (length (P .locs)) (length (P .types)) ys =
+        subst (λ (l : List ℕ). Found l (length (P .locs)) (length (P .types)) ys) (sym er)
+        (subst (λ (n : ℕ). Found recs n (length (P .types)) ys) (sym ei) (subst (λ (n : ℕ). Found recs insts n ys) (part-long a e ∙ sym el) found)) in
+        record {
+          known = facts-few P;
+          seen = subst (λ (ws : List ℕ). Seen (facts P) (length (P .types)) ws) (sym y) (seen-given P ok found2 (S.regs-lent P ok) (le-refl (length (P .types))));
+          preds = subst (λ (ws : List ℕ). C.Preds P ws (nblocks P)) (sym z) (preds-from P (preds-at P eb er ep et told));
+        };
+  }

@@ -1,0 +1,4 @@
+pub mod Sink
+pub mod Kept
+pub mod Rounds
+pub mod Judge

@@ -1,0 +1,123 @@
+-- 01, "The call": what the call gives and leaves, `model`'s `sink` of the picture on entry; and what each of its parts does. Assumes
+-- nothing.
+use mathlib.Core.Path.{_≡_}
+use mathlib.Core.Bool.{true, false}
+use mathlib.Core.List.{List}
+use mathlib.Core.Option.{none, some}
+use Prim.Native.Nat.{ℕ, _+_, _*_, _/_, _≤_, _<_}
+use lib.ListN.{length, take, drop}
+use Rattle.words.specs.Lists.{concat, count}
+use Rattle.model.specs.declared.Answer.{Answer}
+use Rattle.model.specs.Picture.{Picture}
+use Rattle.model.specs.Refusal.{refusal}
+use Rattle.model.specs.Analyse.{Facts, facts}
+use Rattle.model.specs.Move.{Plan, apply}
+use Rattle.model.specs.Pass as Pass
+use Rattle.model.specs.Pass.{Outcome, rounds, fits, sink-all}
+use Rattle.picture.specs.Causes.{picture-of}
+use Rattle.apply.specs.declared.needs.Counts.{Counts}
+use Rattle.apply.specs.Apply.{Holds, Stands, Given, Asks, Counted, Fits}
+use Rattle.trial.specs.declared.block.Move.{Move}
+use Rattle.trial.specs.Work.{width, Begun, chain-words}
+use Rattle.sink.specs.declared.round.Step.{Step}
+use Rattle.sink.specs.declared.round.Step.the-variants.{Goes, Short, Stays}
+use Rattle.sink.specs.declared.round.Line.{Line}
+
+-- what the call gives for the picture that is lent as these slices and counts, with work slices of these lengths
+unfoldable pub outcome : (bounds recs locs vias types : List ℕ) (regs : ℕ) (ops : List ℕ) (opers : ℕ) (pairs targets replay : List ℕ) (w64 w32 : ℕ) → Outcome
+outcome bounds recs locs vias types regs ops opers pairs targets replay w64 w32 = Pass.sink (picture-of bounds recs locs vias types regs ops opers pairs targets replay) w64 w32
+
+-- the cause for which it is refused, or 0
+unfoldable pub cause : (bounds recs locs vias types : List ℕ) (regs : ℕ) (ops : List ℕ) (opers : ℕ) (pairs targets replay : List ℕ) (w64 w32 : ℕ) → ℕ
+cause bounds recs locs vias types regs ops opers pairs targets replay w64 w32 = refusal (picture-of bounds recs locs vias types regs ops opers pairs targets replay) w64 w32
+
+-- the answer, the lines of its rounds, six words each, and the six slices are those of the outcome o
+pub record Did (o : Outcome) (answer : Answer) (lines bounds recs locs vias types ops : List ℕ) : Type 0 where
+  pub answer-is : answer ≡ o .answer
+  pub lines-are : take (6 * rounds answer) lines ≡ concat (o .lines)
+  pub holds : Holds (o .left) bounds recs locs vias types ops
+
+-- the work slices keep their lengths, and where the picture is refused, by cause n, their contents
+pub record Work (n : ℕ) (work64 work32 work64′ work32′ : List ℕ) : Type 0 where
+  pub size64 : length work64′ ≡ length work64
+  pub size32 : length work32′ ≡ length work32
+  pub kept : (n ≡ 0 → ⊥) → (work64′ ≡ work64) × (work32′ ≡ work32)
+
+-- ---- between rounds
+
+-- the picture P is accepted, and the work slices hold what the call began with
+pub record Ready (P : Picture) (work64 work32 : List ℕ) : Type 0 where
+  pub accepted : refusal P (length work64) (length work32) ≡ 0
+  pub G : Facts
+  pub begun : Begun P G work64 work32
+
+-- ---- one round
+
+-- the move mv can be counted: the words of the chain are as the move asks, and the words for new names are there
+pub record Needing (bounds recs types ops work64 work32 : List ℕ) (regs opers insts : ℕ) (mv : Move) : Type 0 where
+  pub asks : Asks (mv .from) (mv .into) (mv .inside) (mv .places) regs opers (length types) insts bounds recs types ops (chain-words work32)
+  pub few-blocks : length bounds / 2 ≤ 4096
+  pub room64 : 4 * (length bounds / 2) * width (length types) + 2 * length types ≤ length work64
+  pub room32 : 8000 ≤ length work32
+
+-- c was counted; of the work slices, the words of the chain and those for new names changed
+pub record Needed (bounds recs locs vias types ops work64 work32 : List ℕ) (regs opers : ℕ) (mv : Move) (work64′ work32′ : List ℕ) (c : Counts) : Type 0 where
+  pub size64 : length work64′ ≡ length work64
+  pub size32 : length work32′ ≡ length work32
+  pub before : take (4 * (length bounds / 2) * width (length types) + length types) work64′ ≡ take (4 * (length bounds / 2) * width (length types) + length types) work64
+  pub behind : drop 8000 work32′ ≡ drop 8000 work32
+  pub counted : Counted (mv .from) (mv .into) (mv .inside) (mv .places) regs opers bounds recs locs vias types ops (chain-words work32) (chain-words work32′) (c .regs) (c .opers)
+
+-- what move mv, of these counts, comes to where so many registers and operands are lent
+abbrev pub stepped : Move → Counts → ℕ → ℕ → Step → Type 0
+stepped mv c lent room (Goes l) = (c .regs ≤ lent) × (c .opers ≤ room) × (l ≡ record { moved = mv; registers = c .regs; operands = c .opers })
+stepped mv c lent room Short = c .regs ≤ lent → room < c .opers
+stepped mv c lent room Stays = ⊥
+
+-- the line says what the plan a does to P
+pub record Says (P : Picture) (a : Plan) (l : Line) : Type 0 where
+  pub from-is : l .moved .from ≡ a .x
+  pub into-is : l .moved .into ≡ a .into
+  pub moved-is : l .moved .moved ≡ count (a .set)
+  pub registers-are : l .registers ≡ apply P a .regs
+  pub operands-are : l .operands ≡ apply P a .opers
+
+-- what the round is to do, and what the work slices then hold: of a move that fits, all that `apply` takes
+abbrev pub prepared : Picture → Facts → Step → List ℕ → Type 0
+prepared P G (Goes l) w =
+    (a : Plan) × (Pass.round P G ≡ some a) × (fits P (apply P a) ≡ true) × Says P a l
+    × Asks (a .x) (a .into) (l .moved .inside) (l .moved .places) (P .regs) (P .opers) (length (P .types)) (length (P .locs)) (P .bounds) (P .recs) (P .types) (P .ops) w
+    × Fits (a .x) (a .into) (l .moved .inside) (l .moved .places) (P .regs) (P .opers) (P .bounds) (P .recs) (P .types) (P .ops) w
+    × Stands P a (l .moved .inside) (l .moved .places) w × Given P a (l .moved .inside) w
+prepared P G Short w = (a : Plan) × (Pass.round P G ≡ some a) × (fits P (apply P a) ≡ false)
+prepared P G Stays w = Pass.round P G ≡ none
+
+pub record Decided (P : Picture) (work64 work32 : List ℕ) (r : Step) (work64′ work32′ : List ℕ) : Type 0 where
+  pub size64 : length work64′ ≡ length work64
+  pub size32 : length work32′ ≡ length work32
+  pub begun : (G : Facts) → Begun P G work64 work32 → Begun P G work64′ work32′
+  pub is : (G : Facts) → Begun P G work64 work32 → prepared P G r (chain-words work32′)
+
+-- the picture after it, by what it was to do
+abbrev pub next : Picture → Step → (Picture → Type 0) → Facts → Type 0
+next P (Goes l) F G = (a : Plan) × (Pass.round P G ≡ some a) × (fits P (apply P a) ≡ true) × Says P a l × F (apply P a)
+next P Short F G = (a : Plan) × (Pass.round P G ≡ some a) × (fits P (apply P a) ≡ false) × F P
+next P Stays F G = (Pass.round P G ≡ none) × F P
+
+-- the slices and the work slices after a round, of every facts G that they were for
+pub record Stepped (P : Picture) (work64 work32 : List ℕ) (r : Step) (bounds recs locs vias types ops work64′ work32′ : List ℕ) : Type 0 where
+  pub size64 : length work64′ ≡ length work64
+  pub size32 : length work32′ ≡ length work32
+  pub is : (G : Facts) → Begun P G work64 work32 → next P r (λ Q. Holds Q bounds recs locs vias types ops × Begun Q G work64′ work32′) G
+
+-- the rounds: all that is left of the call
+pub record Ended (P : Picture) (work64 work32 : List ℕ) (answer : Answer) (lines bounds recs locs vias types ops work64′ work32′ : List ℕ) : Type 0 where
+  pub size64 : length work64′ ≡ length work64
+  pub size32 : length work32′ ≡ length work32
+  pub did : (G : Facts) → Begun P G work64 work32 → Did (sink-all Pass.most-rounds 0 G P) answer lines bounds recs locs vias types ops
+
+-- all of the call behind refusals and gates
+pub record RanAll (P : Picture) (work64 work32 : List ℕ) (answer : Answer) (lines bounds recs locs vias types ops work64′ work32′ : List ℕ) : Type 0 where
+  pub size64 : length work64′ ≡ length work64
+  pub size32 : length work32′ ≡ length work32
+  pub did : Did (sink-all Pass.most-rounds 0 (facts P) P) answer lines bounds recs locs vias types ops
