@@ -1,0 +1,73 @@
+-- 01, "One listing whole": the host's entry over numbers and bytes. Assumes nothing.
+use mathlib.Core.Path.{_≡_}
+use mathlib.Core.Bool.{Bool, true, false, _&&_}
+use mathlib.Core.List.{List}
+use Prim.Native.Nat.{ℕ, _*_, _≤_}
+use lib.Dec.{leb}
+use lib.ListN.{length, take}
+use lib.Seq.{sets}
+use Rattle.words.specs.Lists.{concat}
+use Rattle.words.specs.Bytes.{words-of}
+use Rattle.model.specs.declared.Answer.{Answer}
+use Rattle.model.specs.declared.Answer.the-variants.{Done, Short, Refused}
+use Rattle.model.specs.Pass.{Outcome, rounds, number, sink}
+use Rattle.model.specs.Picture.{Picture}
+use Rattle.layout.specs.Layout.{readable, picture-in, picture-bytes, pictured}
+use Rattle.sink.specs.Kept.{registers, operands}
+
+-- the program's work slices: 64-bit 4 × 64 × 8 + 2 × 512, 32-bit 8 × 512 + 16 × 64 + 8,000
+abbrev pub work64 : ℕ
+work64 = 3072
+
+abbrev pub work32 : ℕ
+work32 = 13120
+
+-- the call on the picture in these bytes, with so many registers and operands lent
+abbrev pub sunk : List ℕ → ℕ → ℕ → Outcome
+sunk bs registers operands = sink (picture-in (words-of bs) registers operands) work64 work32
+
+-- "It lends the picture, at least 53,024 result bytes and, as numbers, the registers and operands lent, up to 512 and 2,048"
+abbrev pub within-bounds : List ℕ → ℕ → ℕ → ℕ → Bool
+within-bounds bs n registers operands = readable bs && leb 53024 n && leb registers 512 && leb operands 2048
+
+-- "It returns the rounds for done, 100 more for short, 200 plus the number for a refusal, 300 for anything unread or past these bounds"
+abbrev pub returned : List ℕ → ℕ → ℕ → ℕ → ℕ
+returned bs n registers operands = elim (within-bounds bs n registers operands) [ true ↦ number (sunk bs registers operands .answer) | false ↦ 300 ]
+
+-- "Done and short write the new picture at the result's head; nothing else is written"
+abbrev pub put-by : Answer → List ℕ → List ℕ → List ℕ
+put-by (Done u) bytes result = sets result 0 bytes
+put-by (Short u) bytes result = sets result 0 bytes
+put-by (Refused n) bytes result = result
+
+abbrev pub put-left : Outcome → List ℕ → List ℕ
+put-left o result = put-by (o .answer) (picture-bytes (o .left)) result
+
+abbrev pub written : List ℕ → List ℕ → ℕ → ℕ → List ℕ
+written bs result registers operands =
+    elim (within-bounds bs (length result) registers operands) [ true ↦ put-left (sunk bs registers operands) result | false ↦ result ]
+
+-- ---- the call in between
+
+-- the answer, the lines, six words each, and the result are those of the outcome
+pub record Ran-as (o : Outcome) (result : List ℕ) (answer : Answer) (lines result′ : List ℕ) : Type 0 where
+  pub answer-is : answer ≡ o .answer
+  pub lines-are : take (6 * rounds answer) lines ≡ concat (o .lines)
+  pub result-is : result′ ≡ put-left o result
+
+-- the picture in these slices, with the registers and operands in use that the answer gives
+abbrev pub left-by : (a : Answer) (bounds recs locs vias types ops pairs targets replay : List ℕ) → Picture
+left-by a bounds recs locs vias types ops pairs targets replay = pictured bounds recs locs vias types (registers a) ops (operands a) pairs targets replay
+
+-- slices within the program's sizes, and n result bytes
+pub record Roomy (bounds recs locs vias types ops pairs targets replay : List ℕ) (n : ℕ) : Type 0 where
+  pub bounds-fit : length bounds ≤ 128
+  pub recs-fit : length recs ≤ 8192
+  pub locs-fit : length locs ≤ 512
+  pub vias-fit : length vias ≤ 512
+  pub types-fit : length types ≤ 512
+  pub ops-fit : length ops ≤ 2048
+  pub pairs-fit : length pairs ≤ 256
+  pub targets-fit : length targets ≤ 1024
+  pub replay-fit : length replay ≤ 64
+  pub holds : 53024 ≤ n

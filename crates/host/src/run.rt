@@ -1,0 +1,170 @@
+// The call on a picture in bytes, with a line for each round (01, "One listing whole").
+use crate::load::load_bounds;
+use crate::load::load_locs;
+use crate::load::load_ops;
+use crate::load::load_pairs;
+use crate::load::load_recs;
+use crate::load::load_replay;
+use crate::load::load_targets;
+use crate::load::load_types;
+use crate::load::load_vias;
+use layout::read::counts;
+use layout::write::write_picture;
+use model::Answer;
+use sink::rounds::Ran;
+use sink::sink_rounds;
+ghost use mathlib.Core.Path.{_≡_};
+ghost use mathlib.Core.Bool.{true};
+ghost use Prim.Native.Nat.{_≤_};
+ghost use lib.ListN.{length};
+ghost use Rattle.layout.specs.Layout.{readable, picture-bytes, Fitting};
+ghost use Rattle.sink.specs.Sink.{outcome};
+ghost use Rattle.host.specs.Host.{sunk, put-by, put-left, Ran-as, left-by, Roomy};
+
+// Done and Short: the picture at the head of `result`.
+fn put_left(
+    result: &mut [u8],
+    answer: Answer,
+    bounds: &[u32],
+    recs: &[u32],
+    locs: &[u32],
+    vias: &[u32],
+    types: &[u32],
+    ops: &[u32],
+    pairs: &[u32],
+    targets: &[u32],
+    replay: &[u32],
+)
+    requires { ⌜ Fitting (left-by answer (now bounds) (now recs) (now locs) (now vias) (now types) (now ops) (now pairs) (now targets) (now replay)) (length (now result)) ⌝ }
+    ensures { λ _. ⌜ now (result .exit) ≡ put-by answer (picture-bytes (left-by answer (now (bounds .entry)) (now (recs .entry)) (now (locs .entry)) (now (vias .entry)) (now (types .entry)) (now (ops .entry)) (now (pairs .entry)) (now (targets .entry)) (now (replay .entry)))) (now (result .entry)) ⌝ }
+{
+    match answer {
+        Answer::Done(u) => {
+            write_picture(
+                result,
+                bounds,
+                recs,
+                locs,
+                vias,
+                types,
+                u.registers as usize,
+                ops,
+                u.operands as usize,
+                pairs,
+                targets,
+                replay,
+            );
+        }
+        Answer::Short(u) => {
+            write_picture(
+                result,
+                bounds,
+                recs,
+                locs,
+                vias,
+                types,
+                u.registers as usize,
+                ops,
+                u.operands as usize,
+                pairs,
+                targets,
+                replay,
+            );
+        }
+        Answer::Refused(_) => {}
+    }
+}
+
+// The call on lent slices, and the picture left.
+fn sink_into(
+    result: &mut [u8],
+    bounds: &mut [u32],
+    recs: &mut [u32],
+    locs: &mut [u32],
+    vias: &mut [u32],
+    types: &mut [u32],
+    regs: u32,
+    ops: &mut [u32],
+    opers: u32,
+    pairs: &[u32],
+    targets: &[u32],
+    replay: &[u32],
+    work64: &mut [u64],
+    work32: &mut [u32],
+) -> Ran
+    requires { ⌜ Roomy (now bounds) (now recs) (now locs) (now vias) (now types) (now ops) (now pairs) (now targets) (now replay) (length (now result)) ⌝ }
+    ensures { λ r. ⌜ Ran-as (outcome (now (bounds .entry)) (now (recs .entry)) (now (locs .entry)) (now (vias .entry)) (now (types .entry)) regs (now (ops .entry)) opers (now (pairs .entry)) (now (targets .entry)) (now (replay .entry)) (length (now (work64 .entry))) (length (now (work32 .entry)))) (now (result .entry)) (r .answer) (r .lines) (now (result .exit)) ⌝ }
+{
+    let r = sink_rounds(
+        bounds,
+        recs,
+        locs,
+        vias,
+        types,
+        regs,
+        ops,
+        opers,
+        pairs,
+        targets,
+        replay,
+        work64,
+        work32,
+    );
+    let answer = r.answer;
+    put_left(
+        result,
+        answer,
+        bounds,
+        recs,
+        locs,
+        vias,
+        types,
+        ops,
+        pairs,
+        targets,
+        replay,
+    );
+    r
+}
+
+// The call on the picture in these bytes, with so many registers and operands lent.
+pub fn run(picture: &[u8], result: &mut [u8], registers: usize, operands: usize) -> Ran
+    requires { ⌜ (readable (now picture) ≡ true) × (53024 ≤ length (now result)) × (registers ≤ 512) × (operands ≤ 2048) ⌝ }
+    ensures { λ r. ⌜ Ran-as (sunk (now (picture .entry)) registers operands) (now (result .entry)) (r .answer) (r .lines) (now (result .exit)) ⌝ }
+{
+    let c = counts(picture);
+    let nb = 2 * c.blocks;
+    let nr = 16 * c.insts;
+    let ni = c.insts;
+    let nv = c.vias;
+    let np = c.pairs;
+    let ng = c.targets;
+    let ny = c.replay;
+    let mut bounds = load_bounds(picture, nb);
+    let mut recs = load_recs(picture, nr);
+    let mut locs = load_locs(picture, ni);
+    let mut vias = load_vias(picture, nv);
+    let mut types = load_types(picture, registers);
+    let mut ops = load_ops(picture, operands);
+    let pairs = load_pairs(picture, np);
+    let targets = load_targets(picture, ng);
+    let replay = load_replay(picture, ny);
+    let mut work64 = [0u64; 3072];
+    let mut work32 = [0u32; 13120];
+    sink_into(
+        result,
+        &mut bounds[..nb],
+        &mut recs[..nr],
+        &mut locs[..ni],
+        &mut vias[..nv],
+        &mut types[..registers],
+        c.registers as u32,
+        &mut ops[..operands],
+        c.operands as u32,
+        &pairs[..np],
+        &targets[..ng],
+        &replay[..ny],
+        &mut work64,
+        &mut work32,
+    )
+}

@@ -1,0 +1,36 @@
+/* The host's entry of Virdzeba (document 01, "One listing whole"): one function over numbers and bytes.
+ * Link target/staticlib/libhost.a, which `rt staticlib host` writes (x86-64).
+ *
+ * A picture is a list of little-endian 32-bit words: the counts of blocks, instructions, registers, operands, pair words,
+ * target words, replay and via words; then block bounds, records of 16 words, locs, vias, types, operands, case pairs,
+ * case targets, replay. */
+#ifndef VIRDZEBA_H
+#define VIRDZEBA_H
+
+#include <stddef.h>
+#include <stdint.h>
+
+#ifdef __cplusplus
+extern "C" {
+#endif
+
+#define VIRDZEBA_RESULT 53024u   /* bytes that the result has at least */
+#define VIRDZEBA_REGISTERS 512u  /* registers lent at most */
+#define VIRDZEBA_OPERANDS 2048u  /* operands lent at most */
+
+#define VIRDZEBA_SHORT 100u   /* the answer less this: rounds done before the room ran out */
+#define VIRDZEBA_REFUSED 200u /* the answer less this: the cause, 1 to 11 */
+#define VIRDZEBA_UNREAD 300u  /* cut short, too long, or past the bounds above */
+
+/* Sinks the picture with so many registers and operands lent. Below VIRDZEBA_SHORT the answer is the rounds that were done,
+ * and none is left to do. Done and short write the new picture at the head of `result`; nothing else is written. Both
+ * pointers must be to as many bytes as their lengths say, and the two may not overlap. Nothing else is asked of the caller. */
+uint32_t virdzeba_sink(const uint8_t *picture, size_t picture_len,
+                       uint8_t *result, size_t result_len,
+                       uint32_t registers, uint32_t operands);
+
+#ifdef __cplusplus
+}
+#endif
+
+#endif
