@@ -1,13 +1,16 @@
 #!/bin/sh
 # Holds the definitions and the port against the Rust of the pass: the table of roles, the oracle against itself, the rows of
-# crate `crossed`, made anew, and the layers of the port, through crate `probe`. See README.md.
+# crate `crossed`, made anew, the layers of the port and the pass over slices, through crate `probe`, the host's entry, from C
+# too, and what `sinkrounds` prints. See README.md.
 #
 #   compare.sh              needs the Rust; without it, or without cargo or rt, it says so and ends with 2
 #   compare.sh --if-there   for .ci/run: without the Rust the comparison is left out, except that it fails where CI=true
 #   compare.sh --listing    only shows document 01's listing and what the Rust makes of it
+#   compare.sh --bench      only prints docs/BENCH.md
 #
 # YAVS_SRC names the folder that holds crates/yavs-ir/src; else shared/docs/src beside the repository is taken.
-# PICTURES and SEED say how many pictures are drawn, and which (4000 and 1); for the port a quarter as many.
+# PICTURES and SEED say how many pictures are drawn, and which (4000 and 1); for the port's layers a quarter or an eighth as many.
+# SUNK and LARGE say how many go through the host's entry and over slices (10000 and 40).
 set -eu
 sources=${YAVS_SRC:-$(dirname "$0")/../../../shared/docs/src}
 missing=
@@ -38,21 +41,66 @@ if [ "${1:-}" = --listing ]; then
     exec $compare listing
 fi
 
-# The port, proved where it is not yet, as an archive; what is said of that is shown only if it fails.
+# The port, proved where it is not yet; what is said of that is shown only if it fails.
 made=$(mktemp -d)
 trap 'rm -r "$made"' EXIT
-if ! (cd ../.. && rt staticlib probe) >"$made/staticlib" 2>&1; then
-    cat "$made/staticlib" >&2
-    echo "compare: failed: rt staticlib probe wrote no archive to compare." >&2
-    exit 1
+proved() {
+    if ! (cd ../.. && rt "$1" "$2") >"$made/say" 2>&1; then
+        cat "$made/say" >&2
+        echo "compare: failed: rt $1 $2 gave nothing to compare." >&2
+        exit 1
+    fi
+    rm "$made/say"
+}
+proved staticlib probe
+proved staticlib host
+cargo build --release --offline --locked --quiet --features port,host
+if [ "${1:-}" = --bench ]; then
+    $compare bench "${SEED:-1}"
+    exit
 fi
-rm "$made/staticlib"
-cargo build --release --offline --locked --quiet --features port
+
+# The comparisons themselves: a slip that is put in is found.
+[ "${1:-}" = --if-there ] || cargo test --release --offline --locked --quiet --features port,host
 
 $compare roles ../../crates/model/specs/Kinds.antt
 $compare selfcheck "${PICTURES:-4000}" "${SEED:-1}"
 $compare refusals $((${PICTURES:-4000} / 4)) "${SEED:-1}"
 $compare flow $((${PICTURES:-4000} / 4)) "${SEED:-1}"
+$compare facts $((${PICTURES:-4000} / 8)) "${SEED:-1}"
+$compare sink "${SUNK:-10000}" "${SEED:-1}"
+$compare large "${LARGE:-40}" "${SEED:-1}"
+
+# The same entry from C.
+if command -v cc >/dev/null 2>&1; then
+    cc -std=c99 -Wall -Wextra -Werror -O2 -I ../../include ../c/example.c ../../target/staticlib/libhost.a -o "$made/example"
+    $compare bytes | "$made/example" >"$made/after" 2>"$made/answer"
+    echo "done 1" | cmp - "$made/answer"
+    $compare bytes | $compare sunk | cmp - "$made/after"
+    rm "$made/example" "$made/after" "$made/answer"
+    echo "example.c: the listing is sunk as by the Rust"
+else
+    echo "example.c: left out, there is no cc"
+fi
+
+# The stored pictures are what the command writes, and what `sinkrounds` prints for them is what the Rust gives.
+listed() {
+    grep -q "^$1:" ../../crates.txt || { echo "compare: $1 is not there yet"; return 1; }
+}
+if listed sinkrounds; then
+    proved check sinkrounds
+    $compare program ../../target/bin/sinkrounds
+fi
+$compare vectors "$made"
+if listed vectors; then
+    for file in stdin README.md; do
+        cmp "$made/$file" "../../crates/vectors/$file"
+    done
+fi
+if command -v python3 >/dev/null 2>&1; then
+    ../../tools/listing.py check "$made/stdin"
+fi
+rm "$made/stdin" "$made/README.md"
 
 # The rows of `crossed` are what the command prints, word for word.
 $compare crossed "$made"

@@ -18,7 +18,7 @@ use Rattle.flow.specs.Graph.{Tables, Blocks, Graph}
 use Rattle.flow.specs.Sets.{Code, Below, Room}
 use Rattle.flow.specs.Live.{Live}
 use Rattle.flow.specs.Preds.{Told, Preds}
-use Rattle.flow.proofs.Whole.{succs-whole, preds-whole, live-in-whole}
+use Rattle.flow.proofs.Whole.{succs-whole, preds-whole, live-rows-whole}
 
 module _ (P : Picture) (ok : Accepted P) where
   -- the records are those of the locs
@@ -62,7 +62,7 @@ module _ (P : Picture) (ok : Accepted P) where
   }
 
   pub live-of : (w v : ℕ) (bits : List ℕ) → w ≡ v → Live (drawn (P .bounds) (P .recs) (P .ops) (P .pairs) (P .targets)) w bits → Live P v bits
-  live-of w v bits e l = subst (λ (k : ℕ). Live P k bits) e (record { row = λ b r h i. l .row b r h i ∙ live-in-whole P b r })
+  live-of w v bits e l = subst (λ (k : ℕ). Live P k bits) e (live-rows-whole P w bits l)
 
   pub preds-of : (words : List ℕ) → Preds (drawn (P .bounds) (P .recs) [] (P .pairs) (P .targets)) words → Preds P words
   preds-of words l = record { told = λ b h. subst (Told words b) (preds-whole P [] b) (l .told b h) }

@@ -1,1 +1,5 @@
 pub mod Given
+pub mod Heads
+pub mod Numbers
+pub mod Seeking
+pub mod Attempts

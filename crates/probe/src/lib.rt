@@ -1,5 +1,8 @@
 // Single layers of the port under C names, for tests/rust to hold against the Rust: each function asks nothing of its
 // caller, and its contract is the layer's own.
+pub mod whole; // whole.rt: the whole call
+pub mod attempt; // attempt.rt: the search from one block
+
 use flow::graph::find_preds;
 use flow::live::live_in;
 use inst::table::table;

@@ -97,7 +97,7 @@ fn bad_type(p: &Picture) -> bool {
 }
 
 /// Kinds of which `analyse` can find an instance movable.
-fn may_move(kind: u32) -> bool {
+pub fn may_move(kind: u32) -> bool {
     use kinds::*;
     matches!(
         kind,

@@ -11,12 +11,27 @@ pub const OPERANDS: usize = SIZES[3];
 /// Bytes that the host lends for the result at least.
 pub const RESULT: usize = 53_024;
 
+/// The eight counts of a picture.
+fn counts(p: &Picture) -> [usize; 8] {
+    [p.nblocks(), p.locs.len(), p.regs as usize, p.opers as usize, p.pairs.len(), p.targets.len(), p.replay.len(), p.vias.len()]
+}
+
+/// Whether the counts are within the program's sizes.
+pub fn fits(p: &Picture) -> bool {
+    counts(p).iter().zip(SIZES).all(|(&n, most)| n <= most)
+}
+
 /// The picture as `sinkrounds` reads it: what is in use, and nothing of the room lent.
 pub fn to_bytes(p: &Picture) -> Vec<u8> {
-    let (types, ops) = (&p.types[..p.regs as usize], &p.ops[..p.opers as usize]);
-    let counts = [p.nblocks(), p.locs.len(), types.len(), ops.len(), p.pairs.len(), p.targets.len(), p.replay.len(), p.vias.len()];
+    assert!(p.types.len() >= p.regs as usize && p.ops.len() >= p.opers as usize, "what is in use is there");
+    loose_bytes(p)
+}
+
+/// The same of a picture that is perhaps none: the counts as they are, and of each list what there is.
+pub fn loose_bytes(p: &Picture) -> Vec<u8> {
+    let (types, ops) = (&p.types[..p.types.len().min(p.regs as usize)], &p.ops[..p.ops.len().min(p.opers as usize)]);
     let slices = [&p.bounds[..], &p.recs, &p.locs, &p.vias, types, ops, &p.pairs, &p.targets, &p.replay];
-    let words = counts.iter().map(|&n| n as u32).chain(slices.into_iter().flatten().copied());
+    let words = counts(p).into_iter().map(|n| n as u32).chain(slices.into_iter().flatten().copied());
     words.flat_map(u32::to_le_bytes).collect()
 }
 
@@ -77,11 +92,17 @@ pub fn text(outcome: Option<&Outcome>) -> String {
 }
 
 /// What the host entry returns, and the bytes at the head of the result for Done and Short.
-pub fn host(bytes: &[u8], registers: usize, operands: usize, result: usize) -> (u32, Option<Vec<u8>>) {
+pub type Hosted = (u32, Option<Vec<u8>>);
+
+/// What the host entry must give. `None` where the picture is accepted and has more types than the Rust knows.
+pub fn host(bytes: &[u8], registers: usize, operands: usize, result: usize) -> Option<Hosted> {
     let Some(picture) = from_bytes(bytes, registers, operands).filter(|_| result >= RESULT) else {
-        return (300, None);
+        return Some((300, None));
     };
-    let outcome = oracle_with_work(&picture).expect("no more types than the Rust has");
+    oracle_with_work(&picture).map(|o| hosted(&o))
+}
+
+pub fn hosted(outcome: &Outcome) -> Hosted {
     let written = match outcome.answer {
         Answer::Refused(_) => None,
         _ => Some(to_bytes(&outcome.picture)),

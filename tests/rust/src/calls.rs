@@ -3,8 +3,8 @@
 
 use super::*;
 
-use crate::driver::{Facts, Flow, Look, Overview, Pass, Position, Round, State, Trace, caught};
-use crate::time::best;
+use crate::driver::{Facts, Flow, Look, Overview, Pass, Position, Register, Round, Search, State, Told, Trace, caught};
+use crate::time::{best, once};
 
 /// Registers that eight rounds can make at most: a Sig takes two.
 const ROOM: usize = 8 * 2 * MAX_SEQ;
@@ -84,6 +84,67 @@ impl Sink<'_> {
         };
         let positions = (0..run.seq.insts.len()).map(|p| position(&run, p)).collect();
         Some(Look { blocks, t, f, positions, target, set })
+    }
+}
+
+impl Sink<'_> {
+    /// Origin, length and layout of the value that position `p` leaves in `reg`: `analyse` keeps them to itself, so the code up to
+    /// `p` is followed by instructions whose facts show them.
+    fn value(&self, insts: &[Inst], p: usize, reg: Reg) -> (u32, bool, bool) {
+        let other = Reg(u32::from(reg.0 == 0));
+        let mut seq = Seq { insts: insts[..=p].to_vec(), loc: Vec::new(), via: Vec::new() };
+        seq.insts.extend([
+            Inst::DopeLen { dst: other, dope: reg, dim: 0 },
+            Inst::Alloc { dst: other, size: reg },
+            Inst::Load { dst: other, addr: reg, w: Width::B8 },
+            Inst::Alloc { dst: other, size: other },
+        ]);
+        let run = self.analyse(seq, p + 1);
+        let own = run.eff[p + 1].reads[0];
+        (origin(own), run.eff[p + 2].creates, own == Org::Temp(p as u32) && run.eff[p + 4].creates)
+    }
+
+    /// The search of `try_block`, where it gets to `analyse`. Of long chains only some positions have their values looked at.
+    fn search(&self, x: usize) -> Option<Search> {
+        let (blocks, t, f) = self.chain(x)?;
+        let seq = self.seq(&blocks);
+        let inside = self.code[x].len() - 1;
+        let replay = self.replay.contains(&t) || self.replay.contains(&f);
+        let cat = |i: &Inst| matches!(i, Inst::Cat { logic: false, .. });
+        if inside < if replay { MIN_REPLAY } else { MIN_SUNK } || seq.insts.len() > MAX_SEQ || !(replay || seq.insts[..inside].iter().any(cat)) {
+            return None;
+        }
+        let look = self.look(x)?;
+        let insts = seq.insts.clone();
+        let run = self.analyse(seq, inside);
+        let mut places = Vec::new();
+        for (k, &b) in blocks.iter().enumerate() {
+            places.extend((0..self.code[b].len() - usize::from(k + 1 < blocks.len())).map(|i| (b, i)));
+        }
+        let step = insts.len() / 100 + 1;
+        let told = (0..insts.len()).map(|p| Told {
+            place: places[p],
+            class: match run.class[p] {
+                Class::No => 0,
+                Class::Movable => 1,
+                Class::Free => 2,
+            },
+            position: position(&run, p),
+            value: run.defs[p].first().filter(|_| p % step == 0).map(|&d| self.value(&insts, p, d)),
+            last_use: look.target.filter(|_| look.set[p]).map(|target| {
+                let kept = run.defs[p].iter().any(|d| run.last_def.get(d) == Some(&p) && bit(&self.live_in[target], *d));
+                if kept { usize::MAX } else { run.users[p].iter().copied().max().unwrap_or(p) }
+            }),
+        });
+        let told = told.collect();
+        let small = |v: i64| (-(1i64 << 40)..=(1i64 << 40)).contains(&v);
+        let flag = |on: bool, n: u32| u32::from(on) * n;
+        let registers = (0..self.reg_ty.len()).map(|r| Register {
+            flags: flag(self.ro[r], 1) + flag(self.frame[r], 2) + flag(self.konst[r].is_some_and(small), 4) + flag(self.konst[r].is_some_and(|v| v > 0), 8),
+            writer: run.last_def.get(&Reg(r as u32)).copied(),
+        });
+        let registers = registers.collect();
+        Some(Search { inside, told, registers, target: look.target, set: look.set })
     }
 }
 
@@ -220,12 +281,32 @@ impl Pass {
         })
     }
 
+    /// How long `find_preds` and `sink_all` take, in milliseconds, facts lengthened. All else is made before the time begins, and
+    /// dropped after its end.
+    pub fn sink_time(prog: &Program, f: &crate::Func, replay: &[usize]) -> f64 {
+        let mut s = begin(prog, f, replay);
+        s.preds = Vec::new();
+        s.lengthen(s.reg_ty.len() + ROOM);
+        once(s, |mut s| {
+            s.find_preds();
+            s.sink_all();
+            s
+        })
+    }
+
     /// Predecessors, live-in rows, and each block as the start of a chain, before round 1.
     pub fn overview(prog: &Program, f: &crate::Func, replay: &[usize]) -> Overview {
         let mut s = begin(prog, f, replay);
         s.liveness();
         let looks = (0..s.code.len()).map(|x| s.look(x)).collect();
         Overview { preds: s.preds.clone(), live_in: s.live_in.clone(), looks }
+    }
+
+    /// The search from each block, before round 1.
+    pub fn searches(prog: &Program, f: &crate::Func, replay: &[usize]) -> Vec<Option<Search>> {
+        let mut s = begin(prog, f, replay);
+        s.liveness();
+        (0..s.code.len()).map(|x| s.search(x)).collect()
     }
 
     pub fn writes_nothing(i: &Inst) -> bool {

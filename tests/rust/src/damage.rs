@@ -1,5 +1,5 @@
 //! Damaged pictures, one way to damage a picture for each clause of document 01's table of causes, just past its bound and,
-//! where that says something, just within it.
+//! where that says something, just within it. Then pictures with some words altered, and pictures of random words.
 
 use crate::kinds::*;
 use crate::picture::{ABSENT, Picture, RECORD, Record};
@@ -81,6 +81,14 @@ damages! {
     0 "513 registers and 4,096 blocks, past the gate" |p, _| grow_blocks(p, 4096) && grow_registers(p, 513);
     0 "no Cat of form 0 left, past the gate" |p, _| { while record(p, &mut Random::new(0), |k| k == CAT, |w, _| *w = Record::new(STMT, 0, &[], (0, 0), &[]).0) {}; true };
     0 "a type of 8 past those in use" |p, _| { p.types.truncate(p.regs as usize); push(&mut p.types, 8) };
+}
+
+/// Adds a second cause to a picture that was damaged so, where that can be done; it says which.
+pub fn damage_again(p: &mut Picture, first: &Damage, rnd: &mut Random) -> Option<&'static str> {
+    let second = &DAMAGES[rnd.below(DAMAGES.len())];
+    // Damages above 3 take records apart, so that lengths and kinds must still be in order.
+    let whole = first.cause == 0 || first.cause > 4;
+    (second.cause > 0 && (whole || second.cause <= 3) && (second.deed)(p, rnd)).then_some(second.what)
 }
 
 fn push(list: &mut Vec<u32>, w: u32) -> bool {
@@ -165,4 +173,60 @@ fn cat_list(p: &mut Picture, r: &mut Random, n: u32) -> bool {
     }
     p.opers += n;
     record(p, r, |k| k == CAT, |w, _| (w[7], w[8]) = (start, n))
+}
+
+/// A word that is near some bound, or any.
+fn some_word(p: &Picture, rnd: &mut Random) -> u32 {
+    let near = [0, 1, 7, 33, 100, p.regs, p.opers, p.nblocks() as u32, p.locs.len() as u32, p.targets.len() as u32, ABSENT];
+    match rnd.below(4) {
+        0 => rnd.word() as u32,
+        1 => rnd.pick(&near).wrapping_sub(1),
+        2 => rnd.pick(&near).wrapping_add(1),
+        _ => rnd.pick(&near),
+    }
+}
+
+/// Changes one word, mostly of a record, or one of the counts in use.
+pub fn alter(p: &mut Picture, rnd: &mut Random) {
+    let word = some_word(p, rnd);
+    let lists = [&mut p.bounds, &mut p.types, &mut p.ops, &mut p.pairs, &mut p.targets];
+    match rnd.below(20) {
+        0 => p.regs = word,
+        1 => p.opers = word,
+        at @ 2..7 => put(lists.into_iter().nth(at - 2).expect("five lists"), word, rnd),
+        _ => put(&mut p.recs, word, rnd),
+    }
+}
+
+fn put(list: &mut [u32], word: u32, rnd: &mut Random) {
+    if !list.is_empty() {
+        list[rnd.below(list.len())] = word;
+    }
+}
+
+/// Random words in slices of random lengths; often the lengths fit each other, so that more than lengths is looked at.
+pub fn any_words(rnd: &mut Random) -> Picture {
+    let mut p = Picture::default();
+    let most = rnd.pick(&[1, 5, 101, u32::MAX as usize]);
+    let words = |rnd: &mut Random, n: usize| (0..n).map(|_| rnd.below(most) as u32).collect::<Vec<u32>>();
+    let code = rnd.below(6);
+    let uneven = usize::from(rnd.chance(20));
+    p.locs = words(rnd, code);
+    p.recs = words(rnd, RECORD * code + uneven);
+    let vias = rnd.pick(&[0, 0, code, code + 1]);
+    p.vias = words(rnd, vias);
+    let lengths = [rnd.below(8), rnd.below(8), rnd.below(8), rnd.below(8)];
+    p.types = words(rnd, lengths[0]);
+    p.ops = words(rnd, lengths[1]);
+    p.pairs = words(rnd, lengths[2]);
+    p.targets = words(rnd, lengths[3]);
+    p.regs = rnd.below(p.types.len() + 1 + uneven) as u32;
+    p.opers = rnd.below(p.ops.len() + 1 + uneven) as u32;
+    if rnd.chance(80) {
+        p.bounds = vec![0, code as u32];
+    } else {
+        let n = rnd.below(5);
+        p.bounds = words(rnd, n);
+    }
+    p
 }

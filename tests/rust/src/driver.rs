@@ -71,6 +71,38 @@ pub struct Look {
     pub set: Vec<bool>,
 }
 
+/// What `analyse` says of one position, with what it keeps to itself, asked of it by instructions put behind the position.
+#[derive(Clone, Debug, PartialEq, Eq)]
+pub struct Told {
+    /// block, and place in it
+    pub place: (usize, usize),
+    /// 0 No, 1 Movable, 2 Free
+    pub class: u32,
+    pub position: Position,
+    /// the origin of its value, whether that is a length, and whether it is a layout; `None` where it writes no register
+    pub value: Option<(u32, bool, bool)>,
+    /// of a member, its last use; `usize::MAX` for one that the target reads
+    pub last_use: Option<usize>,
+}
+
+/// What is known of a register after a chain was looked at: read-only, frame, a constant that is a length, a constant above 0,
+/// and its last writer in the chain.
+#[derive(Clone, Debug, PartialEq, Eq)]
+pub struct Register {
+    pub flags: u32,
+    pub writer: Option<usize>,
+}
+
+/// The search from one block, where the Rust gets to `analyse`.
+#[derive(Clone, Debug)]
+pub struct Search {
+    pub inside: usize,
+    pub told: Vec<Told>,
+    pub registers: Vec<Register>,
+    pub target: Option<usize>,
+    pub set: Vec<bool>,
+}
+
 /// The graph of the function before round 1: each block's predecessors and live-in row.
 #[derive(Clone, Debug)]
 pub struct Flow {

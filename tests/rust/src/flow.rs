@@ -4,12 +4,13 @@
 use std::collections::BTreeMap;
 
 use crate::accept;
+use crate::copies::copies;
 use crate::damage::DAMAGES;
 use crate::driver::{Flow, Pass};
 use crate::generate::{Size, picture};
-use crate::kinds::{BR, CASE, COND_BR, KINDS, RET, STMT};
+use crate::kinds::{BR, RET, STMT};
 use crate::oracle::Lent;
-use crate::picture::{ABSENT, Picture, Record};
+use crate::picture::{Picture, Record};
 use crate::port;
 use crate::random::Random;
 use crate::refusals::long_blocks;
@@ -129,55 +130,6 @@ impl Stats {
             println!("fault: {f}");
         }
     }
-}
-
-/// Copies of a picture one behind the other, as many as fit into so many instructions and 4,096 blocks. `groups` of them in
-/// turn have registers and lists of their own.
-pub fn copies(p: &Picture, instructions: usize, groups: usize) -> Picture {
-    let (code, many) = (p.locs.len(), p.nblocks());
-    let copies = (instructions / code).min(4096 / many).max(1);
-    let groups = groups.min(copies);
-    let mut blocks = Vec::new();
-    let mut q = Picture::default();
-    for c in 0..copies {
-        let g = (c % groups) as u32;
-        let (to, tables) = ((c * many) as u32, (c * p.pairs.len() / 2) as u32);
-        for b in p.blocks() {
-            blocks.push(b.iter().map(|r| moved(r, g * p.regs, g * p.opers, to, tables)).collect::<Vec<Record>>());
-        }
-        for pair in p.pairs.chunks(2) {
-            q.pairs.extend([pair[0] + (c * p.targets.len()) as u32, pair[1]]);
-        }
-        q.targets.extend(p.targets.iter().map(|t| t + to));
-    }
-    for g in 0..groups as u32 {
-        q.types.extend_from_slice(&p.types[..p.regs as usize]);
-        q.ops.extend(p.ops[..p.opers as usize].iter().map(|r| r + g * p.regs));
-    }
-    let laid = Picture::of_blocks(&blocks);
-    (q.bounds, q.recs, q.locs) = (laid.bounds, laid.recs, laid.locs);
-    (q.regs, q.opers) = (q.types.len() as u32, q.ops.len() as u32);
-    q
-}
-
-/// A record with its registers, list, branches and case table moved on by so much.
-fn moved(r: &Record, regs: u32, opers: u32, to: u32, tables: u32) -> Record {
-    let mut w = r.0;
-    for slot in &mut w[2..7] {
-        if *slot != ABSENT {
-            *slot += regs;
-        }
-    }
-    if KINDS[r.kind() as usize].list {
-        w[7] += opers;
-    }
-    match r.kind() {
-        BR => w[9] += to,
-        COND_BR => (w[9], w[10]) = (w[9] + to, w[10] + to),
-        CASE => w[9] += tables,
-        _ => {}
-    }
-    Record(w)
 }
 
 /// Blocks that go from one to the next, up or down, the last of which reads all registers: what is live goes through all.

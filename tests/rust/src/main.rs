@@ -7,16 +7,19 @@ use compare::listing::listing;
 use compare::oracle::oracle_with_work;
 use compare::picture::Picture;
 #[cfg(feature = "port")]
-use compare::{flow, refusals};
+use compare::{bench, facts, flow, large, port, refusals};
+#[cfg(feature = "host")]
+use compare::{host, sink};
 use compare::roles::roles;
 use compare::selfcheck::selfcheck;
+use compare::{program, vectors};
 use std::fs;
 use std::io::{Read, Write};
 use std::path::Path;
 use std::process::ExitCode;
 
 const USAGE: &str =
-    "compare listing | bytes | rounds | selfcheck N SEED | roles KINDS | crossed FOLDER [ROWS], and with the port: refusals | flow N SEED";
+    "compare listing | bytes | rounds | sunk | program PATH | selfcheck N SEED | roles KINDS | crossed FOLDER [ROWS] | vectors FOLDER, with the host's entry: sink N SEED, and with the port's layers: refusals | flow | facts | large N SEED | bench SEED";
 
 /// A picture's code, block by block.
 fn show(what: &str, p: &Picture) {
@@ -42,6 +45,37 @@ fn drawn(n: &str, seed: &str, command: impl Fn(usize, u64) -> Vec<String>) -> Ex
     if missing.is_empty() { ExitCode::SUCCESS } else { ExitCode::FAILURE }
 }
 
+fn standard_input() -> Vec<u8> {
+    let mut input = Vec::new();
+    std::io::stdin().read_to_end(&mut input).expect("standard input");
+    input
+}
+
+/// Writes files into a folder.
+fn write_all(folder: &str, files: impl IntoIterator<Item = (String, Vec<u8>)>) -> ExitCode {
+    for (name, bytes) in files {
+        let path = Path::new(folder).join(&name);
+        let written = fs::create_dir_all(path.parent().unwrap_or(&path)).and_then(|()| fs::write(&path, bytes));
+        if let Err(e) = written {
+            eprintln!("{}: {e}", path.display());
+            return ExitCode::from(2);
+        }
+    }
+    ExitCode::SUCCESS
+}
+
+/// Writes down the smallest input of a difference, for whoever looks for its reason.
+#[cfg(feature = "host")]
+fn keep(fault: Option<&sink::Fault>) {
+    if let Some(f) = fault {
+        let path = "target/fault.picture";
+        match fs::write(path, &f.lending.bytes) {
+            Ok(()) => println!("the smallest, in {path}: {}", f.what),
+            Err(e) => println!("the smallest: {} ({path}: {e})", f.what),
+        }
+    }
+}
+
 fn main() -> ExitCode {
     let words: Vec<String> = std::env::args().skip(1).collect();
     let words: Vec<&str> = words.iter().map(String::as_str).collect();
@@ -59,28 +93,44 @@ fn main() -> ExitCode {
             ExitCode::SUCCESS
         }
         ["rounds"] => {
-            let mut input = Vec::new();
-            std::io::stdin().read_to_end(&mut input).expect("standard input");
-            let picture = bytes::from_bytes(&input, bytes::REGISTERS, bytes::OPERANDS);
-            let outcome = picture.map(|p| oracle_with_work(&p).expect("no more types than the Rust has"));
-            print!("{}", bytes::text(outcome.as_ref()));
+            print!("{}", program::text_of(&standard_input()).expect("no more types than the Rust has"));
             ExitCode::SUCCESS
         }
+        ["sunk"] => {
+            let hosted = bytes::host(&standard_input(), bytes::REGISTERS, bytes::OPERANDS, bytes::RESULT);
+            let (_, picture) = hosted.expect("no more types than the Rust has");
+            std::io::stdout().write_all(&picture.unwrap_or_default()).expect("standard output");
+            ExitCode::SUCCESS
+        }
+        ["program", path] => match program::program(Path::new(path)) {
+            Ok(wrong) => {
+                for what in wrong.iter().take(20) {
+                    println!("wrong: {what}");
+                }
+                if wrong.is_empty() { ExitCode::SUCCESS } else { ExitCode::FAILURE }
+            }
+            Err(e) => {
+                eprintln!("{path}: {e}");
+                ExitCode::from(2)
+            }
+        },
         ["crossed", folder] | ["crossed", folder, _] => {
             let many = words.get(2).map_or(Ok(crossed::ROWS), |n| n.parse());
             let Ok(many) = many else {
                 eprintln!("{USAGE}");
                 return ExitCode::from(2);
             };
-            for (name, text) in crossed::files(many) {
-                let path = Path::new(folder).join(&name);
-                let written = fs::create_dir_all(path.parent().unwrap_or(&path)).and_then(|()| fs::write(&path, text));
-                if let Err(e) = written {
-                    eprintln!("{}: {e}", path.display());
-                    return ExitCode::from(2);
-                }
+            write_all(folder, crossed::files(many).into_iter().map(|(name, text)| (name, text.into_bytes())))
+        }
+        ["vectors", folder] => {
+            let (all, missing) = vectors::vectors();
+            for what in &missing {
+                println!("wanted: {what}");
             }
-            ExitCode::SUCCESS
+            if !missing.is_empty() {
+                return ExitCode::FAILURE;
+            }
+            write_all(folder, [("stdin".to_string(), vectors::file(&all)), ("README.md".to_string(), vectors::page(&all).into_bytes())])
         }
         ["roles", page] => {
             let text = match fs::read_to_string(page) {
@@ -116,8 +166,37 @@ fn main() -> ExitCode {
             flow::print_times(seed);
             stats.missing()
         }),
+        #[cfg(feature = "port")]
+        ["facts", n, seed] => drawn(n, seed, |n, seed| {
+            let stats = facts::facts(n, seed, port::try_block);
+            stats.print();
+            stats.missing()
+        }),
+        #[cfg(feature = "port")]
+        ["large", n, seed] => drawn(n, seed, |n, seed| {
+            let stats = large::large(n, seed, port::sink_all);
+            stats.print();
+            stats.missing()
+        }),
+        #[cfg(feature = "port")]
+        ["bench", seed] => drawn("0", seed, |_, seed| {
+            bench::bench(seed);
+            Vec::new()
+        }),
+        #[cfg(feature = "host")]
+        ["sink", n, seed] => drawn(n, seed, |n, seed| {
+            let stats = sink::sink(n, seed, host::sink_into);
+            stats.print();
+            keep(stats.smallest());
+            stats.missing()
+        }),
+        #[cfg(not(feature = "host"))]
+        ["sink", ..] => {
+            eprintln!("This was built without the host's entry: `rt staticlib host`, at the root of the repository, then `cargo build --features host`.");
+            ExitCode::from(2)
+        }
         #[cfg(not(feature = "port"))]
-        ["refusals" | "flow", ..] => {
+        ["refusals" | "flow" | "facts" | "large" | "bench", ..] => {
             eprintln!("This was built without the port: `rt staticlib probe`, at the root of the repository, then `cargo build --features port`.");
             ExitCode::from(2)
         }

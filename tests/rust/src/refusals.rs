@@ -4,10 +4,10 @@
 use std::collections::BTreeMap;
 
 use crate::accept;
-use crate::damage::DAMAGES;
+use crate::damage::{DAMAGES, alter, any_words, damage_again};
 use crate::generate::{Size, picture};
 use crate::kinds::STMT;
-use crate::picture::{ABSENT, Picture, RECORD, Record};
+use crate::picture::{Picture, Record};
 use crate::port;
 use crate::random::Random;
 use crate::selfcheck::size_of;
@@ -50,13 +50,10 @@ pub fn refusals(n: usize, seed: u64) -> Stats {
             }
             let work = q.work();
             stats.compare(Source::Damaged, &q, work, &format!("{name}: {}", d.what));
-            // A second cause, and perhaps work slices too short: the lowest number is the answer. Damages above 3 take records
-            // apart, so that lengths and kinds must still be in order.
-            let e = &DAMAGES[rnd.below(DAMAGES.len())];
-            let whole = d.cause == 0 || d.cause > 4;
-            if e.cause > 0 && (whole || e.cause <= 3) && (e.deed)(&mut q, &mut rnd) {
+            // A second cause, and perhaps work slices too short: the lowest number is the answer.
+            if let Some(what) = damage_again(&mut q, d, &mut rnd) {
                 let work = some_work(&q, &mut rnd);
-                stats.compare(Source::DamagedTwice, &q, work, &format!("{name}: {}, {}", d.what, e.what));
+                stats.compare(Source::DamagedTwice, &q, work, &format!("{name}: {}, {what}", d.what));
             }
         }
         for _ in 0..40 {
@@ -87,62 +84,6 @@ fn short_work((w64, w32): (usize, usize)) -> Vec<(usize, usize)> {
 fn some_work(p: &Picture, rnd: &mut Random) -> (usize, usize) {
     let enough = p.work();
     if rnd.chance(75) { enough } else { rnd.pick(&short_work(enough)) }
-}
-
-/// A word that is near some bound, or any.
-fn some_word(p: &Picture, rnd: &mut Random) -> u32 {
-    let near = [0, 1, 7, 33, 100, p.regs, p.opers, p.nblocks() as u32, p.locs.len() as u32, p.targets.len() as u32, ABSENT];
-    match rnd.below(4) {
-        0 => rnd.word() as u32,
-        1 => rnd.pick(&near).wrapping_sub(1),
-        2 => rnd.pick(&near).wrapping_add(1),
-        _ => rnd.pick(&near),
-    }
-}
-
-/// Changes one word, mostly of a record, or one of the counts in use.
-fn alter(p: &mut Picture, rnd: &mut Random) {
-    let word = some_word(p, rnd);
-    let lists = [&mut p.bounds, &mut p.types, &mut p.ops, &mut p.pairs, &mut p.targets];
-    match rnd.below(20) {
-        0 => p.regs = word,
-        1 => p.opers = word,
-        at @ 2..7 => put(lists.into_iter().nth(at - 2).expect("five lists"), word, rnd),
-        _ => put(&mut p.recs, word, rnd),
-    }
-}
-
-fn put(list: &mut [u32], word: u32, rnd: &mut Random) {
-    if !list.is_empty() {
-        list[rnd.below(list.len())] = word;
-    }
-}
-
-/// Random words in slices of random lengths; often the lengths fit each other, so that more than lengths is looked at.
-fn any_words(rnd: &mut Random) -> Picture {
-    let mut p = Picture::default();
-    let most = rnd.pick(&[1, 5, 101, u32::MAX as usize]);
-    let words = |rnd: &mut Random, n: usize| (0..n).map(|_| rnd.below(most) as u32).collect::<Vec<u32>>();
-    let code = rnd.below(6);
-    let uneven = usize::from(rnd.chance(20));
-    p.locs = words(rnd, code);
-    p.recs = words(rnd, RECORD * code + uneven);
-    let vias = rnd.pick(&[0, 0, code, code + 1]);
-    p.vias = words(rnd, vias);
-    let lengths = [rnd.below(8), rnd.below(8), rnd.below(8), rnd.below(8)];
-    p.types = words(rnd, lengths[0]);
-    p.ops = words(rnd, lengths[1]);
-    p.pairs = words(rnd, lengths[2]);
-    p.targets = words(rnd, lengths[3]);
-    p.regs = rnd.below(p.types.len() + 1 + uneven) as u32;
-    p.opers = rnd.below(p.ops.len() + 1 + uneven) as u32;
-    if rnd.chance(80) {
-        p.bounds = vec![0, code as u32];
-    } else {
-        let n = rnd.below(5);
-        p.bounds = words(rnd, n);
-    }
-    p
 }
 
 impl Stats {

@@ -1,43 +1,27 @@
 //! The oracle held against itself over generated pictures: round by round against `sink_all` and `run`, as they are and with
 //! lengthened facts; and what the pictures were like, so that a poor generator does not go unseen.
 
-use std::collections::{BTreeMap, BTreeSet};
+use std::collections::BTreeMap;
 
 use crate::accept;
 use crate::bytes;
 use crate::damage::DAMAGES;
 use crate::driver::{Facts, Pass, Trace};
 use crate::generate::{Size, picture};
-use crate::kinds::{self, KINDS};
-use crate::oracle::{Answer, Lent, Outcome, oracle, oracle_with_work};
+use crate::oracle::{Answer, Lent, oracle, oracle_with_work};
 use crate::picture::Picture;
 use crate::random::Random;
 use crate::rules::Chain;
+use crate::tally::Tally;
 
 #[derive(Default)]
 pub struct Stats {
-    pub pictures: usize,
-    pub moved: usize,
-    pub rounds: BTreeMap<u32, usize>,
-    pub members: usize,
-    pub short_registers: usize,
-    pub short_operands: usize,
-    pub gated: usize,
+    pub tally: Tally,
+    /// damaged pictures that are still accepted and stop at a gate
     pub past_gates: usize,
+    /// pictures on which the Rust as it is stops by itself
     pub stopped: usize,
-    pub chains: BTreeMap<usize, usize>,
-    pub target_before: usize,
-    pub empty_target: usize,
-    pub same_branches: usize,
-    pub sig_registers: usize,
-    pub lists_appended: usize,
-    pub with_vias: usize,
-    pub with_replay: usize,
-    pub middle_branches: usize,
-    pub long_lists: usize,
     pub run_compared: usize,
-    pub seen: BTreeSet<(u32, u32)>,
-    pub moved_kinds: BTreeMap<u32, usize>,
     pub damages: BTreeMap<u32, usize>,
     pub faults: Vec<String>,
 }
@@ -75,7 +59,7 @@ pub fn selfcheck(n: usize, seed: u64) -> Stats {
                 let mut apart = Stats::default();
                 check(&mut apart, &q, &format!("seed {this}: {}", d.what));
                 stats.faults.append(&mut apart.faults);
-                stats.past_gates += apart.gated;
+                stats.past_gates += apart.tally.gated;
             }
         }
         // Work slices one word too short are cause 10.
@@ -180,90 +164,31 @@ fn check(stats: &mut Stats, p: &Picture, name: &str) {
     if accept::refusal(&outcome.picture, w64, w32) != 0 {
         fault("what is left is refused");
     }
-    count(stats, p, &long, &short, &outcome);
-}
-
-fn count(stats: &mut Stats, p: &Picture, long: &Trace, short: &Trace, outcome: &Outcome) {
-    stats.pictures += 1;
-    let rounds = match outcome.answer {
-        Answer::Done(n) | Answer::Short(n) | Answer::Refused(n) => n,
-    };
-    *stats.rounds.entry(rounds).or_default() += 1;
-    stats.moved += usize::from(rounds > 0);
-    stats.gated += usize::from(accept::gated(p));
-    if matches!(outcome.answer, Answer::Short(_)) {
-        let next = &long.rounds[rounds as usize].after;
-        stats.short_registers += usize::from(next.reg_ty.len() == p.types.len() + 1);
-        stats.short_operands += usize::from(next.operands.len() == p.ops.len() + 1);
-    }
     stats.stopped += usize::from(short.stopped);
-    stats.with_vias += usize::from(!p.vias.is_empty());
-    stats.with_replay += usize::from(!p.replay.is_empty());
-    let ends: BTreeSet<u32> = p.bounds.chunks(2).filter(|b| b[0] < b[1]).map(|b| b[1] - 1).collect();
-    let mut middle = false;
-    for (k, r) in p.records().enumerate() {
-        stats.seen.insert((r.kind(), r.form()));
-        middle |= matches!(r.kind(), kinds::BR | kinds::COND_BR | kinds::CASE) && !ends.contains(&(k as u32));
-        stats.long_lists += usize::from(r.list().1 > 16);
-        stats.same_branches += usize::from(r.kind() == kinds::COND_BR && r.0[9] == r.0[10]);
-    }
-    stats.middle_branches += usize::from(middle);
-    let mut sizes: Vec<usize> = (0..p.nblocks()).map(|b| p.places(b).len()).collect();
-    let (mut regs, mut opers) = (p.regs as usize, p.opers as usize);
-    for round in long.rounds.iter().take(rounds as usize) {
-        stats.members += round.moved;
-        *stats.chains.entry(round.chain).or_default() += 1;
-        stats.target_before += usize::from(round.into < round.from);
-        stats.empty_target += usize::from(sizes[round.into] == 0);
-        stats.sig_registers += round.after.reg_ty[regs..].iter().filter(|t| **t == crate::RegTy::Sig).count();
-        stats.lists_appended += usize::from(round.after.operands.len() > opers);
-        for id in &round.after.loc[round.into][..round.moved] {
-            *stats.moved_kinds.entry(p.record(id.place as usize).kind()).or_default() += 1;
-        }
-        sizes = round.after.code.iter().map(Vec::len).collect();
-        (regs, opers) = (round.after.reg_ty.len(), round.after.operands.len());
-    }
+    stats.tally.add(p, &long, outcome.answer);
 }
 
 impl Stats {
     /// What is missing, if the pictures are to be worth their while.
     pub fn missing(&self) -> Vec<String> {
-        let mut out = Vec::new();
+        let mut out = self.tally.missing();
         let mut want = |ok: bool, what: &str| {
             if !ok {
                 out.push(what.to_string());
             }
         };
-        let forms: usize = KINDS.iter().map(|k| (k.forms.1 - k.forms.0 + 1) as usize).sum();
         want(self.faults.is_empty(), "no fault");
-        want(3 * self.moved >= self.pictures, "a third of the pictures with a round");
-        want((0..=8).all(|n| self.rounds.contains_key(&n)), "every number of rounds from 0 to 8");
-        want((1..=6).all(|n| self.chains.contains_key(&n)), "chains of 1 to 6 blocks");
-        want(self.short_registers > 0 && self.short_operands > 0, "Short by one register and by one operand");
-        want(self.target_before > 0 && self.empty_target > 0, "targets before x and empty ones");
-        want(self.same_branches > 0 && self.middle_branches > 0, "equal branches and branches in the middle");
-        want(self.sig_registers > 0 && self.lists_appended > 0 && self.long_lists > 0, "new Sig registers, new and long lists");
-        want(self.with_vias > 0 && self.with_replay > 0 && self.past_gates > 0, "vias, replay and gates");
+        want(self.past_gates > 0, "gates");
         want(self.run_compared > 0, "pictures without replay");
-        want(self.seen.len() == forms, "every kind and form");
-        want(self.moved_kinds.len() == 20, "every kind that can move among the members");
         want((0..=9).all(|c| self.damages.contains_key(&c)), "damages for causes 1 to 9 and at their bounds");
         out
     }
 
     pub fn print(&self) {
-        println!("pictures {} moved {} members {}", self.pictures, self.moved, self.members);
-        println!("rounds {:?}", self.rounds);
-        println!("chains {:?}", self.chains);
-        println!("short by one register {} by one operand {} gated {} and of the damaged {}", self.short_registers, self.short_operands, self.gated, self.past_gates);
+        self.tally.print();
+        println!("of the damaged ones gated {}", self.past_gates);
         println!("the Rust stops on a new register's fact {}", self.stopped);
-        println!("targets before x {} empty {} branches equal {}", self.target_before, self.empty_target, self.same_branches);
-        println!("new Sig registers {} rounds with new lists {} long lists {}", self.sig_registers, self.lists_appended, self.long_lists);
-        println!("with vias {} with replay {} with branches in the middle {}", self.with_vias, self.with_replay, self.middle_branches);
         println!("compared with run {}", self.run_compared);
-        println!("kinds and forms {}", self.seen.len());
-        let moved: Vec<String> = self.moved_kinds.iter().map(|(k, n)| format!("{} {n}", KINDS[*k as usize].name)).collect();
-        println!("members by kind: {}", moved.join(", "));
         println!("damages by cause {:?}", self.damages);
         for f in self.faults.iter().take(20) {
             println!("fault: {f}");

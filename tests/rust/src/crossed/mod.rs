@@ -3,7 +3,7 @@
 
 mod pages;
 mod pick;
-mod shows;
+pub mod shows;
 mod text;
 
 pub use pages::files;

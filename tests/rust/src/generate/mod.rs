@@ -14,8 +14,12 @@ use crate::random::Random;
 
 /// The picture of a seed.
 pub fn picture(seed: u64, size: Size) -> Picture {
-    let p = shapes::draw(Draft::new(seed, size)).finish();
-    with_room(p, &mut Random::new(seed ^ 0x5EED_0F_2006))
+    with_room(bare(seed, size), &mut Random::new(seed ^ 0x5EED_0F_2006))
+}
+
+/// The same picture, with no room past what is in use.
+pub fn bare(seed: u64, size: Size) -> Picture {
+    shapes::draw(Draft::new(seed, size)).finish()
 }
 
 /// Lends room: some past what the pass needs, just enough, or one register or operand too few for one of the rounds.

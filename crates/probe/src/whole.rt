@@ -1,0 +1,85 @@
+// The whole call over slices, for pictures past the program's sizes (01, "The call").
+use model::Answer;
+use sink::sink_all;
+ghost use mathlib.Core.Path.{_≡_};
+ghost use Prim.Native.Nat.{_≤_};
+ghost use lib.ListN.{length};
+ghost use Rattle.model.specs.Pass.{number};
+ghost use Rattle.sink.specs.Sink.{outcome, cause, Work};
+ghost use Rattle.probe.specs.Heads.{with-two, with-used};
+
+// Two words at the head of `out`, if it has two.
+fn put_two(out: &mut [u32], a: u32, b: u32)
+    ensures { λ _. ⌜ now (out .exit) ≡ with-two (now (out .entry)) a b ⌝ }
+{
+    if out.len() < 2 {
+        return;
+    }
+    out[0] = a;
+    out[1] = b;
+}
+
+// The number that the host is given for an answer, and the counts in use that it gives.
+fn tell(out: &mut [u32], answer: Answer) -> u32
+    requires { ⌜ number answer ≤ 300 ⌝ }
+    ensures { λ r. ⌜ (r ≡ number answer) × (now (out .exit) ≡ with-used (now (out .entry)) answer) ⌝ }
+{
+    match answer {
+        Answer::Done(u) => {
+            put_two(out, u.registers, u.operands);
+            u.rounds
+        }
+        Answer::Short(u) => {
+            put_two(out, u.registers, u.operands);
+            100 + u.rounds
+        }
+        Answer::Refused(n) => 200 + n,
+    }
+}
+
+// The number of the answer as the host is given it. At the head of `out`, if it has two words, the registers and operands then in
+// use; a refusal leaves it as it was.
+#[no_mangle]
+pub extern "C" fn virdzeba_sink_all(
+    bounds: &mut [u32],
+    recs: &mut [u32],
+    locs: &mut [u32],
+    vias: &mut [u32],
+    types: &mut [u32],
+    registers: u32,
+    ops: &mut [u32],
+    operands: u32,
+    pairs: &[u32],
+    targets: &[u32],
+    replay: &[u32],
+    work64: &mut [u64],
+    work32: &mut [u32],
+    out: &mut [u32],
+) -> u32
+    ensures { λ r. ⌜ r ≡ number (outcome (now (bounds .entry)) (now (recs .entry)) (now (locs .entry)) (now (vias .entry)) (now (types .entry)) registers (now (ops .entry)) operands (now (pairs .entry)) (now (targets .entry)) (now (replay .entry)) (length (now (work64 .entry))) (length (now (work32 .entry))) .answer) ⌝ }
+    ensures { λ _. ⌜ now (bounds .exit) ≡ outcome (now (bounds .entry)) (now (recs .entry)) (now (locs .entry)) (now (vias .entry)) (now (types .entry)) registers (now (ops .entry)) operands (now (pairs .entry)) (now (targets .entry)) (now (replay .entry)) (length (now (work64 .entry))) (length (now (work32 .entry))) .left .bounds ⌝ }
+    ensures { λ _. ⌜ now (recs .exit) ≡ outcome (now (bounds .entry)) (now (recs .entry)) (now (locs .entry)) (now (vias .entry)) (now (types .entry)) registers (now (ops .entry)) operands (now (pairs .entry)) (now (targets .entry)) (now (replay .entry)) (length (now (work64 .entry))) (length (now (work32 .entry))) .left .recs ⌝ }
+    ensures { λ _. ⌜ now (locs .exit) ≡ outcome (now (bounds .entry)) (now (recs .entry)) (now (locs .entry)) (now (vias .entry)) (now (types .entry)) registers (now (ops .entry)) operands (now (pairs .entry)) (now (targets .entry)) (now (replay .entry)) (length (now (work64 .entry))) (length (now (work32 .entry))) .left .locs ⌝ }
+    ensures { λ _. ⌜ now (vias .exit) ≡ outcome (now (bounds .entry)) (now (recs .entry)) (now (locs .entry)) (now (vias .entry)) (now (types .entry)) registers (now (ops .entry)) operands (now (pairs .entry)) (now (targets .entry)) (now (replay .entry)) (length (now (work64 .entry))) (length (now (work32 .entry))) .left .vias ⌝ }
+    ensures { λ _. ⌜ now (types .exit) ≡ outcome (now (bounds .entry)) (now (recs .entry)) (now (locs .entry)) (now (vias .entry)) (now (types .entry)) registers (now (ops .entry)) operands (now (pairs .entry)) (now (targets .entry)) (now (replay .entry)) (length (now (work64 .entry))) (length (now (work32 .entry))) .left .types ⌝ }
+    ensures { λ _. ⌜ now (ops .exit) ≡ outcome (now (bounds .entry)) (now (recs .entry)) (now (locs .entry)) (now (vias .entry)) (now (types .entry)) registers (now (ops .entry)) operands (now (pairs .entry)) (now (targets .entry)) (now (replay .entry)) (length (now (work64 .entry))) (length (now (work32 .entry))) .left .ops ⌝ }
+    ensures { λ _. ⌜ Work (cause (now (bounds .entry)) (now (recs .entry)) (now (locs .entry)) (now (vias .entry)) (now (types .entry)) registers (now (ops .entry)) operands (now (pairs .entry)) (now (targets .entry)) (now (replay .entry)) (length (now (work64 .entry))) (length (now (work32 .entry)))) (now (work64 .entry)) (now (work32 .entry)) (now (work64 .exit)) (now (work32 .exit)) ⌝ }
+    ensures { λ _. ⌜ now (out .exit) ≡ with-used (now (out .entry)) (outcome (now (bounds .entry)) (now (recs .entry)) (now (locs .entry)) (now (vias .entry)) (now (types .entry)) registers (now (ops .entry)) operands (now (pairs .entry)) (now (targets .entry)) (now (replay .entry)) (length (now (work64 .entry))) (length (now (work32 .entry))) .answer) ⌝ }
+{
+    let answer = sink_all(
+        bounds,
+        recs,
+        locs,
+        vias,
+        types,
+        registers,
+        ops,
+        operands,
+        pairs,
+        targets,
+        replay,
+        work64,
+        work32,
+    );
+    tell(out, answer)
+}
