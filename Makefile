@@ -1,13 +1,17 @@
-# `make run` proves document 01's listing and its variants of the definitions, and shows what the Rust makes of the listing;
-# `make test` is the gate.
-.PHONY: run test compare
+# `make run` runs the pass on a listing, FILE=.. or document 01's; `make test` is the gate; `make compare` holds the port against
+# the Rust at length; `make bench` writes docs/BENCH.md.
+.PHONY: run test compare bench
+FILE = examples/listing.txt
 
 run:
-	@rt check model | tail -n 1
-	@tests/rust/compare.sh --listing || echo "The listing is proved of the definitions; the Rust's side of it was left out."
+	@tools/run.sh $(FILE)
 
 test:
 	.ci/run
 
 compare:
-	tests/rust/compare.sh
+	SUNK=100000 LARGE=400 tests/rust/compare.sh
+
+bench:
+	tests/rust/compare.sh --bench >docs/BENCH.md.new
+	mv docs/BENCH.md.new docs/BENCH.md
