@@ -9,7 +9,11 @@ SHAPE = {'Br': 1, 'CondBr': 2, 'Case': 3}
 text = open('crates/model/specs/Kinds.antt').read()
 row = re.compile(r'^row (\S+) = is (\[\]|\(.*?\)) (true|false) (\d) (\d) (\w+) (true|false)$', re.M)
 place = {m[1]: int(m[2]) for m in re.finditer(r'^place (\S+) = (\d+)$', text, re.M)}
-print('pub const ROWS: [u32; 101] = [')
+# what a slot does at forms 0, 1 and from 2 on: 0 nothing, 1 reads, 2 writes
+DOES = {'Def': '222', 'Use': '111', 'Def?': '222', 'Use?': '111', 'Use-but-1': '101', 'Use-from-2': '001', 'Def-if-1': '121'}
+FORM = 'at 0', 'at 1', 'from 2'
+print('pub const ROWS: [u32; 202] = [')
+used = []
 for n, m in enumerate(row.finditer(text)):
     kind, slots, listed, least, most, arm, quiet = m.groups()
     slots = [s for s in slots.strip('()[]').split(' ∷ ') if s not in ('', '[]')]
@@ -17,4 +21,11 @@ for n, m in enumerate(row.finditer(text)):
     x = sum(SLOT[s] << (3 * i) for i, s in enumerate(slots)) + ((listed == 'true') << 15) + (SHAPE.get(kind, 0) << 16)
     x += (ARM.index(arm) << 18) + ((quiet == 'true') << 23) + (int(least) << 24) + (int(most) << 27)
     print(f'    {x}, // {n} {kind}: {" ".join(slots) or "none"}{", list" if listed == "true" else ""}')
+    does = [[int(DOES[s][f]) for s in slots] for f in range(3)]
+    y = sum(d << (2 * i + 10 * f) for f in range(3) for i, d in enumerate(does[f]))
+    said = [''.join('-rw'[d] for d in ds) or 'none' for ds in does]
+    said = said[:1] if len(set(said)) == 1 else [f'{d} {f}' for d, f in zip(said, FORM)]
+    used.append(f'    {y}, // {n} {kind}: {", ".join(said)}')
+print('    // What the slots do, at form 0, 1 and from 2 on: r reads, w writes.')
+print('\n'.join(used))
 print('];')

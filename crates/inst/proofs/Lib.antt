@@ -2,10 +2,12 @@ pub mod Lists
 pub mod Arms
 pub mod Rows
 pub mod Resolved
+pub mod Forms
 pub mod Words
 pub mod Slots
 pub mod Rest
 pub mod Looked
+pub mod Firsts
 pub mod Constants
 pub mod Indices
 pub mod Ends

@@ -20,6 +20,11 @@ not-one f = ne-eqb (suc (suc f)) 1 (λ e. omega arith)
 from-two : (f : ℕ) → leb 2 (suc (suc f)) ≡ true
 from-two f = le-leb 2 (suc (suc f)) (omega arith)
 
+-- forms from 2 on are alike
+pub acts-late : (f : ℕ) → acts 2 ≡ acts (suc (suc f))
+unfolding acts
+acts-late f = simp (not-one f, from-two f)
+
 -- m has g of each role at the role's number
 record Has (g : Role → ℕ) (f m : ℕ) : Type 0 where
   none : two-bits m 0 ≡ g off

@@ -3,19 +3,24 @@
 use mathlib.Core.Bool.{Bool, true, false}
 use mathlib.Core.Path.{_≡_, refl, ap, _∙_}
 use mathlib.Core.List.{List, [], _∷_, map}
-use Prim.Native.Nat.{ℕ, _/_, _%_, _<_}
+use Prim.Native.Nat.{ℕ, _+_, _/_, _%_, _<_}
 use lib.Dec.{eqb}
-use lib.ListN.{getD}
+use lib.ListN.{getD, List·getD-append}
+use lib.Seq.{getD-append-add}
 use borrow.Author.Tests.{eqb-true}
 use Rattle.words.specs.Lists.{all, conj}
 use Rattle.model.specs.Kinds.{Kind, Stmt, Slot, Row, row, kinds, kind-of}
-use Rattle.inst.specs.Table.{slot-code, arm-code, arm-at, shape-code, bit, packed, rows, has-list, shape, arm, quiet, least, most}
+use Rattle.inst.specs.Table.{slot-code, arm-code, arm-at, shape-code, bit, packed, used, rows, has-list, shape, arm, quiet, least, most}
 use Rattle.inst.proofs.Arms.{arm-kept}
 use Rattle.inst.proofs.Lists.{all-at, conj-at, getD-map-in}
 
 pub row-is : (w : ℕ) → w < 101 → getD rows w 0 ≡ packed (kind-of w)
 unfolding rows
-row-is w h = getD-map-in packed kinds Stmt 0 w h
+row-is w h = List·getD-append (map packed kinds) (map used kinds) 0 w h ∙ getD-map-in packed kinds Stmt 0 w h
+
+pub used-is : (w : ℕ) → w < 101 → getD rows (101 + w) 0 ≡ used (kind-of w)
+unfolding rows
+used-is w h = getD-append-add (map packed kinds) (map used kinds) w 0 ∙ getD-map-in used kinds Stmt 0 w h
 
 -- ---- the test
 

@@ -1,9 +1,9 @@
 -- 01, "the roles of all 101 kinds become a fixed table": what `model`'s Kinds says of a kind, in numbers, and packed into
 -- one number; the fields of such a number; a row resolved at a form. Assumes nothing.
 use mathlib.Core.Bool.{Bool, true, false, cond}
-use mathlib.Core.List.{List, [], _∷_, map}
+use mathlib.Core.List.{List, [], _∷_, _++_, map}
 use Prim.Native.Nat.{ℕ, _+_, _*_, _/_, _%_, _^_}
-use lib.Dec.{eqb}
+use lib.Dec.{eqb, leb}
 use lib.ListN.{getD}
 use Rattle.model.specs.Kinds.{Kind, Br, CondBr, Case, Slot, Def, Use, Def?, Use?, Use-but-1, Use-from-2, Def-if-1, Role, off, wr, rd, wr?, rd?, Arm, const, constF, addrOf, move, select, truth, bin, index, check, dopeLen, load, alloc, layoutOf, signal, fills, store, cat, native, stops, deref, writes, other, row, kinds, place, at-form}
 
@@ -88,9 +88,6 @@ packed k =
     slots-code (row k .slots) + 32768 * bit (row k .list) + 65536 * shape-code k + 262144 * arm-code (row k .arm)
     + 8388608 * bit (row k .quiet) + 16777216 * row k .least + 134217728 * row k .most
 
-unfoldable pub rows : List ℕ
-rows = map packed kinds
-
 -- its fields
 abbrev pub has-list : ℕ → Bool
 has-list x = eqb (x / 32768 % 2) 1
@@ -137,3 +134,15 @@ unfoldable pub spread : ℕ → ℕ → ℕ
 spread m x =
     two-bits m (x % 8) + 4 * two-bits m (x / 8 % 8) + 16 * two-bits m (x / 64 % 8) + 64 * two-bits m (x / 512 % 8)
     + 256 * two-bits m (x / 4096 % 8)
+
+-- ---- the table: a row for each kind, and behind them what its slots do at form 0, at 1 and from 2 on, 10 bits a form
+
+unfoldable pub used : Kind → ℕ
+used k = spread (acts 0) (packed k) + 1024 * spread (acts 1) (packed k) + 1048576 * spread (acts 2) (packed k)
+
+unfoldable pub rows : List ℕ
+rows = map packed kinds ++ map used kinds
+
+-- how far up in such a word a form lies
+unfoldable pub lift : ℕ → ℕ
+lift f = cond (leb 2 f) 20 (10 * f)

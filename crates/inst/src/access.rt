@@ -6,21 +6,21 @@ use crate::record::list_len;
 use crate::record::list_start;
 use crate::record::slot;
 use crate::table::asks;
-use crate::table::roles;
 use crate::table::row;
 use crate::table::two_bits;
+use crate::table::used;
 ghost use mathlib.Core.Path.{_≡_};
-ghost use mathlib.Core.Bool.{true, false, not, _&&_, cond};
-ghost use lib.Dec.{eqb};
+ghost use mathlib.Core.List.{List, [], _++_};
 ghost use lib.ListN.{getD};
-ghost use Prim.Native.Nat.{_-_, _<_};
+ghost use Prim.Native.Nat.{ℕ, _+_, _<_};
 ghost use Rattle.words.specs.Lists.{mem};
 ghost use Rattle.model.specs.Picture.{inst, kind, absent, list-of, reads, writes};
 ghost use Rattle.inst.specs.Table.{rows, packed};
-ghost use Rattle.inst.specs.Record.{Known, Used, Listed, uses-of, asks-of, read-at, write-at, rest-reads};
+ghost use Rattle.inst.specs.Record.{Known, Used, Listed, uses-of, asks-of, read-at, write-at, present, rest-reads, rest-writes};
+ghost use Rattle.inst.specs.Firsts.{Heads};
 
 // The row of record p's kind.
-pub fn row_at(t: &[u32; 101], recs: &[u32], p: usize) -> u32
+pub fn row_at(t: &[u32; 202], recs: &[u32], p: usize) -> u32
     requires { ⌜ (now t ≡ rows) × Known (now recs) p ⌝ }
     ensures { λ x. ⌜ x ≡ packed (kind (inst (now (recs .entry)) p)) ⌝ }
 {
@@ -28,15 +28,15 @@ pub fn row_at(t: &[u32; 101], recs: &[u32], p: usize) -> u32
 }
 
 // What the slots of record p do, 2 bits a slot.
-pub fn uses(t: &[u32; 101], recs: &[u32], p: usize) -> u32
+pub fn uses(t: &[u32; 202], recs: &[u32], p: usize) -> u32
     requires { ⌜ (now t ≡ rows) × Known (now recs) p ⌝ }
     ensures { λ u. ⌜ u ≡ uses-of (inst (now (recs .entry)) p) ⌝ }
 {
-    roles(row_at(t, recs, p), form(recs, p))
+    used(t, kind(recs, p), form(recs, p))
 }
 
 // What the slots of record p ask, 2 bits a slot.
-pub fn wanted(t: &[u32; 101], recs: &[u32], p: usize) -> u32
+pub fn wanted(t: &[u32; 202], recs: &[u32], p: usize) -> u32
     requires { ⌜ (now t ≡ rows) × Known (now recs) p ⌝ }
     ensures { λ a. ⌜ a ≡ asks-of (inst (now (recs .entry)) p) ⌝ }
 {
@@ -130,17 +130,6 @@ pub fn reads_reg(ops: &[u32], recs: &[u32], p: usize, uses: u32, r: u32) -> bool
     holds(list(ops, recs, p), r)
 }
 
-// How many registers are still to be passed after r.
-fn past(k: usize, r: u32) -> usize
-    requires { ⌜ (not (eqb r absent) && eqb k 0) ≡ false ⌝ }
-    ensures { λ m. ⌜ m ≡ cond (eqb r absent) k (k - 1) ⌝ }
-{
-    if r == 4294967295 {
-        return k;
-    }
-    k - 1
-}
-
 // The k-th of these words, or absent.
 fn nth_of(xs: &[u32], k: usize) -> u32
     ensures { λ r. ⌜ r ≡ getD (now (xs .entry)) k absent ⌝ }
@@ -151,20 +140,92 @@ fn nth_of(xs: &[u32], k: usize) -> u32
     4294967295
 }
 
-// The nth register that record p reads, slots first and then its list, or absent.
-pub fn nth_read(ops: &[u32], recs: &[u32], p: usize, uses: u32, nth: usize) -> u32
-    requires { ⌜ Used (now recs) p uses × Listed (now recs) (now ops) p ⌝ }
-    ensures { λ r. ⌜ r ≡ getD (reads (now (ops .entry)) (inst (now (recs .entry)) p)) nth absent ⌝ }
+// The first three registers that a record reads, slots first and then its list, and the first two that it writes; absent
+// where there is none.
+pub struct Firsts {
+    pub r0: u32,
+    pub r1: u32,
+    pub r2: u32,
+    pub d0: u32,
+    pub d1: u32,
+}
+
+// Those of a list that is read.
+fn of_list(xs: &[u32]) -> Firsts
+    ensures { λ x. ⌜ Heads (now (xs .entry)) [] x ⌝ }
 {
-    let mut s = 0usize;
-    let mut k = nth;
-    while s < 5 {
-        let r = read_at(recs, p, uses, s);
-        if (r != 4294967295) & (k == 0) {
-            return r;
-        }
-        k = past(k, r);
-        s += 1;
+    let r0 = nth_of(xs, 0);
+    let r1 = nth_of(xs, 1);
+    let r2 = nth_of(xs, 2);
+    Firsts {
+        r0: r0,
+        r1: r1,
+        r2: r2,
+        d0: 4294967295,
+        d1: 4294967295,
     }
-    nth_of(list(ops, recs, p), k)
+}
+
+// Register r, or absent, is read before those of x.
+fn read_first(x: Firsts, r: u32) -> Firsts
+    ensures { λ y. ⌜ ((rs ds : List ℕ) → Heads rs ds x → Heads (present r ++ rs) ds y) ⌝ }
+{
+    if r == 4294967295 {
+        return x;
+    }
+    Firsts {
+        r0: r,
+        r1: x.r0,
+        r2: x.r1,
+        d0: x.d0,
+        d1: x.d1,
+    }
+}
+
+// Register r, or absent, is written before those of x.
+fn written_first(x: Firsts, r: u32) -> Firsts
+    ensures { λ y. ⌜ ((rs ds : List ℕ) → Heads rs ds x → Heads rs (present r ++ ds) y) ⌝ }
+{
+    if r == 4294967295 {
+        return x;
+    }
+    Firsts {
+        r0: x.r0,
+        r1: x.r1,
+        r2: x.r2,
+        d0: r,
+        d1: x.d0,
+    }
+}
+
+// Slot s comes before the slots and the list of x.
+fn slot_first(x: Firsts, recs: &[u32], p: usize, uses: u32, s: usize) -> Firsts
+    requires { ⌜ Used (now recs) p uses × (s < 5) ⌝ }
+    ensures { λ y. ⌜ ((l : List ℕ) → Heads (rest-reads (inst (now (recs .entry)) p) (s + 1) ++ l) (rest-writes (inst (now (recs .entry)) p) (s + 1)) x → Heads (rest-reads (inst (now (recs .entry)) p) s ++ l) (rest-writes (inst (now (recs .entry)) p) s) y) ⌝ }
+{
+    written_first(
+        read_first(x, read_at(recs, p, uses, s)),
+        write_at(recs, p, uses, s),
+    )
+}
+
+// The last two slots come before the list: few kinds use them.
+fn last_slots(x: Firsts, recs: &[u32], p: usize, uses: u32) -> Firsts
+    requires { ⌜ Used (now recs) p uses ⌝ }
+    ensures { λ y. ⌜ ((l : List ℕ) → Heads l [] x → Heads (rest-reads (inst (now (recs .entry)) p) 3 ++ l) (rest-writes (inst (now (recs .entry)) p) 3) y) ⌝ }
+{
+    if uses < 64 {
+        return x;
+    }
+    slot_first(slot_first(x, recs, p, uses, 4), recs, p, uses, 3)
+}
+
+// The first registers that record p reads and writes, in one scan from its last slot to its first.
+pub fn scan(ops: &[u32], recs: &[u32], p: usize, uses: u32) -> Firsts
+    requires { ⌜ Used (now recs) p uses × Listed (now recs) (now ops) p ⌝ }
+    ensures { λ x. ⌜ Heads (reads (now (ops .entry)) (inst (now (recs .entry)) p)) (writes (inst (now (recs .entry)) p)) x ⌝ }
+{
+    let e = last_slots(of_list(list(ops, recs, p)), recs, p, uses);
+    let c = slot_first(e, recs, p, uses, 2);
+    slot_first(slot_first(c, recs, p, uses, 1), recs, p, uses, 0)
 }

@@ -1,13 +1,14 @@
 // The table of roles (01, "How to write each place": "the roles of all 101 kinds become a fixed table"): a row for each
-// kind, packed into one number as specs/Table.antt says. It is made once, at the entry, and lent: a const array is built
-// anew on the stack at each call that indexes it.
+// kind, packed into one number as specs/Table.antt says, and behind the rows, for each kind, what its slots do at each form,
+// so that this is one look. It is made once, at the entry, and lent: a const array is built anew on the stack at each call
+// that indexes it.
 use crate::record::wide;
 ghost use mathlib.Core.Path.{_≡_};
 ghost use Prim.Native.Nat.{_<_, _*_, _/_, _%_};
 ghost use Rattle.model.specs.Kinds.{kind-of};
-ghost use Rattle.inst.specs.Table.{packed, rows, has-list, shape, arm, quiet, least, most, acts, wants, two-bits, spread};
+ghost use Rattle.inst.specs.Table.{packed, rows, has-list, shape, arm, quiet, least, most, acts, wants, two-bits, spread, lift};
 
-pub const ROWS: [u32; 101] = [
+pub const ROWS: [u32; 202] = [
     8388609, // 0 Const: Def
     8650753, // 1 ConstF: Def
     9175057, // 2 Move: Def Use
@@ -109,21 +110,143 @@ pub const ROWS: [u32; 101] = [
     5505169, // 98 CoverIn: Def Use Use
     5505026, // 99 CoverCond: Use
     4718592, // 100 Stmt: none
+    // What the slots do, at form 0, 1 and from 2 on: r reads, w writes.
+    2099202, // 0 Const: w
+    2099202, // 1 ConstF: w
+    6297606, // 2 Move: wr
+    2099202, // 3 AddrOf: w
+    90265686, // 4 Select: wrrr
+    1049601, // 5 CopyConst: r
+    6297606, // 6 Alloc: wr
+    5248005, // 7 TempRoot: rr
+    6297606, // 8 PkgAlloc: wr
+    6297606, // 9 Load: wr
+    5248005, // 10 Store: rr
+    22041621, // 11 Copy: rrr
+    1049601, // 12 Zero: r
+    22041621, // 13 Fill: rrr
+    23091222, // 14 Pos: wrr
+    358963542, // 15 SlicePos: wrrrr
+    23091222, // 16 Index: wrr
+    23091222, // 17 Field: wrr
+    23091222, // 18 Bin: wrr
+    6297606, // 19 Un: wr
+    23091222, // 20 FBin: wrr
+    6297606, // 21 FUn: wr
+    23091222, // 22 Phys: wrr
+    6297606, // 23 IToF: wr
+    6297606, // 24 FToI: wr
+    90265686, // 25 FToIRange: wrrr
+    23091222, // 26 Cmp: wrr
+    23091222, // 27 FCmp: wrr
+    23074838, // 28 BoolOp: wrr at 0, wr- at 1, wrr from 2
+    89199701, // 29 LogicOp: rrrr at 0, rr-r at 1, rrrr from 2
+    89217109, // 30 LNum: rrrr at 0, wrrr at 1, rrrr from 2
+    90265686, // 31 LEq: wrrr
+    23091222, // 32 LKey: wrr
+    90265686, // 33 MemEq: wrrr
+    358963542, // 34 ArrCmp: wrrrr
+    23091222, // 35 LGet: wrr
+    22041621, // 36 LSet: rrr
+    89216085, // 37 LFill: rrrr
+    357913941, // 38 LCopy: rrrrr
+    22041621, // 39 Cat: rrr
+    22021125, // 40 Check: rr- at 0, r-- at 1, rrr from 2
+    22041621, // 41 FCheck: rrr
+    358963542, // 42 BinRange: wrrrr
+    1049601, // 43 MakeDope: r
+    6297606, // 44 DopeLen: wr
+    90265686, // 45 BoundsLen: wrrr
+    358963542, // 46 BoundsPos: wrrrr
+    2099202, // 47 BoundsSlice: w
+    22041621, // 48 RetBounds: rrr
+    44083242, // 49 TakeBounds: www
+    6297606, // 50 LayoutOf: wr
+    5248005, // 51 SubtypeCheck: rr
+    0, // 52 Br: none
+    1049601, // 53 CondBr: r
+    1049601, // 54 Case: r
+    1049601, // 55 Ret: r
+    0, // 56 Unreachable: none
+    2099202, // 57 Call: w
+    2099202, // 58 CallNative: w
+    2099202, // 59 CallForeign: w
+    9446409, // 60 CallIndirect: rw
+    9446409, // 61 CallProt: rw
+    23091222, // 62 New: wrr
+    90265686, // 63 NewFill: wrrr
+    90265686, // 64 NewFrame: wrrr
+    1049601, // 65 Free: r
+    6297606, // 66 Deref: wr
+    23091222, // 67 SigVal: wrr
+    23091222, // 68 SigParts: wrr
+    90265686, // 69 SigSlice: wrrr
+    5248005, // 70 SigRead: rr
+    6297606, // 71 SigReadScalar: wr
+    5248005, // 72 SigLastValue: rr
+    6297606, // 73 SigAttr: wr
+    89216085, // 74 SigGather: rrrr
+    5248005, // 75 SigScatter: rr
+    6297606, // 76 Edge: wr
+    2099202, // 77 Driving: w
+    1049601, // 78 DrivingValue: r
+    6297606, // 79 SigDriving: wr
+    5248005, // 80 SigDrivingValue: rr
+    89216085, // 81 Drive: rrrr
+    357913941, // 82 DriveSlot: rrrrr
+    5248005, // 83 Disconnect: rr
+    22041621, // 84 DisconnectSlot: rrr
+    5248005, // 85 Force: rr
+    1049601, // 86 Release: r
+    1049601, // 87 WaitOn: r
+    1049601, // 88 WaitEdge: r
+    1049601, // 89 WaitFor: r
+    1049601, // 90 WaitAt: r
+    0, // 91 Suspend: none
+    2099202, // 92 TimedOut: w
+    2099202, // 93 Now: w
+    2099202, // 94 Delta: w
+    22041621, // 95 Report: rrr
+    5248005, // 96 Output: rr
+    0, // 97 Cover: none
+    23091222, // 98 CoverIn: wrr
+    1049601, // 99 CoverCond: r
+    0, // 100 Stmt: none
 ];
 
 // The table itself.
-pub fn table() -> [u32; 101]
+pub fn table() -> [u32; 202]
     ensures { λ r. ⌜ r ≡ rows ⌝ }
 {
     ROWS
 }
 
 // The row of a kind.
-pub fn row(t: &[u32; 101], kind: u32) -> u32
+pub fn row(t: &[u32; 202], kind: u32) -> u32
     requires { ⌜ (now t ≡ rows) × (kind < 101) ⌝ }
     ensures { λ r. ⌜ r ≡ packed (kind-of kind) ⌝ }
 {
     t[wide(kind)]
+}
+
+// How far up in a word of the second half a form lies.
+fn lift(form: u32) -> u32
+    ensures { λ r. ⌜ r ≡ lift form ⌝ }
+{
+    if form < 2 {
+        return 10 * form;
+    }
+    20
+}
+
+// What the slots of a kind do at a form, 2 bits a slot: 0 nothing, 1 reads, 2 writes.
+pub fn used(t: &[u32; 202], kind: u32, form: u32) -> u32
+    requires { ⌜ (now t ≡ rows) × (kind < 101) ⌝ }
+    ensures { λ r. ⌜ r ≡ spread (acts form) (packed (kind-of kind)) ⌝ }
+{
+    let s = lift(form);
+    let x = t[101 + wide(kind)];
+    (x >> s) % 1024
 }
 
 // Does the kind have a list?
@@ -168,19 +291,6 @@ pub fn most(row: u32) -> u32
     row / 134217728 % 8
 }
 
-// What each slot number does at a form, 2 bits a number: 0 nothing, 1 reads, 2 writes.
-fn acts(form: u32) -> u32
-    ensures { λ r. ⌜ r ≡ acts form ⌝ }
-{
-    if form == 1 {
-        return 33176;
-    }
-    if 2 <= form {
-        return 21912;
-    }
-    17816
-}
-
 // What each slot number asks at a form, 2 bits a number: 0 absent, 1 a register, 2 either.
 fn wants(form: u32) -> u32
     ensures { λ r. ⌜ r ≡ wants form ⌝ }
@@ -212,13 +322,6 @@ fn spread(m: u32, row: u32) -> u32
     let r3 = two_bits(m, row / 512 % 8);
     let r4 = two_bits(m, row / 4096 % 8);
     r0 + 4 * r1 + 16 * r2 + 64 * r3 + 256 * r4
-}
-
-// A row resolved at a form: what each slot does.
-pub fn roles(row: u32, form: u32) -> u32
-    ensures { λ r. ⌜ r ≡ spread (acts form) row ⌝ }
-{
-    spread(acts(form), row)
 }
 
 // A row resolved at a form: what each slot asks.
