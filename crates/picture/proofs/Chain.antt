@@ -6,7 +6,7 @@ use Prim.Native.Nat.{ℕ, suc, _<_}
 use lib.ListN.{length}
 use Rattle.words.specs.Lists.{any}
 use Rattle.model.specs.Picture.{Picture, inst, nblocks}
-use Rattle.model.specs.Refusal.{gaps, bad-kind, lowest, refusal}
+use Rattle.model.specs.Refusal.{gaps, bad-kind, bad-list, bad-branch, lowest, refusal}
 use Rattle.model.specs.Pass.{gated}
 use Rattle.picture.specs.Causes.{picture-of, code, too-many, unlike, too-short, bad-regs, long-cat, two-writes, bad-lists, bad-targets, bad-types}
 use Rattle.picture.proofs.Insts.{code-at, code-all}
@@ -31,10 +31,10 @@ module _ (P : Picture) (w64 w32 : ℕ) where
   from8 = any long-cat (code (P .recs) n) ∷ from9
 
   unfoldable pub from7 : List Bool
-  from7 = bad-targets (P .recs) n (P .targets) (P .pairs) (nblocks P) ∷ from8
+  from7 = bad-targets (any (bad-branch (nblocks P)) (code (P .recs) n)) (P .targets) (P .pairs) (nblocks P) ∷ from8
 
   unfoldable pub from6 : List Bool
-  from6 = bad-lists (P .recs) n (P .ops) (P .opers) (P .regs) ∷ from7
+  from6 = bad-lists (any (bad-list (P .opers)) (code (P .recs) n)) (P .ops) (P .opers) (P .regs) ∷ from7
 
   unfoldable pub from5 : List Bool
   from5 = any (bad-regs (P .regs)) (code (P .recs) n) ∷ from6

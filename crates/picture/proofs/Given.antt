@@ -8,13 +8,11 @@ use native.Mathlib.Omega.{arith}
 use lib.Dec.{eqb, ltb}
 use lib.ListN.{getD, length}
 use borrow.Author.Tests.{ltb-false, eqb-true, not-false}
-use Rattle.words.specs.Lists.{any}
 use Rattle.words.proofs.Bools.{or-left, or-right}
-use Rattle.model.specs.Picture.{Inst, inst, kind}
+use Rattle.model.specs.Picture.{inst}
 use Rattle.model.specs.Refusal.{bad-kind}
 use Rattle.inst.specs.Record.{Within, Known}
-use Rattle.picture.specs.Causes.{code, too-many, unlike}
-use Rattle.picture.proofs.Insts.{code-at}
+use Rattle.picture.specs.Causes.{too-many, unlike}
 
 -- without cause 1
 pub record Few (nb nl nt nq R O : ℕ) : Type 0 where
@@ -47,16 +45,12 @@ whole nr nl nv nb np e f = le-of-eq (sym (eqb-true nr (16 * nl) (not-false (eqb 
 pub within : (recs : List ℕ) (n p : ℕ) → 16 * n ≤ length recs → p < n → Within recs p
 within recs n p h l = record { whole = omega arith }
 
--- without cause 4 the kinds are known
-module _ (recs : List ℕ) (n p : ℕ) (h : 16 * n ≤ length recs) (e : any bad-kind (code recs n) ≡ false) (l : p < n) where
-  abbrev i : Inst
-  i = inst recs p
-
-  pub known : Known recs p
-  known =
-      let a : ltb 100 (getD i 0 0) ≡ false = or-left _ _ (or-left _ _ (or-left _ _ (code-at bad-kind recs n e p l))) in
-      let b = ltb-false 100 (getD i 0 0) a in
-      record { within = within recs n p h l; kind = omega arith }
+-- a record without cause 4 has a known kind
+pub known : {r : Bool} (recs : List ℕ) (p : ℕ) → Within recs p → r ≡ bad-kind (inst recs p) → r ≡ false → Known recs p
+known recs p w e f =
+    let a : ltb 100 (getD (inst recs p) 0 0) ≡ false = or-left _ _ (or-left _ _ (or-left _ _ (sym e ∙ f))) in
+    let b = ltb-false 100 (getD (inst recs p) 0 0) a in
+    record { within = w; kind = omega arith }
 
 -- cause 10: the product does not wrap
 pub rows-fit : (b w : ℕ) → b ≤ 4096 → w ≤ 1024 → 4 * b * w ≤ 16777216

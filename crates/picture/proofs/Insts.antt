@@ -1,10 +1,12 @@
 -- Tests over the first n instructions: the fixed answers of the loops that decide them. Assumes nothing.
-use mathlib.Core.Path.{_≡_, sym, _∙_}
-use mathlib.Core.Bool.{Bool, true, false}
+use mathlib.Core.Path.{_≡_, sym, ap, _∙_}
+use mathlib.Core.Bool.{Bool, true, false, _||_, or-false}
 use mathlib.Core.List.{List}
 use Prim.Native.Nat.{ℕ, _+_, _≤_, _<_}
-use Rattle.words.specs.Lists.{upto, any}
-use Rattle.words.proofs.Alls.{any-map, any-at, any-below, find-yes, find-on, find-no}
+use Rattle.words.specs.Lists.{range, upto, any}
+use native.Mathlib.Nat.{zero-add}
+use Rattle.words.proofs.Lists.{range-append}
+use Rattle.words.proofs.Alls.{any-map, any-append, any-at, any-below, find-yes, find-on, find-no}
 use Rattle.model.specs.Picture.{Inst, inst}
 use Rattle.picture.specs.Causes.{code}
 
@@ -29,6 +31,13 @@ module _ (f : Inst → Bool) (recs : List ℕ) where
 
   pub code-no : {n p : ℕ} → p ≤ n → n ≤ p → any f (code recs p) ≡ false → false ≡ any f (code recs n)
   code-no {n} {p} h k t = find-no at h k (sym (by-place p) ∙ t) ∙ sym (by-place n)
+
+  -- one more, of a loop that goes on: `found = found | f(p);`
+  pub code-more : (p : ℕ) {b r : Bool} → b ≡ any f (code recs p) → r ≡ at p → (b || r) ≡ any f (code recs (p + 1))
+  code-more p {b} {r} e h =
+      ap (λ (x : Bool). x || r) (e ∙ by-place p) ∙ ap (λ (x : Bool). any at (upto p) || x) (h ∙ sym (or-false (at p)))
+      ∙ ap (λ (k : ℕ). any at (upto p) || (at k || false)) (sym (zero-add p))
+      ∙ sym (any-append at (upto p) (range (0 + p) 1)) ∙ ap (any at) (range-append 0 p 1) ∙ sym (by-place (p + 1))
 
   -- absent at every instruction
   pub code-at : (n : ℕ) → any f (code recs n) ≡ false → (p : ℕ) → p < n → f (inst recs p) ≡ false

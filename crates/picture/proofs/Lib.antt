@@ -4,4 +4,5 @@ pub mod Slots
 pub mod Given
 pub mod Looked
 pub mod Writes
+pub mod Seen
 pub mod Chain

@@ -1,18 +1,21 @@
 -- The five slots of a record, one by one. Assumes nothing.
 use mathlib.Core.Path.{_≡_, refl, sym, ap, _∙_}
-use mathlib.Core.Bool.{Bool, true, false, _||_}
+use mathlib.Core.Bool.{Bool, true, false, not, _&&_, _||_}
 use mathlib.Core.List.{List, [], _∷_}
 use Prim.Native.Nat.{ℕ, zero, suc, _+_, _<_}
 use native.Mathlib.Nat.{not-suc-le-zero, le-of-suc-le-suc}
 use native.Mathlib.Omega.{arith}
+use lib.Dec.{eqb}
 use lib.ListN.{length, getD, drop, drop-of-length-le}
-use Rattle.model.specs.Kinds.{Role, off}
-use Rattle.model.specs.Picture.{Inst, inst, roles, slots}
+use Rattle.words.proofs.Bools.{or-left, or-right}
+use Rattle.model.specs.Kinds.{Role, off, wr, rd, wr?, rd?}
+use Rattle.model.specs.Picture.{Inst, inst, absent, roles, slots}
 use Rattle.model.specs.Refusal.{bad-slot, bad-slots}
-use Rattle.inst.specs.Table.{two-bits}
-use Rattle.inst.specs.Record.{Within, asks-of, bad-at}
-use Rattle.inst.proofs.Resolved.{asks-slot, bad-is}
+use Rattle.inst.specs.Table.{two-bits, does}
+use Rattle.inst.specs.Record.{Within, uses-of, asks-of, bad-at}
+use Rattle.inst.proofs.Resolved.{does-slot, asks-slot, bad-is}
 use Rattle.inst.proofs.Words.{slots-long, slot-is}
+use Rattle.picture.specs.Causes.{odd-at, odd-slot, odd-slots}
 
 module _ (R : ℕ) where
   no-role : (rs : List ℕ) (s : ℕ) → s < length rs → bad-slots R [] (drop s rs) ≡ (bad-slot R off (getD rs s 0) || bad-slots R [] (drop (suc s) rs))
@@ -35,6 +38,14 @@ module _ (R : ℕ) where
 -- slot s by what it asks
 pub asked : (i : Inst) (R s : ℕ) → s < 5 → (a r : ℕ) → a ≡ two-bits (asks-of i) s → r ≡ getD i (2 + s) 0 → bad-at R a r ≡ bad-slot R (getD (roles i) s off) (getD i (2 + s) 0)
 asked i R s h a r e q = rw (e, q, asks-slot i s h) (sym (bad-is R (getD i (2 + s) 0) (getD (roles i) s off)))
+
+-- a bad slot is odd
+odd-first : (R r : ℕ) (o : Role) → odd-at R (does o) r ≡ false → bad-slot R o r ≡ false
+odd-first R r off h = or-left (not (eqb r absent)) false h
+odd-first R r wr h = h
+odd-first R r rd h = h
+odd-first R r wr? h = ap (λ (b : Bool). b && not (eqb r absent)) h
+odd-first R r rd? h = ap (λ (b : Bool). b && not (eqb r absent)) h
 
 module _ (recs : List ℕ) (p R : ℕ) (w : Within recs p) where
   abbrev i : Inst
@@ -65,3 +76,15 @@ module _ (recs : List ℕ) (p R : ℕ) (w : Within recs p) where
       (next 2 (omega arith) ∙ ap (λ (b : Bool). bad 2 || b)
       (next 3 (omega arith) ∙ ap (λ (b : Bool). bad 3 || b)
       (next 4 (omega arith) ∙ ap (λ (b : Bool). bad 4 || b) end ∙ or-last (bad 4)))))
+
+  -- where none is odd, none is bad
+  module _ (u : ℕ) (e : u ≡ uses-of i) where
+    not-odd : (s : ℕ) → s < 5 → odd-slot R u i s ≡ false → bad s ≡ false
+    not-odd s h q = odd-first R (getD i (2 + s) 0) (getD (roles i) s off) (rw (e, does-slot i s h) at q)
+
+    also : {b c : Bool} (s : ℕ) → s < 5 → (b ≡ false → c ≡ false) → (odd-slot R u i s || b) ≡ false → (bad s || c) ≡ false
+    also {b} {c} s h more q = ap (λ (x : Bool). x || c) (not-odd s h (or-left (odd-slot R u i s) b q)) ∙ more (or-right (odd-slot R u i s) b q)
+
+    pub none-odd : odd-slots R u i ≡ false → false ≡ bad-slots R (roles i) (slots i)
+    unfolding odd-slots
+    none-odd q = sym (five-slots ∙ also 0 (omega arith) (also 1 (omega arith) (also 2 (omega arith) (also 3 (omega arith) (not-odd 4 (omega arith))))) q)

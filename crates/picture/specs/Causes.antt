@@ -7,9 +7,10 @@ use lib.Dec.{eqb, ltb, leb}
 use lib.ListN.{getD, length, take}
 use Rattle.words.specs.Lists.{upto, any}
 use Rattle.model.specs.Kinds.{row, Cat}
-use Rattle.model.specs.Picture.{Picture, Inst, inst, kind, form, is-kind, slots, roles}
+use Rattle.model.specs.Picture.{Picture, Inst, inst, absent, kind, form, is-kind, slots, roles}
 use Rattle.model.specs.Picture as Pic
-use Rattle.model.specs.Refusal.{bad-slots, half-part, bad-list, bad-branch, bad-pairs, may-move}
+use Rattle.model.specs.Refusal.{bad-slots, half-part, bad-pairs, may-move}
+use Rattle.inst.specs.Table.{two-bits}
 
 -- bounds, records, locs, vias, types and registers in use, operands and those in use, case pairs, targets, replay
 abbrev pub picture-of : List ℕ → List ℕ → List ℕ → List ℕ → List ℕ → ℕ → List ℕ → ℕ → List ℕ → List ℕ → List ℕ → Picture
@@ -41,6 +42,17 @@ too-short nb nt w64 w32 = ltb w64 (4 * (nb / 2) * ((nt + 63) / 64) + 2 * nt) || 
 unfoldable pub bad-regs : ℕ → Inst → Bool
 bad-regs R i = bad-slots R (roles i) (slots i) || half-part i
 
+-- a slot that is not what it mostly is, absent where nothing is done with it (u is 0), and else a register; no other is bad
+abbrev pub odd-at : ℕ → ℕ → ℕ → Bool
+odd-at R u r = eqb u 0 && not (eqb r absent) || not (eqb u 0) && leb R r
+
+-- one of five, u saying what they do
+abbrev pub odd-slot : ℕ → ℕ → Inst → ℕ → Bool
+odd-slot R u i s = odd-at R (two-bits u s) (getD i (2 + s) 0)
+
+unfoldable pub odd-slots : ℕ → ℕ → Inst → Bool
+odd-slots R u i = odd-slot R u i 0 || (odd-slot R u i 1 || (odd-slot R u i 2 || (odd-slot R u i 3 || odd-slot R u i 4)))
+
 -- 8
 abbrev pub long-cat : Inst → Bool
 long-cat i = is-kind Cat i && ltb 33 (getD i 8 0)
@@ -55,14 +67,13 @@ plain-cat i = is-kind Cat i && eqb (form i) 0
 
 -- ---- the causes of lists and branches
 
--- 6: of the records, and of the operands in use
-unfoldable pub bad-lists : List ℕ → ℕ → List ℕ → ℕ → ℕ → Bool
-bad-lists recs n ops opers regs = any (bad-list opers) (code recs n) || any (leb regs) (take opers ops)
+-- 6: one of the records, or of the operands in use
+unfoldable pub bad-lists : Bool → List ℕ → ℕ → ℕ → Bool
+bad-lists lists ops opers regs = lists || any (leb regs) (take opers ops)
 
--- 7: of the records, the case targets and the case pairs
-unfoldable pub bad-targets : List ℕ → ℕ → List ℕ → List ℕ → ℕ → Bool
-bad-targets recs n targets pairs blocks =
-    any (bad-branch blocks) (code recs n) || any (leb blocks) targets || bad-pairs (length targets) pairs
+-- 7: one of the records, of the case targets or of the case pairs
+unfoldable pub bad-targets : Bool → List ℕ → List ℕ → ℕ → Bool
+bad-targets branches targets pairs blocks = branches || any (leb blocks) targets || bad-pairs (length targets) pairs
 
 -- 9: of the types in use
 unfoldable pub bad-types : List ℕ → ℕ → Bool

@@ -5,13 +5,10 @@ use inst::record::kind;
 use inst::record::wide;
 use inst::record::word;
 ghost use mathlib.Core.Path.{_≡_};
-ghost use Prim.Native.Nat.{_*_, _≤_};
-ghost use lib.ListN.{length};
-ghost use Rattle.words.specs.Lists.{any};
 ghost use Rattle.model.specs.Picture.{inst};
 ghost use Rattle.model.specs.Refusal.{bad-branch, bad-pairs};
 ghost use Rattle.inst.specs.Record.{Within};
-ghost use Rattle.picture.specs.Causes.{code, bad-targets};
+ghost use Rattle.picture.specs.Causes.{bad-targets};
 
 // The kinds named here.
 const BR: u32 = 52;
@@ -19,7 +16,7 @@ const BR: u32 = 52;
 const COND_BR: u32 = 53;
 
 // A branch to no block.
-fn bad_branch(recs: &[u32], p: usize, blocks: usize) -> bool
+pub fn bad_branch(recs: &[u32], p: usize, blocks: usize) -> bool
     requires { ⌜ Within (now recs) p ⌝ }
     ensures { λ r. ⌜ r ≡ bad-branch blocks (inst (now (recs .entry)) p) ⌝ }
 {
@@ -27,21 +24,6 @@ fn bad_branch(recs: &[u32], p: usize, blocks: usize) -> bool
     let t = wide(word(recs, p, 9));
     let f = wide(word(recs, p, 10));
     (k == BR) & (blocks <= t) | (k == COND_BR) & ((blocks <= t) | (blocks <= f))
-}
-
-// The same of all n records.
-fn bad_branches(recs: &[u32], n: usize, blocks: usize) -> bool
-    requires { ⌜ 16 * n ≤ length (now recs) ⌝ }
-    ensures { λ r. ⌜ r ≡ any (bad-branch blocks) (code (now (recs .entry)) n) ⌝ }
-{
-    let mut p = 0usize;
-    while p < n {
-        if bad_branch(recs, p, blocks) {
-            return true;
-        }
-        p += 1;
-    }
-    false
 }
 
 // A case pair that is empty or past its n targets.
@@ -61,10 +43,9 @@ fn bad_pairs(pairs: &[u32], n: usize) -> bool
     false
 }
 
-// 7
-pub fn bad_targets(recs: &[u32], n: usize, targets: &[u32], pairs: &[u32], blocks: usize) -> bool
-    requires { ⌜ 16 * n ≤ length (now recs) ⌝ }
-    ensures { λ r. ⌜ r ≡ bad-targets (now (recs .entry)) n (now (targets .entry)) (now (pairs .entry)) blocks ⌝ }
+// 7: a record's branch is bad, or a case target or pair is.
+pub fn bad_targets(branches: bool, targets: &[u32], pairs: &[u32], blocks: usize) -> bool
+    ensures { λ r. ⌜ r ≡ bad-targets branches (now (targets .entry)) (now (pairs .entry)) blocks ⌝ }
 {
-    bad_branches(recs, n, blocks) | any_from(targets, blocks) | bad_pairs(pairs, targets.len())
+    branches | any_from(targets, blocks) | bad_pairs(pairs, targets.len())
 }

@@ -2,18 +2,17 @@
 // changed.
 pub mod sizes; // sizes.rt: causes 1, 2 and 10
 pub mod blocks; // blocks.rt: cause 3
-pub mod records; // records.rt: causes 4, 5 and 8
+pub mod records; // records.rt: causes 4, 5 and 8, of a record
 pub mod lists; // lists.rt: causes 6 and 9
 pub mod branches; // branches.rt: cause 7
+pub mod look; // look.rt: what causes 4 to 8 find in the records, in one pass
 pub mod gates; // gates.rt: the three gates
 
 use crate::blocks::gaps;
 use crate::branches::bad_targets;
 use crate::lists::bad_lists;
 use crate::lists::bad_types;
-use crate::records::bad_kinds;
-use crate::records::bad_regs;
-use crate::records::long_cats;
+use crate::look::look;
 use crate::sizes::too_many;
 use crate::sizes::too_short;
 use crate::sizes::unlike;
@@ -38,7 +37,7 @@ pub fn refusal(
     targets: &[u32],
     w64: usize,
     w32: usize,
-    table: &[u32; 101],
+    table: &[u32; 202],
 ) -> u32
     requires { ⌜ now table ≡ rows ⌝ }
     ensures { λ r. ⌜ r ≡ refusal (picture-of (now (bounds .entry)) (now (recs .entry)) (now (locs .entry)) (now (vias .entry)) (now (types .entry)) regs (now (ops .entry)) opers (now (pairs .entry)) (now (targets .entry)) []) w64 w32 ⌝ }
@@ -55,19 +54,20 @@ pub fn refusal(
     if gaps(bounds, n) {
         return 3;
     }
-    if bad_kinds(table, recs, n) {
+    let found = look(table, recs, n, regs, opers, b / 2);
+    if found.kinds {
         return 4;
     }
-    if bad_regs(table, recs, n, regs) {
+    if found.regs {
         return 5;
     }
-    if bad_lists(table, recs, n, ops, opers, regs) {
+    if bad_lists(found.lists, ops, opers, regs) {
         return 6;
     }
-    if bad_targets(recs, n, targets, pairs, b / 2) {
+    if bad_targets(found.branches, targets, pairs, b / 2) {
         return 7;
     }
-    if long_cats(recs, n) {
+    if found.cats {
         return 8;
     }
     if bad_types(types, regs) {

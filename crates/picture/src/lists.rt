@@ -7,19 +7,18 @@ use inst::record::wide;
 use inst::table::has_list;
 use inst::table::row;
 ghost use mathlib.Core.Path.{_≡_};
-ghost use mathlib.Core.Bool.{false};
-ghost use Prim.Native.Nat.{_*_, _≤_};
+ghost use Prim.Native.Nat.{_≤_};
 ghost use lib.Dec.{leb};
 ghost use lib.ListN.{length, take};
 ghost use Rattle.words.specs.Lists.{any};
 ghost use Rattle.model.specs.Picture.{inst};
-ghost use Rattle.model.specs.Refusal.{bad-kind, bad-list};
+ghost use Rattle.model.specs.Refusal.{bad-list};
 ghost use Rattle.inst.specs.Table.{rows};
 ghost use Rattle.inst.specs.Record.{Known};
-ghost use Rattle.picture.specs.Causes.{code, bad-lists, bad-types};
+ghost use Rattle.picture.specs.Causes.{bad-lists, bad-types};
 
 // A list past the operands in use, or on a kind without one.
-fn bad_list(t: &[u32; 101], recs: &[u32], p: usize, opers: usize) -> bool
+pub fn bad_list(t: &[u32; 202], recs: &[u32], p: usize, opers: usize) -> bool
     requires { ⌜ (now t ≡ rows) × Known (now recs) p ⌝ }
     ensures { λ r. ⌜ r ≡ bad-list opers (inst (now (recs .entry)) p) ⌝ }
 {
@@ -29,21 +28,6 @@ fn bad_list(t: &[u32; 101], recs: &[u32], p: usize, opers: usize) -> bool
         return opers < start + len;
     }
     !((start == 0) & (len == 0))
-}
-
-// The same of all n records.
-fn records_lists(t: &[u32; 101], recs: &[u32], n: usize, opers: usize) -> bool
-    requires { ⌜ (now t ≡ rows) × (16 * n ≤ length (now recs)) × (any bad-kind (code (now recs) n) ≡ false) ⌝ }
-    ensures { λ r. ⌜ r ≡ any (bad-list opers) (code (now (recs .entry)) n) ⌝ }
-{
-    let mut p = 0usize;
-    while p < n {
-        if bad_list(t, recs, p, opers) {
-            return true;
-        }
-        p += 1;
-    }
-    false
 }
 
 // Is one of these words m or more?
@@ -68,14 +52,12 @@ fn first(xs: &[u32], n: usize) -> &[u32]
     &xs[..n]
 }
 
-// 6: lists, and operands in use that are no registers.
-pub fn bad_lists(t: &[u32; 101], recs: &[u32], n: usize, ops: &[u32], opers: u32, regs: u32) -> bool
-    requires { ⌜ (now t ≡ rows) × (16 * n ≤ length (now recs)) × (any bad-kind (code (now recs) n) ≡ false) × (opers ≤ length (now ops)) ⌝ }
-    ensures { λ r. ⌜ r ≡ bad-lists (now (recs .entry)) n (now (ops .entry)) opers regs ⌝ }
+// 6: a record's list is bad, or an operand in use is no register.
+pub fn bad_lists(lists: bool, ops: &[u32], opers: u32, regs: u32) -> bool
+    requires { ⌜ opers ≤ length (now ops) ⌝ }
+    ensures { λ r. ⌜ r ≡ bad-lists lists (now (ops .entry)) opers regs ⌝ }
 {
-    let used = wide(opers);
-    let lists = records_lists(t, recs, n, used);
-    lists | any_from(first(ops, used), wide(regs))
+    lists | any_from(first(ops, wide(opers)), wide(regs))
 }
 
 // 9: a type in use above 7.

@@ -1,5 +1,6 @@
-// Causes 4, 5 and 8 (01, "The call", the table): what each record must be by itself. Cause 4 is tested first, so the others
-// may look its kind up in the table. A loop for each cause, since a lower cause at any record comes before a higher one.
+// Causes 4, 5 and 8 (01, "The call", the table): what a record must be by itself. Cause 4 is tested first, so the others
+// may look its kind up in the table.
+use inst::access::uses;
 use inst::access::wanted;
 use inst::record::form;
 use inst::record::kind;
@@ -11,16 +12,14 @@ use inst::table::most;
 use inst::table::row;
 use inst::table::two_bits;
 ghost use mathlib.Core.Path.{_≡_};
-ghost use mathlib.Core.Bool.{false};
-ghost use Prim.Native.Nat.{_+_, _*_, _<_, _≤_};
-ghost use lib.ListN.{getD, length};
-ghost use Rattle.words.specs.Lists.{any};
+ghost use Prim.Native.Nat.{_+_, _<_};
+ghost use lib.ListN.{getD};
 ghost use Rattle.model.specs.Kinds.{off};
 ghost use Rattle.model.specs.Picture.{inst, roles, slots};
 ghost use Rattle.model.specs.Refusal.{bad-kind, bad-slot, bad-slots, half-part};
 ghost use Rattle.inst.specs.Table.{rows};
 ghost use Rattle.inst.specs.Record.{Within, Known, asks-of, bad-at};
-ghost use Rattle.picture.specs.Causes.{code, bad-regs, long-cat};
+ghost use Rattle.picture.specs.Causes.{bad-regs, long-cat, odd-slot, odd-slots};
 
 // The kinds named here, and what a slot holds that names no register.
 const CAT: u32 = 39;
@@ -30,7 +29,7 @@ const SIG_GATHER: u32 = 74;
 const ABSENT: u32 = 4294967295;
 
 // 4: its kind, form or scalars are not allowed.
-fn bad_kind(t: &[u32; 101], recs: &[u32], p: usize) -> bool
+pub fn bad_kind(t: &[u32; 202], recs: &[u32], p: usize) -> bool
     requires { ⌜ (now t ≡ rows) × Within (now recs) p ⌝ }
     ensures { λ r. ⌜ r ≡ bad-kind (inst (now (recs .entry)) p) ⌝ }
 {
@@ -41,21 +40,6 @@ fn bad_kind(t: &[u32; 101], recs: &[u32], p: usize) -> bool
     let f = form(recs, p);
     let x = row(t, k);
     (f < least(x)) | (most(x) < f) | ((k == CAT) & (65535 < word(recs, p, 9)))
-}
-
-// 4, of all n records.
-pub fn bad_kinds(t: &[u32; 101], recs: &[u32], n: usize) -> bool
-    requires { ⌜ (now t ≡ rows) × (16 * n ≤ length (now recs)) ⌝ }
-    ensures { λ r. ⌜ r ≡ any bad-kind (code (now (recs .entry)) n) ⌝ }
-{
-    let mut p = 0usize;
-    while p < n {
-        if bad_kind(t, recs, p) {
-            return true;
-        }
-        p += 1;
-    }
-    false
 }
 
 // 5: a slot that asks this may not hold r, of that many registers.
@@ -104,49 +88,52 @@ fn half_part(recs: &[u32], p: usize) -> bool
         | (k == SIG_GATHER) & (a == ABSENT) & (b != ABSENT)
 }
 
-// 5: a slot is no register below R, or wrongly absent or present.
-fn bad_regs_at(t: &[u32; 101], recs: &[u32], p: usize, regs: u32) -> bool
-    requires { ⌜ (now t ≡ rows) × Known (now recs) p ⌝ }
-    ensures { λ r. ⌜ r ≡ bad-regs regs (inst (now (recs .entry)) p) ⌝ }
+// Slot s is not what it mostly is: absent where nothing is done with it, and else a register.
+fn odd_slot(recs: &[u32], p: usize, regs: u32, uses: u32, s: usize) -> bool
+    requires { ⌜ Within (now recs) p × (s < 5) ⌝ }
+    ensures { λ b. ⌜ b ≡ odd-slot regs uses (inst (now (recs .entry)) p) s ⌝ }
 {
-    let asks = wanted(t, recs, p);
-    bad_slots(recs, p, regs, asks) | half_part(recs, p)
+    let u = two_bits(uses, s as u32);
+    let r = slot(recs, p, s);
+    (u == 0) & (r != ABSENT) | (u != 0) & (regs <= r)
 }
 
-// 5, of all n records.
-pub fn bad_regs(t: &[u32; 101], recs: &[u32], n: usize, regs: u32) -> bool
-    requires { ⌜ (now t ≡ rows) × (16 * n ≤ length (now recs)) × (any bad-kind (code (now recs) n) ≡ false) ⌝ }
-    ensures { λ r. ⌜ r ≡ any (bad-regs regs) (code (now (recs .entry)) n) ⌝ }
+// One of the five slots is so.
+fn odd_slots(recs: &[u32], p: usize, regs: u32, uses: u32) -> bool
+    requires { ⌜ Within (now recs) p ⌝ }
+    ensures { λ b. ⌜ b ≡ odd-slots regs uses (inst (now (recs .entry)) p) ⌝ }
 {
-    let mut p = 0usize;
-    while p < n {
-        if bad_regs_at(t, recs, p, regs) {
-            return true;
-        }
-        p += 1;
+    let b0 = odd_slot(recs, p, regs, uses, 0);
+    let b1 = odd_slot(recs, p, regs, uses, 1);
+    let b2 = odd_slot(recs, p, regs, uses, 2);
+    let b3 = odd_slot(recs, p, regs, uses, 3);
+    let b4 = odd_slot(recs, p, regs, uses, 4);
+    b0 | (b1 | (b2 | (b3 | b4)))
+}
+
+// 5: the five slots of record p; what they ask is worked out only if one is odd.
+fn slots_at(t: &[u32; 202], recs: &[u32], p: usize, regs: u32) -> bool
+    requires { ⌜ (now t ≡ rows) × Known (now recs) p ⌝ }
+    ensures { λ b. ⌜ b ≡ bad-slots regs (roles (inst (now (recs .entry)) p)) (slots (inst (now (recs .entry)) p)) ⌝ }
+{
+    if odd_slots(recs, p, regs, uses(t, recs, p)) {
+        return bad_slots(recs, p, regs, wanted(t, recs, p));
     }
     false
 }
 
+// 5: a slot is no register below R, or wrongly absent or present.
+pub fn bad_regs_at(t: &[u32; 202], recs: &[u32], p: usize, regs: u32) -> bool
+    requires { ⌜ (now t ≡ rows) × Known (now recs) p ⌝ }
+    ensures { λ r. ⌜ r ≡ bad-regs regs (inst (now (recs .entry)) p) ⌝ }
+{
+    slots_at(t, recs, p, regs) | half_part(recs, p)
+}
+
 // 8: a Cat's list is over 33.
-fn long_cat(recs: &[u32], p: usize) -> bool
+pub fn long_cat(recs: &[u32], p: usize) -> bool
     requires { ⌜ Within (now recs) p ⌝ }
     ensures { λ r. ⌜ r ≡ long-cat (inst (now (recs .entry)) p) ⌝ }
 {
     (kind(recs, p) == CAT) & (33 < list_len(recs, p))
-}
-
-// 8, of all n records.
-pub fn long_cats(recs: &[u32], n: usize) -> bool
-    requires { ⌜ 16 * n ≤ length (now recs) ⌝ }
-    ensures { λ r. ⌜ r ≡ any long-cat (code (now (recs .entry)) n) ⌝ }
-{
-    let mut p = 0usize;
-    while p < n {
-        if long_cat(recs, p) {
-            return true;
-        }
-        p += 1;
-    }
-    false
 }

@@ -1,15 +1,18 @@
 -- `picture::refusal` meets its contract: past each test the answer is what the rest of the causes say. Assumes nothing.
 use borrow.Author.Needs.{needs}
-use mathlib.Core.Path.{_≡_, sym, _∙_}
+use mathlib.Core.Path.{_≡_, sym, ap, _∙_}
 use mathlib.Core.Bool.{Bool, false}
 use mathlib.Core.List.{List, []}
-use Prim.Native.Nat.{ℕ, _*_, _≤_}
+use Prim.Native.Nat.{ℕ, _*_, _/_, _≤_}
 use lib.ListN.{length}
 use Rattle.words.specs.Lists.{any}
 use Rattle.model.specs.Picture.{Picture}
-use Rattle.model.specs.Refusal.{bad-kind, lowest, refusal}
-use Rattle.picture.specs.Causes.{picture-of, code}
+use Rattle.model.specs.Refusal.{bad-kind, bad-list, bad-branch, lowest, refusal}
+use Rattle.picture.specs.declared.look.Found.{Found}
+use Rattle.picture.specs.Causes.{picture-of, code, bad-regs, bad-lists, bad-targets, long-cat}
+use Rattle.picture.specs.Found.{others}
 use Rattle.picture.proofs.Given.{Few, few, whole}
+use Rattle.picture.proofs.Seen.{kinds-of, others-of}
 use Rattle.picture.proofs.Chain.{from1, from2, from3, from4, from5, from6, from7, from8, from9, from10, from11, whole-chain, end, stop, on}
 use Rattle.picture.proofs.refusal.Statement.{statement}
 use Rattle.picture.proofs.refusal.Tie as tie
@@ -40,7 +43,7 @@ abbrev s4 : tie.Else4 → tie.Start
 s4 c = s3 (c .before .before)
 
 abbrev s5 : tie.Else5 → tie.Start
-s5 c = s4 (c .before .before)
+s5 c = s4 (c .before)
 
 abbrev s6 : tie.Else6 → tie.Start
 s6 c = s5 (c .before .before)
@@ -49,13 +52,35 @@ abbrev s7 : tie.Else7 → tie.Start
 s7 c = s6 (c .before .before)
 
 abbrev s8 : tie.Else8 → tie.Start
-s8 c = s7 (c .before .before)
+s8 c = s7 (c .before)
 
 abbrev s9 : tie.Else9 → tie.Start
 s9 c = s8 (c .before .before)
 
 abbrev s10 : tie.Else10 → tie.Start
 s10 c = s9 (c .before .before)
+
+-- what was found in the records
+
+kinds-in : (c : tie.After-look) → let a = c .before .before .before .before .before .before .before .before .before .before .before .before .before .before .before .args in c .look .result .kinds ≡ any bad-kind (code (a .recs .now) (length (a .locs .now)))
+kinds-in c = kinds-of _ _ _ _ _ (c .look .ensures)
+
+others-in : (c : tie.Else4) → let a = s4 c .args in c .before .look .result ≡ others (a .regs) (a .opers) (length (a .bounds .now) / 2) (code (a .recs .now) (length (a .locs .now)))
+others-in c = others-of _ _ _ _ _ (c .before .look .ensures) (c .if4 .left)
+
+regs-in : (c : tie.Else4) → let a = s4 c .args in c .before .look .result .regs ≡ any (bad-regs (a .regs)) (code (a .recs .now) (length (a .locs .now)))
+regs-in c = ap (λ (f : Found). f .regs) (others-in c)
+
+lists-in : (c : tie.After-bad-lists) → let a = s5 (c .before) .args in
+    c .bad-lists .result ≡ bad-lists (any (bad-list (a .opers)) (code (a .recs .now) (length (a .locs .now)))) (a .ops .now) (a .opers) (a .regs)
+lists-in c = let a = s5 (c .before) .args in c .bad-lists .ensures ∙ ap (λ (f : Found). bad-lists (f .lists) (a .ops .now) (a .opers) (a .regs)) (others-in (c .before .before))
+
+branches-in : (c : tie.After-bad-targets) → let a = s6 (c .before) .args in
+    c .bad-targets .result ≡ bad-targets (any (bad-branch (length (a .bounds .now) / 2)) (code (a .recs .now) (length (a .locs .now)))) (a .targets .now) (a .pairs .now) (length (a .bounds .now) / 2)
+branches-in c = let a = s6 (c .before) .args in c .bad-targets .ensures ∙ ap (λ (f : Found). bad-targets (f .branches) (a .targets .now) (a .pairs .now) (length (a .bounds .now) / 2)) (others-in (c .before .before .before .before))
+
+cats-in : (c : tie.Else4) → let a = s4 c .args in c .before .look .result .cats ≡ any long-cat (code (a .recs .now) (length (a .locs .now)))
+cats-in c = ap (λ (f : Found). f .cats) (others-in c)
 
 -- past each test the answer is what the rest says
 
@@ -73,23 +98,23 @@ past3 c = on 3 (rest from4 (s3 c)) (c .before .gaps .ensures) (c .if3 .left) ∙
 
 past4 : (c : tie.Else4) → lowest 5 (rest from5 (s4 c)) ≡ answer (s4 c)
 unfolding from4
-past4 c = on 4 (rest from5 (s4 c)) (c .before .bad-kinds .ensures) (c .if4 .left) ∙ past3 (c .before .before)
+past4 c = on 4 (rest from5 (s4 c)) (kinds-in (c .before)) (c .if4 .left) ∙ past3 (c .before .before)
 
 past5 : (c : tie.Else5) → lowest 6 (rest from6 (s5 c)) ≡ answer (s5 c)
 unfolding from5
-past5 c = on 5 (rest from6 (s5 c)) (c .before .bad-regs .ensures) (c .if5 .left) ∙ past4 (c .before .before)
+past5 c = on 5 (rest from6 (s5 c)) (regs-in (c .before)) (c .if5 .left) ∙ past4 (c .before)
 
 past6 : (c : tie.Else6) → lowest 7 (rest from7 (s6 c)) ≡ answer (s6 c)
 unfolding from6
-past6 c = on 6 (rest from7 (s6 c)) (c .before .bad-lists .ensures) (c .if6 .left) ∙ past5 (c .before .before)
+past6 c = on 6 (rest from7 (s6 c)) (lists-in (c .before)) (c .if6 .left) ∙ past5 (c .before .before)
 
 past7 : (c : tie.Else7) → lowest 8 (rest from8 (s7 c)) ≡ answer (s7 c)
 unfolding from7
-past7 c = on 7 (rest from8 (s7 c)) (c .before .bad-targets .ensures) (c .if7 .left) ∙ past6 (c .before .before)
+past7 c = on 7 (rest from8 (s7 c)) (branches-in (c .before)) (c .if7 .left) ∙ past6 (c .before .before)
 
 past8 : (c : tie.Else8) → lowest 9 (rest from9 (s8 c)) ≡ answer (s8 c)
 unfolding from8
-past8 c = on 8 (rest from9 (s8 c)) (c .before .long-cats .ensures) (c .if8 .left) ∙ past7 (c .before .before)
+past8 c = on 8 (rest from9 (s8 c)) (cats-in (c .before .before .before .before .before .before)) (c .if8 .left) ∙ past7 (c .before)
 
 past9 : (c : tie.Else9) → lowest 10 (rest from10 (s9 c)) ≡ answer (s9 c)
 unfolding from9
@@ -111,7 +136,7 @@ whole-at c =
     whole (length (a .recs .now)) (length (a .locs .now)) (length (a .vias .now)) (length (a .bounds .now)) (length (a .pairs .now)) (c .before .unlike .ensures) (c .if2 .left)
 
 kinds-at : (c : tie.Else4) → let a = s4 c .args in any bad-kind (code (a .recs .now) (length (a .locs .now))) ≡ false
-kinds-at c = sym (c .before .bad-kinds .ensures) ∙ c .if4 .left
+kinds-at c = sym (kinds-in (c .before)) ∙ c .if4 .left
 
 too-many-requires : tie.Need-too-many-requires
 too-many-requires c κs = search needs
@@ -134,59 +159,53 @@ returns-3 : tie.Need-returns-3
 unfolding from3
 returns-3 c = stop 3 (rest from4 (s2 (c .before .before))) (c .before .gaps .ensures) (c .if3 .taken) ∙ past2 (c .before .before)
 
-bad-kinds-requires : tie.Need-bad-kinds-requires
-bad-kinds-requires c κs = (s3 c .pre, whole-at (c .before .before))
+look-requires : tie.Need-look-requires
+look-requires c κs = (s3 c .pre, whole-at (c .before .before))
 
 returns-4 : tie.Need-returns-4
 unfolding from4
-returns-4 c = stop 4 (rest from5 (s3 (c .before .before))) (c .before .bad-kinds .ensures) (c .if4 .taken) ∙ past3 (c .before .before)
-
-bad-regs-requires : tie.Need-bad-regs-requires
-bad-regs-requires c κs = (s4 c .pre, whole-at (c .before .before .before .before), kinds-at c)
+returns-4 c = stop 4 (rest from5 (s3 (c .before .before))) (kinds-in (c .before)) (c .if4 .taken) ∙ past3 (c .before .before)
 
 returns-5 : tie.Need-returns-5
 unfolding from5
-returns-5 c = stop 5 (rest from6 (s4 (c .before .before))) (c .before .bad-regs .ensures) (c .if5 .taken) ∙ past4 (c .before .before)
+returns-5 c = stop 5 (rest from6 (s4 (c .before))) (regs-in (c .before)) (c .if5 .taken) ∙ past4 (c .before)
 
 bad-lists-requires : tie.Need-bad-lists-requires
-bad-lists-requires c κs = (s5 c .pre, whole-at (c .before .before .before .before .before .before), kinds-at (c .before .before), few-at (c .before .before .before .before .before .before .before .before) .opers)
+bad-lists-requires c κs = few-at (c .before .before .before .before .before .before .before) .opers
 
 returns-6 : tie.Need-returns-6
 unfolding from6
-returns-6 c = stop 6 (rest from7 (s5 (c .before .before))) (c .before .bad-lists .ensures) (c .if6 .taken) ∙ past5 (c .before .before)
+returns-6 c = stop 6 (rest from7 (s5 (c .before .before))) (lists-in (c .before)) (c .if6 .taken) ∙ past5 (c .before .before)
 
 bad-targets-requires : tie.Need-bad-targets-requires
-bad-targets-requires c κs = whole-at (c .before .before .before .before .before .before .before .before)
+bad-targets-requires c κs = search needs
 
 returns-7 : tie.Need-returns-7
 unfolding from7
-returns-7 c = stop 7 (rest from8 (s6 (c .before .before))) (c .before .bad-targets .ensures) (c .if7 .taken) ∙ past6 (c .before .before)
-
-long-cats-requires : tie.Need-long-cats-requires
-long-cats-requires c κs = whole-at (c .before .before .before .before .before .before .before .before .before .before)
+returns-7 c = stop 7 (rest from8 (s6 (c .before .before))) (branches-in (c .before)) (c .if7 .taken) ∙ past6 (c .before .before)
 
 returns-8 : tie.Need-returns-8
 unfolding from8
-returns-8 c = stop 8 (rest from9 (s7 (c .before .before))) (c .before .long-cats .ensures) (c .if8 .taken) ∙ past7 (c .before .before)
+returns-8 c = stop 8 (rest from9 (s7 (c .before))) (cats-in (c .before .before .before .before .before .before)) (c .if8 .taken) ∙ past7 (c .before)
 
 bad-types-requires : tie.Need-bad-types-requires
-bad-types-requires c κs = few-at (c .before .before .before .before .before .before .before .before .before .before .before .before .before .before) .regs
+bad-types-requires c κs = few-at (c .before .before .before .before .before .before .before .before .before .before .before .before) .regs
 
 returns-9 : tie.Need-returns-9
 unfolding from9
 returns-9 c = stop 9 (rest from10 (s8 (c .before .before))) (c .before .bad-types .ensures) (c .if9 .taken) ∙ past8 (c .before .before)
 
 too-short-requires : tie.Need-too-short-requires
-too-short-requires c κs = (few-at (c .before .before .before .before .before .before .before .before .before .before .before .before .before .before .before .before) .bounds, few-at (c .before .before .before .before .before .before .before .before .before .before .before .before .before .before .before .before) .types)
+too-short-requires c κs = let f = few-at (c .before .before .before .before .before .before .before .before .before .before .before .before .before .before) in (f .bounds, f .types)
 
 returns-10 : tie.Need-returns-10
 unfolding from10
 returns-10 c = stop 10 (rest from11 (s9 (c .before .before))) (c .before .too-short .ensures) (c .if10 .taken) ∙ past9 (c .before .before)
 
 returns-11 : tie.Need-returns-11
-returns-11 c = end (pic (s10 c)) (s10 c .args .w64) (s10 c .args .w32) (kinds-at (c .before .before .before .before .before .before .before .before .before .before .before .before)) ∙ past10 c
+returns-11 c = end (pic (s10 c)) (s10 c .args .w64) (s10 c .args .w32) (kinds-at (c .before .before .before .before .before .before .before .before .before .before)) ∙ past10 c
 
 pub refusal-spec : {M : Type 1} → statement M
 refusal-spec =
     tie.close
-    (tie.spec too-many-requires returns unlike-requires returns-2 gaps-requires returns-3 bad-kinds-requires returns-4 bad-regs-requires returns-5 bad-lists-requires returns-6 bad-targets-requires returns-7 long-cats-requires returns-8 bad-types-requires returns-9 too-short-requires returns-10 returns-11)
+    (tie.spec too-many-requires returns unlike-requires returns-2 gaps-requires returns-3 look-requires returns-4 returns-5 bad-lists-requires returns-6 bad-targets-requires returns-7 returns-8 bad-types-requires returns-9 too-short-requires returns-10 returns-11)

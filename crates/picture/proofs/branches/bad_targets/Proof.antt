@@ -4,9 +4,6 @@ use borrow.Author.Needs.{needs}
 use Rattle.picture.proofs.branches.bad_targets.Statement.{statement}
 use Rattle.picture.proofs.branches.bad_targets.Tie as tie
 
-bad-branches-requires : tie.Need-bad-branches-requires
-bad-branches-requires c κs = search needs
-
 any-from-requires : tie.Need-any-from-requires
 any-from-requires c κs = search needs
 
@@ -19,4 +16,4 @@ returns c = cc
 
 pub bad-targets-spec : {M : Type 1} → statement M
 bad-targets-spec =
-    tie.close (tie.spec bad-branches-requires any-from-requires bad-pairs-requires returns)
+    tie.close (tie.spec any-from-requires bad-pairs-requires returns)

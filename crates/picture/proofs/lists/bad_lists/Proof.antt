@@ -7,9 +7,6 @@ use Rattle.picture.proofs.lists.bad_lists.Tie as tie
 wide-requires : tie.Need-wide-requires
 wide-requires c κs = search needs
 
-records-lists-requires : tie.Need-records-lists-requires
-records-lists-requires c κs = search needs
-
 first-requires : tie.Need-first-requires
 first-requires c κs = search needs
 
@@ -21,14 +18,13 @@ any-from-requires c κs = search needs
 
 returns : tie.Need-returns
 unfolding bad-lists
-returns c = rw (c .any-from .ensures, c .before .before .before .records-lists .ensures, c .before .before .first .ensures, c .before .wide2 .ensures, c .before .before .before .before .wide .ensures)
+returns c = rw (c .any-from .ensures, c .before .before .first .ensures, c .before .wide2 .ensures, c .before .before .before .wide .ensures)
 
 pub bad-lists-spec : {M : Type 1} → statement M
 bad-lists-spec =
     tie.close
     (tie.spec
     wide-requires
-    records-lists-requires
     first-requires
     wide-requires-2
     any-from-requires
