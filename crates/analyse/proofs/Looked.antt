@@ -159,7 +159,7 @@ pub maker : {R n : ℕ} {regs w : List ℕ} → Safe R n regs w → (r v : ℕ) 
 maker s r v h e = let k = s .within r h in omega (arith, ap (λ (x : ℕ). x / 16) e, k)
 
 -- and its origin is small
-pub near-org : {R n : ℕ} {regs w : List ℕ} → Safe R n regs w → (p o : ℕ) → o ≡ cell w p 2 → p < n → o < 10000
+pub near-org : {R n : ℕ} {regs w : List ℕ} → Safe R n regs w → (p o : ℕ) → o ≡ cell w p 2 → p < n → o < 2004
 near-org s p o e h = let k = s .near p h .org in omega (arith, k, e)
 
 -- ---- layouts

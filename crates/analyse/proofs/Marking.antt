@@ -1,4 +1,4 @@
--- The last writers in the words of registers: marked, forgotten, and the first register written. Assumes nothing.
+-- The last writers in the words of registers: marked and forgotten. Assumes nothing.
 use mathlib.Core.Bool.{Bool, true, false, cond}
 use mathlib.Core.List.{List, [], _∷_, _++_}
 use mathlib.Core.Option.{Option, none, some}
@@ -7,14 +7,10 @@ use Prim.Native.Nat.{ℕ, suc, _+_, _*_, _/_, _%_, _≤_, _<_}
 use native.Mathlib.Decide.{ℕ-discrete}
 use native.Mathlib.Nat.{not-suc-le-zero, add-zero, add-suc, suc-add}
 use native.Mathlib.Omega.{arith}
-use borrow.Author.Tests.{eq-eqb, ne-eqb}
 use lib.ListN.{getD, length, set, length-set}
 use lib.Seq.{getD-set-same, getD-set-other}
 use Rattle.words.specs.Lists.{mem}
-use Rattle.model.specs.Picture.{inst, absent, writes}
 use Rattle.model.specs.Analyse.{Fact, last-writer}
-use Rattle.inst.specs.Record.{Within, write-at, present, rest-writes}
-use Rattle.inst.proofs.Rest.{writes-next, writes-end, writes-all}
 use Rattle.analyse.specs.Written.{settle}
 use Rattle.analyse.specs.State.{opt-at}
 use Rattle.analyse.specs.Step.{marked, Forgot}
@@ -80,27 +76,3 @@ forgetting-more {R} {r} {xs} {ys} l f h = record {
 
 pub forgetting-end : {R r : ℕ} {xs ys : List ℕ} → Forgetting R r xs ys → R ≤ r → Forgot R xs ys
 forgetting-end f h = record { size = f .size; low = λ k q. f .done k (omega arith); high = λ k q. f .todo k (omega (arith, f .upto)) }
-
--- ---- the first register written
-
-first-yes : (r : ℕ) (ys : List ℕ) → (r ≡ absent → ⊥) → getD (present r ++ ys) 0 absent ≡ r
-unfolding present
-first-yes r ys n = ap (λ (b : Bool). getD (cond b [] (r ∷ []) ++ ys) 0 absent) (ne-eqb r absent n)
-
-first-no : (r : ℕ) (ys : List ℕ) → r ≡ absent → present r ++ ys ≡ ys
-unfolding present
-first-no r ys e = ap (λ (b : Bool). cond b [] (r ∷ []) ++ ys) (eq-eqb r absent e)
-
-module _ (recs : List ℕ) (g : ℕ) (w : Within recs g) where
-  pub first-none : rest-writes (inst recs g) 0 ≡ writes (inst recs g)
-  first-none = writes-all (inst recs g)
-
-  module _ (s r : ℕ) (h : s < 5) (e : r ≡ write-at (inst recs g) s) (i : rest-writes (inst recs g) s ≡ writes (inst recs g)) where
-    pub first-here : (r ≡ absent → ⊥) → r ≡ getD (writes (inst recs g)) 0 absent
-    first-here n = sym (ap (λ (l : List ℕ). getD l 0 absent) (sym i ∙ writes-next recs g w s h e) ∙ first-yes r (rest-writes (inst recs g) (s + 1)) n)
-
-    pub first-on : r ≡ absent → rest-writes (inst recs g) (s + 1) ≡ writes (inst recs g)
-    first-on n = sym (first-no r (rest-writes (inst recs g) (s + 1)) n) ∙ sym (writes-next recs g w s h e) ∙ i
-
-  pub first-end : (s : ℕ) → 5 ≤ s → rest-writes (inst recs g) s ≡ writes (inst recs g) → absent ≡ getD (writes (inst recs g)) 0 absent
-  first-end s h i = sym (ap (λ (l : List ℕ). getD l 0 absent) (sym i ∙ writes-end recs g w s h))

@@ -11,8 +11,9 @@ use Rattle.words.specs.Lists.{range}
 use Rattle.words.proofs.Bools.{lt?}
 use Rattle.words.proofs.Lists.{map-append, length-range, range-append}
 use Rattle.model.specs.Kinds.{row, cat}
-use Rattle.model.specs.Picture.{Inst, inst, kind}
+use Rattle.model.specs.Picture.{Inst, inst, kind, reads, writes}
 use Rattle.model.specs.Analyse.{Facts, Fact, fact, analyse}
+use Rattle.inst.specs.Record.{present}
 use Rattle.analyse.specs.State.{cell, State, Safe}
 use Rattle.analyse.specs.Step.{Good, Holds, Part, Ran, RanPart}
 
@@ -45,6 +46,10 @@ holds-keep : {recs ops w w′ : List ℕ} {R p : ℕ} → ((j : ℕ) → j < 10 
 holds-keep {recs} {ops} {w} {w′} {R} {p} h s = record {
   good = subst (Good recs ops R) (sym (h 0 (omega arith))) (s .good);
   cat = λ q. subst (λ (k : ℕ). row (kind (inst recs k)) .arm ≡ cat) (sym (h 0 (omega arith))) (s .cat (sym (h 5 (omega arith)) ∙ q));
+  defs = λ q. ap (λ (k : ℕ). writes (inst recs k)) (h 0 (omega arith)) ∙ s .defs (sym (h 9 (omega arith)) ∙ q) ∙ ap present (sym (h 6 (omega arith)));
+  reads = λ q.
+      ap (λ (k : ℕ). reads ops (inst recs k)) (h 0 (omega arith)) ∙ s .reads (sym (h 9 (omega arith)) ∙ q)
+      ∙ ap (λ (r : ℕ). present r ++ present (cell w p 8)) (sym (h 7 (omega arith))) ∙ ap (λ (r : ℕ). present (cell w′ p 7) ++ present r) (sym (h 8 (omega arith)));
 }
 
 module _ {recs ops regs w regs₁ w₁ regs₂ w₂ xs ys : List ℕ} {p q R : ℕ} (a : Ran recs ops regs w regs₁ w₁ p R xs) (eq : q ≡ p + length xs) (b : Ran recs ops regs₁ w₁ regs₂ w₂ q R ys) where

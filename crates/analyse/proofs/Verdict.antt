@@ -17,12 +17,14 @@ use Rattle.model.specs.Analyse as M
 use Rattle.model.specs.Analyse.{Facts, Fact, Org, Unknown, Read, unread, last-writer, org-of, len-of, is-layout, when-some, known-of, positive, arm, pieces, placed, movable, fact}
 use Rattle.inst.specs.Table.{packed, arm-at}
 use Rattle.inst.specs.Table as T
+use Rattle.inst.specs.declared.access.Firsts.{Firsts}
+use Rattle.inst.specs.Firsts.{Heads}
 use Rattle.inst.proofs.Rows.{arm-back, quiet-is}
 use Rattle.effects.specs.Origin.{org-at, class-at, wrote-at, from-at}
 use Rattle.effects.specs.Arms.{does, three, three-tests, asked, Right}
 use Rattle.effects.specs.declared.arms.Effect.{Effect}
 use Rattle.effects.specs.declared.arms.Input.{Input}
-use Rattle.analyse.specs.State.{org-reg, len-reg, Reg?, Readable, Asked, Low, Judged, fill-in}
+use Rattle.analyse.specs.State.{org-reg, len-reg, Reg?, Below, Readable, Asked, Low, Judged, fill-in}
 use Rattle.analyse.proofs.Alike.{arm-ext}
 
 pub reads-reg : {recs ops : List ℕ} {R g : ℕ} → Readable recs ops R g → (k : ℕ) → Reg? R (getD (reads ops (inst recs g)) k absent)
@@ -31,6 +33,9 @@ reads-reg {recs} {ops} {R} {g} r k = go (decLt k (length (reads ops (inst recs g
     go : Dec (k < length (reads ops (inst recs g))) → Reg? R (getD (reads ops (inst recs g)) k absent)
     go (yes h) = inr (r .each k h)
     go (no h) = inl (List·getD-eq-default (reads ops (inst recs g)) absent (le-of-suc-le-suc (lt-of-not-le h)))
+
+pub reads-below : {recs ops ds : List ℕ} {R g : ℕ} {x : Firsts} → Readable recs ops R g → Heads (reads ops (inst recs g)) ds x → Below R x
+reads-below r h = record { r0 = rw (h .r0) (reads-reg r 0); r1 = rw (h .r1) (reads-reg r 1); r2 = rw (h .r2) (reads-reg r 2) }
 
 -- ---- memory written
 
@@ -62,12 +67,12 @@ module _ (e : Effect) (q n : Bool) where
 
 -- ---- small numbers
 
-pub low-is : (i : Inst) {x : Input} {r : Effect} {v : ℕ} → Right r (T.arm (packed (kind i))) x → v ≤ 10000
+pub low-is : (i : Inst) {x : Input} {r : Effect} {v : ℕ} → Right r (T.arm (packed (kind i))) x → v ≤ 2004
     → Low i (record { class = r .class; org = r .org; len = r .len; layout = r .layout; creates = r .creates; wrote = v; barrier = r .barrier; from = r .from })
 low-is i {x} {r} {v} t h = record {
   org = t .near;
   wrote = h;
-  from = ⊎-elim (λ (l : r .from ≤ 10000). inl l) (λ (z : (r .from ≡ 4294967295) × (arm-at (T.arm (packed (kind i))) ≡ cat)). inr (z .0, sym (arm-back (getD i 0 0)) ∙ z .1)) (t .from);
+  from = ⊎-elim (λ (l : r .from ≤ 2004). inl l) (λ (z : (r .from ≡ 4294967295) × (arm-at (T.arm (packed (kind i))) ≡ cat)). inr (z .0, sym (arm-back (getD i 0 0)) ∙ z .1)) (t .from);
 }
 
 -- ---- what is read

@@ -13,6 +13,7 @@ use Rattle.model.specs.Picture.{Inst, inst, absent, kind, reads, list-of}
 use Rattle.model.specs.Analyse.{Facts, Fact, Org, Unknown, no-fact, last-writer, org-of, len-of, is-layout, when-some, known-of, positive, small, whole, sized}
 use Rattle.inst.specs.Record as I
 use Rattle.inst.specs.Record.{Listed}
+use Rattle.inst.specs.declared.access.Firsts.{Firsts}
 use Rattle.effects.specs.Origin.{org-at, class-at, wrote-at, from-at, num}
 use Rattle.effects.specs.declared.arms.Input.{Input}
 use Rattle.effects.specs.declared.arms.Effect.{Effect}
@@ -50,9 +51,9 @@ pub record State (G : Facts) (past : List Fact) (R : ℕ) (regs w : List ℕ) : 
 
 -- the numbers of position p are small, but for the code of a Cat
 pub record Near (w : List ℕ) (p : ℕ) : Type 0 where
-  pub org : cell w p 2 < 10000
-  pub wrote : cell w p 4 ≤ 10000
-  pub from : (cell w p 5 ≤ 10000) ⊎ (cell w p 5 ≡ 4294967295)
+  pub org : cell w p 2 < 2004
+  pub wrote : cell w p 4 ≤ 2004
+  pub from : (cell w p 5 ≤ 2004) ⊎ (cell w p 5 ≡ 4294967295)
 
 -- the sizes that the code needs, and no word points past the n positions so far
 pub record Safe (R n : ℕ) (regs w : List ℕ) : Type 0 where
@@ -68,6 +69,12 @@ pub record Safe (R n : ℕ) (regs w : List ℕ) : Type 0 where
 -- a register, or none
 abbrev pub Reg? : ℕ → ℕ → Type 0
 Reg? R r = (r ≡ absent) ⊎ (r < R)
+
+-- so are the first three that are read
+pub record Below (R : ℕ) (x : Firsts) : Type 0 where
+  pub r0 : Reg? R (x .r0)
+  pub r1 : Reg? R (x .r1)
+  pub r2 : Reg? R (x .r2)
 
 -- where it points, and whether it is a length; of none, what the analysis takes for a place past the end
 unfoldable pub org-reg : Facts → List Fact → ℕ → Org
@@ -106,9 +113,9 @@ fill-in o b = elim o [ some w ↦ some w | none ↦ cond b none (some Unknown) ]
 
 -- the numbers of e are small; the memory read is the code only for a Cat
 pub record Low (i : Inst) (e : Effect) : Type 0 where
-  pub org : e .org < 10000
-  pub wrote : e .wrote ≤ 10000
-  pub from : (e .from ≤ 10000) ⊎ ((e .from ≡ 4294967295) × (row (kind i) .arm ≡ cat))
+  pub org : e .org < 2004
+  pub wrote : e .wrote ≤ 2004
+  pub from : (e .from ≤ 2004) ⊎ ((e .from ≡ 4294967295) × (row (kind i) .arm ≡ cat))
 
 -- the struct e stands for the fact f
 pub record Judged (e : Effect) (f : Fact) : Type 0 where

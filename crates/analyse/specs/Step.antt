@@ -1,15 +1,19 @@
 -- Going along a chain: last writers marked, and the words of a position written. Assumes nothing.
 use mathlib.Core.Path.{_≡_}
-use mathlib.Core.Bool.{Bool}
-use mathlib.Core.List.{List, [], _∷_, map}
+use mathlib.Core.Bool.{Bool, not, _||_}
+use mathlib.Core.List.{List, [], _∷_, _++_, map}
 use Prim.Native.Nat.{ℕ, _+_, _*_, _-_, _%_, _≤_, _<_}
+use lib.Dec.{eqb}
 use lib.ListN.{getD, length}
 use Rattle.words.specs.Lists.{range}
 use Rattle.model.specs.Kinds.{row, cat}
-use Rattle.model.specs.Picture.{Picture, inst, kind}
+use Rattle.model.specs.Picture.{Picture, inst, kind, absent, reads, writes}
 use Rattle.model.specs.Analyse.{Facts, Fact, analyse}
 use Rattle.model.specs.Move.{chain-places}
 use Rattle.inst.specs.Table.{rows}
+use Rattle.inst.specs.Record.{present}
+use Rattle.inst.specs.declared.access.Firsts.{Firsts}
+use Rattle.effects.specs.Origin.{num}
 use Rattle.effects.specs.declared.arms.Effect.{Effect}
 use Rattle.chains.specs.declared.chain.Chain.{Chain}
 use Rattle.chains.specs.Chain.{blocks-of, Sound}
@@ -32,13 +36,18 @@ pub record Forgot (R : ℕ) (before after : List ℕ) : Type 0 where
 
 -- ---- a position's words
 
-unfoldable pub words-of : ℕ → Effect → Bool → ℕ → List ℕ
-words-of g e s r = g ∷ e .class ∷ e .org ∷ pack (e .len) (e .layout) (e .creates) (e .barrier) s ∷ e .wrote ∷ e .from ∷ r ∷ []
+-- are there more registers than one written and two read?
+unfoldable pub more : Firsts → Bool
+more x = not (eqb (x .d1) absent) || not (eqb (x .r2) absent)
+
+unfoldable pub words-of : ℕ → Effect → Bool → Firsts → List ℕ
+words-of g e s x =
+    g ∷ e .class ∷ e .org ∷ pack (e .len) (e .layout) (e .creates) (e .barrier) s ∷ e .wrote ∷ e .from ∷ x .d0 ∷ x .r0 ∷ x .r1 ∷ num (more x) ∷ []
 
 -- these were written at position p, and nothing else
-pub record Put (before after : List ℕ) (p g : ℕ) (e : Effect) (s : Bool) (r : ℕ) : Type 0 where
+pub record Put (before after : List ℕ) (p g : ℕ) (e : Effect) (s : Bool) (x : Firsts) : Type 0 where
   pub size : length after ≡ length before
-  pub inside : (j : ℕ) → j < 7 → cell after p j ≡ getD (words-of g e s r) j 0
+  pub inside : (j : ℕ) → j < 10 → cell after p j ≡ getD (words-of g e s x) j 0
   pub others : (q j : ℕ) → (q ≡ p → ⊥) → j < 10 → cell after q j ≡ cell before q j
 
 -- ---- positions one after the other
@@ -49,10 +58,12 @@ pub record Good (recs ops : List ℕ) (R g : ℕ) : Type 0 where
   pub fits : Fits recs R g
   pub small : g < 32768
 
--- position p holds such a record, and the code of a Cat only if that is one
+-- position p holds such a record, and the code of a Cat only if that is one; where word 9 is 0, words 6 to 8 are all that it writes and reads
 pub record Holds (recs ops : List ℕ) (R : ℕ) (w : List ℕ) (p : ℕ) : Type 0 where
   pub good : Good recs ops R (cell w p 0)
   pub cat : cell w p 5 ≡ 4294967295 → row (kind (inst recs (cell w p 0))) .arm ≡ cat
+  pub defs : cell w p 9 ≡ 0 → writes (inst recs (cell w p 0)) ≡ present (cell w p 6)
+  pub reads : cell w p 9 ≡ 0 → reads ops (inst recs (cell w p 0)) ≡ present (cell w p 7) ++ present (cell w p 8)
 
 -- the records from one up to another
 abbrev pub Part : ℕ → ℕ → List ℕ

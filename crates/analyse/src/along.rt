@@ -1,12 +1,14 @@
 // The facts along a chain (01, "The legal set"), ten words a position: record, class, origin, flags, memory written, memory
-// read, register written, and three for the plan.
+// read, register written, the first two registers read, and 1 if it reads or writes more.
 use crate::judge::judge;
 use crate::marks::forget;
 use crate::marks::mark_record;
-use crate::marks::written;
 use chains::chain::Chain;
 use chains::places::part_of;
 use effects::arms::Effect;
+use inst::access::Firsts;
+use inst::access::scan;
+use inst::access::uses;
 use inst::record::form;
 use inst::record::kind;
 use inst::record::wide;
@@ -19,7 +21,7 @@ ghost use Rattle.inst.specs.Table.{rows};
 ghost use Rattle.inst.specs.Record.{Within};
 ghost use Rattle.effects.specs.Origin.{num};
 ghost use Rattle.analyse.specs.State.{pack, Safe};
-ghost use Rattle.analyse.specs.Step.{Put, Good, Part, Ran, RanPart, Ready, Analysed};
+ghost use Rattle.analyse.specs.Step.{more, Put, Good, Part, Ran, RanPart, Ready, Analysed};
 
 // May record g suspend?
 fn may_suspend(recs: &[u32], g: usize) -> bool
@@ -48,12 +50,20 @@ fn flags(e: Effect, stops: bool) -> u32
     a + 4 * b
 }
 
-// The words of position p: record g, its effect, whether it may suspend, and the register that it writes.
-fn put(w: &mut [u32], p: usize, g: u32, e: Effect, stops: bool, r: u32)
+// Are there more registers than one written and two read?
+fn more(x: Firsts) -> bool
+    ensures { λ b. ⌜ b ≡ more x ⌝ }
+{
+    (x.d1 != 4294967295) | (x.r2 != 4294967295)
+}
+
+// The words of position p: record g, its effect, whether it may suspend, and what it writes and reads.
+fn put(w: &mut [u32], p: usize, g: u32, e: Effect, stops: bool, x: Firsts)
     requires { ⌜ p * 10 + 10 ≤ length (now w) ⌝ }
-    ensures { λ _. ⌜ Put (now (w .entry)) (now (w .exit)) p g e stops r ⌝ }
+    ensures { λ _. ⌜ Put (now (w .entry)) (now (w .exit)) p g e stops x ⌝ }
 {
     let bits = flags(e, stops);
+    let rest = one(more(x));
     let b = p * 10;
     w[b] = g;
     w[b + 1] = e.class;
@@ -61,7 +71,10 @@ fn put(w: &mut [u32], p: usize, g: u32, e: Effect, stops: bool, r: u32)
     w[b + 3] = bits;
     w[b + 4] = e.wrote;
     w[b + 5] = e.from;
-    w[b + 6] = r;
+    w[b + 6] = x.d0;
+    w[b + 7] = x.r0;
+    w[b + 8] = x.r1;
+    w[b + 9] = rest;
 }
 
 fn short(g: usize) -> u32
@@ -73,7 +86,7 @@ fn short(g: usize) -> u32
 
 // Position p: record g.
 fn step(
-    t: &[u32; 101],
+    t: &[u32; 202],
     recs: &[u32],
     ops: &[u32],
     regs: &mut [u64],
@@ -85,16 +98,17 @@ fn step(
     requires { ⌜ (now t ≡ rows) × Safe count p (now regs) (now w) × Good (now recs) (now ops) count g × (p * 10 + 10 ≤ length (now w)) × (p + 1 < 1000) ⌝ }
     ensures { λ _. ⌜ Ran (now (recs .entry)) (now (ops .entry)) (now (regs .entry)) (now (w .entry)) (now (regs .exit)) (now (w .exit)) p count (Part g (g + 1)) ⌝ }
 {
-    let e = judge(t, recs, ops, regs, w, g, p, count);
+    let u = uses(t, recs, g);
+    let x = scan(ops, recs, g, u);
+    let e = judge(t, recs, regs, w, x, g, p, count);
     let stops = may_suspend(recs, g);
-    let r = written(t, recs, g);
-    put(w, wide(p), short(g), e, stops, r);
-    mark_record(t, recs, regs, g, wide(p));
+    put(w, wide(p), short(g), e, stops, x);
+    mark_record(recs, regs, x, g, u, wide(p));
 }
 
 // The positions from p on: the records from one up to another.
 fn analyse_part(
-    t: &[u32; 101],
+    t: &[u32; 202],
     recs: &[u32],
     ops: &[u32],
     regs: &mut [u64],
@@ -119,7 +133,7 @@ fn analyse_part(
 
 // The facts of chain c of so many blocks; n records, and `count` registers in use. The answer is the number of positions.
 pub fn analyse(
-    t: &[u32; 101],
+    t: &[u32; 202],
     recs: &[u32],
     ops: &[u32],
     regs: &mut [u64],

@@ -59,7 +59,7 @@ fn note(regs: &mut [u64], w: u32, p: u64)
 }
 
 // Record p and all that it writes.
-fn note_record(t: &[u32; 101], recs: &[u32], regs: &mut [u64], p: usize)
+fn note_record(t: &[u32; 202], recs: &[u32], regs: &mut [u64], p: usize)
     requires { ⌜ (now t ≡ rows) × (p < 32768) × Fits (now recs) (length (now regs)) p ⌝ }
     ensures { λ _. ⌜ Written (noted p) (inst (now (recs .entry)) p) (now (regs .entry)) (now (regs .exit)) ⌝ }
 {
@@ -83,7 +83,7 @@ fn clear(regs: &mut [u64])
 }
 
 // The only writer of each register among n records.
-fn find_soles(t: &[u32; 101], recs: &[u32], regs: &mut [u64], n: usize)
+fn find_soles(t: &[u32; 202], recs: &[u32], regs: &mut [u64], n: usize)
     requires { ⌜ (now t ≡ rows) × (n ≤ 32768) × ((p : ℕ) → p < n → Fits (now recs) (length (now regs)) p) ⌝ }
     ensures { λ _. ⌜ Soles (now (recs .entry)) n (length (now (regs .entry))) (now (regs .exit)) ⌝ }
 {
@@ -154,7 +154,7 @@ fn flags(recs: &[u32], v: u64) -> u64
 }
 
 // The facts on all registers, from n records.
-pub fn find_facts(t: &[u32; 101], recs: &[u32], regs: &mut [u64], n: usize)
+pub fn find_facts(t: &[u32; 202], recs: &[u32], regs: &mut [u64], n: usize)
     requires { ⌜ (now t ≡ rows) × (n ≤ 32768) × ((p : ℕ) → p < n → Fits (now recs) (length (now regs)) p) ⌝ }
     ensures { λ _. ⌜ Found (now (recs .entry)) n (length (now (regs .entry))) (now (regs .exit)) ⌝ }
 {

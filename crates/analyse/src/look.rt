@@ -1,7 +1,7 @@
 // What is known of a register at a position of a chain (01, "The legal set"; 000's `orgof` and `lenof`): from its last writer
 // in the chain, or else from the facts of before round 1. A register's word is 16 times its last writer's position and 1, or 0,
-// plus its flags. A position has ten words: record, class, origin, flags, memory written, memory read, register written, and
-// three for the plan.
+// plus its flags. A position has ten words: record, class, origin, flags, memory written, memory read, and the registers that
+// it writes and reads.
 use crate::facts::at;
 ghost use mathlib.Core.Path.{_≡_};
 ghost use mathlib.Core.Bool.{cond};
@@ -23,7 +23,7 @@ pub fn cell_at(w: &[u32], p: usize, j: usize) -> u32
 
 // Where a register with these flags points.
 fn flags_org(f: u64) -> u32
-    ensures { λ o. ⌜ (o < 10000) × ((k : Known) → f % 16 ≡ flags-of k → org-at o ≡ cond (k .ro) Ro (cond (k .frame) Frame Unknown)) ⌝ }
+    ensures { λ o. ⌜ (o < 2004) × ((k : Known) → f % 16 ≡ flags-of k → org-at o ≡ cond (k .ro) Ro (cond (k .frame) Frame Unknown)) ⌝ }
 {
     if f % 2 == 1 {
         return 1;
@@ -34,36 +34,32 @@ fn flags_org(f: u64) -> u32
     0
 }
 
-// Where register r points, or absent.
-pub fn origin(regs: &[u64], w: &[u32], r: u32, count: usize, n: usize) -> u32
-    requires { ⌜ Safe count n (now regs) (now w) × Reg? count r ⌝ }
-    ensures { λ o. ⌜ (o < 10000) × ((G : Facts) (past : List Fact) → length past ≡ n → State G past count (now (regs .entry)) (now (w .entry)) → org-at o ≡ org-reg G past r) ⌝ }
-{
-    if r == 4294967295 {
-        return 0;
-    }
-    let v = regs[at(r)];
-    if v < 16 {
-        return flags_org(v);
-    }
-    let d = (v / 16) as usize;
-    cell_at(w, d - 1, 2)
+// What is known of a register's value: where it points, and whether it is a length.
+pub struct Value {
+    pub org: u32,
+    pub len: bool,
 }
 
-// Is register r a length?
-pub fn is_length(regs: &[u64], w: &[u32], r: u32, count: usize, n: usize) -> bool
+// What is known of the value of register r, or absent.
+pub fn value_of(regs: &[u64], w: &[u32], r: u32, count: usize, n: usize) -> Value
     requires { ⌜ Safe count n (now regs) (now w) × Reg? count r ⌝ }
-    ensures { λ b. ⌜ ((G : Facts) (past : List Fact) → length past ≡ n → State G past count (now (regs .entry)) (now (w .entry)) → b ≡ len-reg G past r) ⌝ }
+    ensures { λ x. ⌜ (x .org < 2004) × ((G : Facts) (past : List Fact) → length past ≡ n → State G past count (now (regs .entry)) (now (w .entry)) → (org-at (x .org) ≡ org-reg G past r) × (x .len ≡ len-reg G past r)) ⌝ }
 {
     if r == 4294967295 {
-        return false;
+        return Value { org: 0, len: false };
     }
     let v = regs[at(r)];
     if v < 16 {
-        return v / 4 % 2 == 1;
+        return Value {
+            org: flags_org(v),
+            len: v / 4 % 2 == 1,
+        };
     }
     let d = (v / 16) as usize;
-    cell_at(w, d - 1, 3) % 2 == 1
+    Value {
+        org: cell_at(w, d - 1, 2),
+        len: cell_at(w, d - 1, 3) % 2 == 1,
+    }
 }
 
 // Is register r a constant above 0?

@@ -2,15 +2,14 @@
 // times the position and 1, or 0 for none. To go along a chain again, forget them, then mark position by position.
 use crate::facts::at;
 use crate::facts::long;
-use inst::access::uses;
+use inst::access::Firsts;
 use inst::access::write_at;
 ghost use mathlib.Core.Path.{_≡_};
 ghost use mathlib.Core.Logic.{_⊎_};
 ghost use Prim.Native.Nat.{_≤_, _<_};
 ghost use lib.ListN.{length, getD};
 ghost use Rattle.model.specs.Picture.{inst, absent, writes};
-ghost use Rattle.inst.specs.Table.{rows};
-ghost use Rattle.inst.specs.Record.{Known};
+ghost use Rattle.inst.specs.Record.{Used};
 ghost use Rattle.analyse.specs.Written.{put-in, Fits, Written};
 ghost use Rattle.analyse.specs.Step.{marked, Forgot};
 
@@ -37,33 +36,27 @@ fn mark(regs: &mut [u64], r: u32, p: u64)
     }
 }
 
-// Position p is record g: all that it writes.
-pub fn mark_record(t: &[u32; 101], recs: &[u32], regs: &mut [u64], g: usize, p: usize)
-    requires { ⌜ (now t ≡ rows) × (p < 1000) × Fits (now recs) (length (now regs)) g ⌝ }
+// Position p is record g: each slot that writes.
+fn mark_slots(recs: &[u32], regs: &mut [u64], g: usize, uses: u32, p: u64)
+    requires { ⌜ Used (now recs) g uses × (p < 1000) × Fits (now recs) (length (now regs)) g ⌝ }
     ensures { λ _. ⌜ Written (marked p) (inst (now (recs .entry)) g) (now (regs .entry)) (now (regs .exit)) ⌝ }
 {
-    let u = uses(t, recs, g);
-    let n = long(p);
     let mut s = 0usize;
     while s < 5 {
-        mark(regs, write_at(recs, g, u, s), n);
+        mark(regs, write_at(recs, g, uses, s), p);
         s += 1;
     }
 }
 
-// The first register that record g writes, or absent.
-pub fn written(t: &[u32; 101], recs: &[u32], g: usize) -> u32
-    requires { ⌜ (now t ≡ rows) × Known (now recs) g ⌝ }
-    ensures { λ r. ⌜ r ≡ getD (writes (inst (now (recs .entry)) g)) 0 absent ⌝ }
+// Position p is record g: all that it writes; x has the first two of that.
+pub fn mark_record(recs: &[u32], regs: &mut [u64], x: Firsts, g: usize, uses: u32, p: usize)
+    requires { ⌜ Used (now recs) g uses × (p < 1000) × Fits (now recs) (length (now regs)) g × (x .d0 ≡ getD (writes (inst (now recs) g)) 0 absent) × (x .d1 ≡ getD (writes (inst (now recs) g)) 1 absent) ⌝ }
+    ensures { λ _. ⌜ Written (marked p) (inst (now (recs .entry)) g) (now (regs .entry)) (now (regs .exit)) ⌝ }
 {
-    let u = uses(t, recs, g);
-    let mut s = 0usize;
-    while s < 5 {
-        let r = write_at(recs, g, u, s);
-        if r != 4294967295 {
-            return r;
-        }
-        s += 1;
+    let n = long(p);
+    if x.d1 == 4294967295 {
+        mark(regs, x.d0, n);
+        return;
     }
-    4294967295
+    mark_slots(recs, regs, g, uses, n);
 }

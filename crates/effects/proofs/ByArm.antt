@@ -25,7 +25,7 @@ pub wrote-one : (n : ℕ) → wrote-at (n + 1) ≡ some (org-at n)
 unfolding wrote-at
 wrote-one n = ap wrote-at (add-one n)
 
-pub from-one : (n : ℕ) (ps : List Org) → n < 10000 → from-at (n + 1) ps ≡ org-at n ∷ []
+pub from-one : (n : ℕ) (ps : List Org) → n < 2004 → from-at (n + 1) ps ≡ org-at n ∷ []
 unfolding from-at
 from-one n ps h = ap (λ (x : ℕ). from-at x ps) (add-one n) ∙ ap (λ (b : Bool). cond b ps (org-at n ∷ [])) (ne-eqb (suc n) 4294967295 (λ e. omega arith))
 
@@ -33,11 +33,11 @@ from-one n ps h = ap (λ (x : ℕ). from-at x ps) (add-one n) ∙ ap (λ (b : Bo
 abbrev At : Effect → ℕ → Input → Type 0
 At r a x = (i : Inst) (list : List Org) → form i ≡ x .form → getD i 8 0 ≡ x .list → small (whole i) ≡ x .small → does r (pieces (getD i 9 0) list) ≡ asked i a x list
 
-known : {r : Effect} {a n : ℕ} {x : Input} → a ≡ n → r .org < 10000 → r .wrote ≤ 10000 → (r .from ≤ 10000) ⊎ ((r .from ≡ 4294967295) × (arm-at n ≡ cat)) → At r n x → Right r a x
+known : {r : Effect} {a n : ℕ} {x : Input} → a ≡ n → r .org < 2004 → r .wrote ≤ 2004 → (r .from ≤ 2004) ⊎ ((r .from ≡ 4294967295) × (arm-at n ≡ cat)) → At r n x → Right r a x
 known {r} {a} {n} {x} e l w c h = record {
   near = l;
   wrote = w;
-  from = subst (λ (m : ℕ). (r .from ≤ 10000) ⊎ ((r .from ≡ 4294967295) × (arm-at m ≡ cat))) (sym e) c;
+  from = subst (λ (m : ℕ). (r .from ≤ 2004) ⊎ ((r .from ≡ 4294967295) × (arm-at m ≡ cat))) (sym e) c;
   right = λ i list f g s. h i list f g s ∙ ap (λ (m : ℕ). asked i m x list) (sym e);
 }
 
@@ -57,7 +57,7 @@ module _ (x : Input) (sm : Small x) where
   unfolding asked does three three-tests class-at effect-of wrote-at from-at org-at
   arm-1 e = known e (omega (arith, sm .first, sm .place)) (omega (arith, sm .first)) (inl (omega (arith, sm .first))) (λ i list f g8 s. refl)
 
-  pub arm-2 : {a : ℕ} → a ≡ 2 → (g : ℕ) → org-at g ≡ cond (eqb (x .form) 2 || eqb (x .form) 4) Ro (cond (eqb (x .form) 0) Frame Unknown) → g < 10000 → Right (effect-of 2 g false false false 0 false 0) a x
+  pub arm-2 : {a : ℕ} → a ≡ 2 → (g : ℕ) → org-at g ≡ cond (eqb (x .form) 2 || eqb (x .form) 4) Ro (cond (eqb (x .form) 0) Frame Unknown) → g < 2004 → Right (effect-of 2 g false false false 0 false 0) a x
   unfolding asked does three three-tests class-at effect-of wrote-at from-at org-at
   arm-2 e g eg ng = known e ng (omega (arith, sm .first)) (inl (omega (arith, sm .first))) (λ i list f g8 s. simp (f, eg))
 
@@ -65,7 +65,7 @@ module _ (x : Input) (sm : Small x) where
   unfolding asked does three three-tests class-at effect-of wrote-at from-at org-at
   arm-3 e = known e (omega (arith, sm .first, sm .place)) (omega (arith, sm .first)) (inl (omega (arith, sm .first))) (λ i list f g8 s. refl)
 
-  pub arm-4 : {a : ℕ} → a ≡ 4 → (g : ℕ) → org-at g ≡ cond (same-org (org-at (x .o1)) (org-at (x .o2))) (org-at (x .o1)) Unknown → g < 10000 → Right (effect-of 1 g (x .l1 && x .l2) false false 0 false 0) a x
+  pub arm-4 : {a : ℕ} → a ≡ 4 → (g : ℕ) → org-at g ≡ cond (same-org (org-at (x .o1)) (org-at (x .o2))) (org-at (x .o1)) Unknown → g < 2004 → Right (effect-of 1 g (x .l1 && x .l2) false false 0 false 0) a x
   unfolding asked does three three-tests class-at effect-of wrote-at from-at org-at
   arm-4 e g eg ng = known e ng (omega (arith, sm .first)) (inl (omega (arith, sm .first))) (λ i list f g8 s. simp (eg))
 
@@ -101,7 +101,7 @@ module _ (x : Input) (sm : Small x) where
   unfolding asked does three three-tests class-at effect-of wrote-at from-at org-at
   arm-10a e h0 = known e (omega (arith, sm .first, sm .place)) (omega (arith, sm .first)) (inl (omega (arith, sm .first))) (λ i list f g8 s. simp (f, h0))
 
-  pub arm-10b : {a : ℕ} → a ≡ 10 → (eqb (x .form) 4) ≡ false → (g : ℕ) (b : Bool) → org-at g ≡ inside (org-at (x .o0)) → g < 10000 → b ≡ sized (λ k. x .layout) (org-at (x .o0)) → Right (effect-of 1 g b false false 0 false (x .o0 + 1)) a x
+  pub arm-10b : {a : ℕ} → a ≡ 10 → (eqb (x .form) 4) ≡ false → (g : ℕ) (b : Bool) → org-at g ≡ inside (org-at (x .o0)) → g < 2004 → b ≡ sized (λ k. x .layout) (org-at (x .o0)) → Right (effect-of 1 g b false false 0 false (x .o0 + 1)) a x
   unfolding asked does three three-tests class-at effect-of wrote-at org-at
   arm-10b e h0 g b eg ng eb = known e ng (omega (arith, sm .first)) (inl (omega (arith, sm .first))) (λ i list f g8 s. simp (f, h0, from-one (x .o0) (pieces (getD i 9 0) list) (sm .first), eg, eb))
 

@@ -34,13 +34,13 @@ asked i a x list = arm i (x .p) (x .divisor) (three (x .o0) (x .o1) (x .o2)) (th
 
 -- r is what `analyse` says of an instruction of arm number a; its numbers are small, but for the code of a Cat
 pub record Right (r : Effect) (a : ℕ) (x : Input) : Type 0 where
-  pub near : r .org < 10000
-  pub wrote : r .wrote ≤ 10000
-  pub from : (r .from ≤ 10000) ⊎ ((r .from ≡ 4294967295) × (arm-at a ≡ cat))
+  pub near : r .org < 2004
+  pub wrote : r .wrote ≤ 2004
+  pub from : (r .from ≤ 2004) ⊎ ((r .from ≡ 4294967295) × (arm-at a ≡ cat))
   pub right : (i : Inst) (list : List Org) → form i ≡ x .form → getD i 8 0 ≡ x .list → small (whole i) ≡ x .small → does r (pieces (getD i 9 0) list) ≡ asked i a x list
 
 -- positions and origins are small
 pub record Small (x : Input) : Type 0 where
   pub place : x .p < 1000
-  pub first : x .o0 < 10000
-  pub second : x .o1 < 10000
+  pub first : x .o0 < 2004
+  pub second : x .o1 < 2004

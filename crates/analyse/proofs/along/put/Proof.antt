@@ -1,15 +1,23 @@
 -- `analyse::along::put` meets its contract. Assumes nothing.
+use mathlib.Core.Path.{ap, _∙_}
 use native.Mathlib.Omega.{arith}
 use lib.ListN.{length-set}
 use Prim.Native.Nat.{_*_}
 use denote.Ref.{now}
-use Rattle.analyse.proofs.Puts.{put-all, seven}
+use Rattle.effects.specs.Origin.{num}
+use Rattle.analyse.proofs.Puts.{put-all, ten}
 use borrow.Author.Needs.{needs}
 use Rattle.analyse.proofs.along.put.Statement.{statement}
 use Rattle.analyse.proofs.along.put.Tie as tie
 
 flags-requires : tie.Need-flags-requires
 flags-requires c κs = search needs
+
+more-requires : tie.Need-more-requires
+more-requires c κs = search needs
+
+one-requires : tie.Need-one-requires
+one-requires c κs = search needs
 
 mul-b : tie.Need-mul-b
 mul-b c = search needs
@@ -74,17 +82,46 @@ mul-w-7 c = search needs
 slice-write-w-7 : tie.Need-slice-write-w-7
 slice-write-w-7 c = simp length-set (omega arith)
 
+add-w-7 : tie.Need-add-w-7
+add-w-7 c = search needs
+
+mul-w-8 : tie.Need-mul-w-8
+mul-w-8 c = search needs
+
+slice-write-w-8 : tie.Need-slice-write-w-8
+slice-write-w-8 c = simp length-set (omega arith)
+
+add-w-8 : tie.Need-add-w-8
+add-w-8 c = search needs
+
+mul-w-9 : tie.Need-mul-w-9
+mul-w-9 c = search needs
+
+slice-write-w-9 : tie.Need-slice-write-w-9
+slice-write-w-9 c = simp length-set (omega arith)
+
+add-w-9 : tie.Need-add-w-9
+add-w-9 c = search needs
+
+mul-w-10 : tie.Need-mul-w-10
+mul-w-10 c = search needs
+
+slice-write-w-10 : tie.Need-slice-write-w-10
+slice-write-w-10 c = simp length-set (omega arith)
+
 same-length : tie.Need-same-length
-same-length c = search needs
+same-length c = simp length-set
 
 returns : tie.Need-returns
-returns c = let a = (c .before .before .args) in put-all _ _ _ _ _ _ _ (c .before .before .pre) (c .flags .ensures) (seven (now (a .w)) (a .p * 10) (a .g) (a .e .class) (a .e .org) (c .flags .result) (a .e .wrote) (a .e .from) (a .r))
+returns c = let a = (c .before .before .before .before .args) in put-all _ _ _ _ _ _ _ _ (c .before .before .before .before .pre) (c .before .before .flags .ensures) (c .one .ensures .0 ∙ ap num (c .before .more .ensures)) (ten (now (a .w)) (a .p * 10) (a .g) (a .e .class) (a .e .org) (c .before .before .flags .result) (a .e .wrote) (a .e .from) (a .x .d0) (a .x .r0) (a .x .r1) (c .one .result))
 
 pub put-spec : {M : Type 1} → statement M
 put-spec =
     tie.close
     (tie.spec
     flags-requires
+    more-requires
+    one-requires
     mul-b
     mul-w
     slice-write-w
@@ -106,5 +143,14 @@ put-spec =
     add-w-6
     mul-w-7
     slice-write-w-7
+    add-w-7
+    mul-w-8
+    slice-write-w-8
+    add-w-8
+    mul-w-9
+    slice-write-w-9
+    add-w-9
+    mul-w-10
+    slice-write-w-10
     same-length
     returns)

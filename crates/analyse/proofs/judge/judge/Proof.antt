@@ -27,7 +27,12 @@ placed-requires : tie.Need-placed-requires
 placed-requires c κs = search needs
 
 returns : tie.Need-returns
-returns c = (low-is _ (rw (c .before .before .before .before .arm .ensures, c .before .before .before .before .before .row .ensures, c .before .before .before .before .before .before .kind .ensures) at (c .before .before .arm2 .ensures)) (c .placed .ensures .1 (c .before .before .arm2 .ensures .wrote)), λ G past e s. judged G past _ _ _ _ _ (omega (arith, c .before .before .before .before .before .before .before .before .before .before .before .pre .1 .in-use, c .before .before .before .before .before .before .before .before .before .before .before .pre .1 .lent)) (c .before .before .before .before .before .before .before .before .before .before .before .pre .2 .each) (c .before .before .before .ask .ensures .1 G past e s) (rw (c .before .before .before .before .arm .ensures, c .before .before .before .before .before .row .ensures, c .before .before .before .before .before .before .kind .ensures) at (c .before .before .arm2 .ensures)) (rw (c .before .quiet .ensures, c .before .before .before .before .before .row .ensures, c .before .before .before .before .before .before .kind .ensures) at (c .placed .ensures .0)))
+returns c = (
+  low-is _ (rw (c .before .before .before .before .arm .ensures, c .before .before .before .before .before .row .ensures, c .before .before .before .before .before .before .kind .ensures) at (c .before .before .arm2 .ensures)) (c .placed .ensures .1 (c .before .before .arm2 .ensures .wrote)),
+  λ ops G past readable h e s.
+      judged G past _ _ _ _ _ (omega (arith, c .before .before .before .before .before .before .before .before .before .before .pre .1 .in-use, c .before .before .before .before .before .before .before .before .before .before .pre .1 .lent)) (readable .each) (c .before .before .before .ask .ensures .1 ops G past h e s) (rw (c .before .before .before .before .arm .ensures, c .before .before .before .before .before .row .ensures, c .before .before .before .before .before .before .kind .ensures) at (c .before .before .arm2 .ensures))
+      (rw (c .before .quiet .ensures, c .before .before .before .before .before .row .ensures, c .before .before .before .before .before .before .kind .ensures) at (c .placed .ensures .0)),
+)
 
 pub judge-spec : {M : Type 1} → statement M
 judge-spec =

@@ -1,62 +1,42 @@
 -- `analyse::marks::mark_record` meets its contract. Assumes nothing.
-use borrow.Author.Needs.{needs}
 use native.Mathlib.Omega.{arith}
-use Prim.Native.Nat.{_-_}
-use Rattle.analyse.specs.Step.{marked}
+use Rattle.model.specs.Picture.{inst}
+use Rattle.inst.proofs.Firsts.{all-written}
 use Rattle.analyse.proofs.Marking.{marked-twice}
-use Rattle.analyse.proofs.Writing.{Writing, writing-none, writing-more, writing-end}
+use Rattle.analyse.proofs.Writing.{writing-one, first-low}
+use borrow.Author.Needs.{needs}
 use Rattle.analyse.proofs.marks.mark_record.Statement.{statement}
 use Rattle.analyse.proofs.marks.mark_record.Tie as tie
 
-abbrev Inv-loop : tie.InvT-loop
-Inv-loop t recs regs₀ g p u n s₀ regs s = Writing (marked p) recs g s regs₀ regs
-
-abbrev μ-loop : tie.MeasureT-loop
-μ-loop t recs regs₀ g p u n s₀ regs s = 5 - s
-
-uses-requires : tie.Need-uses-requires Inv-loop μ-loop
-uses-requires c κs = (c .before .before .pre .0, c .before .before .pre .2 .whole)
-
-long-requires : tie.Need-long-requires Inv-loop μ-loop
+long-requires : tie.Need-long-requires
 long-requires c κs = search needs
 
-loop-holds : tie.Need-loop-holds Inv-loop μ-loop
-loop-holds c = writing-none _ _ _ _
+mark-requires : tie.Need-mark-requires
+mark-requires c κs = (omega (arith, c .before .before .before .long .ensures, c .before .before .before .before .before .before .pre .1), rw (c .before .before .before .before .before .before .pre .3) (first-low _ _ (c .before .before .before .before .before .before .pre .2)))
 
-write-at-requires : tie.Need-write-at-requires Inv-loop μ-loop
-write-at-requires c κs = (record { within = c .before .before .before .before .before .before .before .pre .2 .whole .within; uses = c .before .before .before .before .uses .ensures }, c .before .loop-test .taken)
+same-length : tie.Need-same-length
+same-length c = search needs
 
-mark-requires : tie.Need-mark-requires Inv-loop μ-loop
-mark-requires c κs = (omega (arith, c .before .before .before .before .long .ensures, c .before .before .before .before .before .before .before .before .pre .1), rw (c .write-at .ensures, c .before .before .before .loop .inv .size) (c .before .before .before .before .before .before .before .before .pre .2 .slot _ (c .before .before .loop-test .taken)))
+returns : tie.Need-returns
+returns c = let a = c .before .before .before .before .before .before .before .before .before .args in writing-one _ (marked-twice _) _ _ (all-written (inst (a .recs .now) (a .g)) (c .before .before .before .before .before .before .before .before .before .pre .3) (c .before .before .before .before .before .before .before .before .before .pre .4) (c .before .before .before .before .if1 .taken)) (rw (c .before .before .before .before .before .before .before .before .before .pre .3) (first-low _ _ (c .before .before .before .before .before .before .before .before .before .pre .2))) (c .before .before .before .before .before .before .before .before .before .pre .2 .room) (rw (c .before .before .before .before .before .before .long .ensures) at (c .before .before .mark .ensures))
 
-add-s : tie.Need-add-s Inv-loop μ-loop
-add-s c = search needs
+mark-slots-requires : tie.Need-mark-slots-requires
+mark-slots-requires c κs = search needs
 
-loop-less : tie.Need-loop-less Inv-loop μ-loop
-loop-less c = search needs
+same-length-2 : tie.Need-same-length-2
+same-length-2 c = search needs
 
-loop-again : tie.Need-loop-again Inv-loop μ-loop
-loop-again c = writing-more _ (marked-twice _) _ _ _ _ _ (c .before .before .before .before .before .loop-test .taken) (c .before .before .before .before .before .before .before .before .before .before .before .pre .2) (c .before .before .before .before .before .before .loop .inv) _ (c .before .before .before .write-at .ensures) (rw (c .before .before .before .before .before .before .before .long .ensures) at (c .before .before .mark .ensures))
-
-same-length : tie.Need-same-length Inv-loop μ-loop
-same-length c = c .before .loop .inv .size
-
-returns : tie.Need-returns Inv-loop μ-loop
-returns c = writing-end (c .before .before .before .before .before .before .pre .2 .whole .within) (c .before .loop .inv) (c .loop-test .left)
+returns-2 : tie.Need-returns-2
+returns-2 c = rw (c .before .before .before .before .before .before .long .ensures) at (c .before .before .mark-slots .ensures)
 
 pub mark-record-spec : {M : Type 1} → statement M
 mark-record-spec =
     tie.close
     (tie.spec
-    Inv-loop
-    μ-loop
-    uses-requires
     long-requires
-    loop-holds
-    write-at-requires
     mark-requires
-    add-s
-    loop-less
-    loop-again
     same-length
-    returns)
+    returns
+    mark-slots-requires
+    same-length-2
+    returns-2)

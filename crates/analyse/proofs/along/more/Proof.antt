@@ -1,0 +1,12 @@
+-- `analyse::along::more` meets its contract. Assumes nothing.
+use mathlib.Core.Path.{refl}
+use Rattle.analyse.specs.Step.{more}
+use Rattle.analyse.proofs.along.more.Statement.{statement}
+use Rattle.analyse.proofs.along.more.Tie as tie
+
+returns : tie.Need-returns
+unfolding more
+returns c = refl
+
+pub more-spec : {M : Type 1} → statement M
+more-spec = tie.close (tie.spec returns)
