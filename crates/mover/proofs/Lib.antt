@@ -1,5 +1,8 @@
 pub mod Cells
 pub mod Moves
+pub mod Segments
+pub mod Sinking
+pub mod Raising
 pub mod Maps
 pub mod Lengths
 pub mod Laying

@@ -45,6 +45,16 @@ earlier chain lo m t n = range 0 t ++ (gone chain lo m ++ (range t (lo - t) ++ (
 abbrev pub moved : List ℕ → ℕ → ℕ → ℕ → ℕ → List ℕ
 moved chain lo m t n = cond (ltb lo t) (later chain lo m t n) (earlier chain lo m t n)
 
+-- ---- the words after: the marked ones of the m records from lo on go before word e, which is behind them, or in front
+
+unfoldable pub sunk : ℕ → List ℕ → ℕ → ℕ → ℕ → List ℕ → List ℕ
+sunk w chain lo m e xs =
+    take (w * lo) xs ++ (cells w xs (kept chain lo m) ++ (take (e - w * (lo + m)) (drop (w * (lo + m)) xs) ++ (cells w xs (gone chain lo m) ++ drop e xs)))
+
+unfoldable pub raised : ℕ → List ℕ → ℕ → ℕ → ℕ → List ℕ → List ℕ
+raised w chain lo m e xs =
+    take e xs ++ (cells w xs (gone chain lo m) ++ (take (w * lo - e) (drop e xs) ++ (cells w xs (kept chain lo m) ++ drop (w * (lo + m)) xs)))
+
 -- ---- what the functions ensure
 
 -- a record with this mark at word e was looked at, s words having been saved before; r words more are saved
@@ -64,12 +74,12 @@ pub record Gathered (w : ℕ) (chain : List ℕ) (lo : ℕ) (xs ys saved saved�
   pub back : drop (w * (lo + p)) ys ≡ drop (w * (lo + p)) xs
   pub saved-is : take s saved′ ≡ cells w xs (gone chain lo p)
 
--- what is asked: m records from lo on, one of them t or one past the last, and room to save
-pub record Ask (w lo m t : ℕ) (chain saved xs : List ℕ) : Type 0 where
+-- what is asked: m records from lo on, a word e or the end, and room to save k records
+pub record Ask (w lo m k e : ℕ) (chain saved xs : List ℕ) : Type 0 where
   pub inside : w * (lo + m) ≤ length xs
   pub few : lo + m ≤ length xs
-  pub target : w * t ≤ length xs
-  pub room : w * m ≤ length saved
+  pub target : e ≤ length xs
+  pub room : w * k ≤ length saved
   pub words : 10 * m ≤ length chain
 
 -- all words of a slice moved, if there are any: vias are one each or none at all

@@ -3,3 +3,4 @@
 pub mod bounds;
 pub mod gather;
 pub mod moving;
+pub mod segment;

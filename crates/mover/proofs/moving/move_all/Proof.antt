@@ -13,7 +13,7 @@ move-words-requires-2 : tie.Need-move-words-requires-2
 move-words-requires-2 c κs = search needs
 
 move-vias-requires : tie.Need-move-vias-requires
-move-vias-requires c κs = let q = c .before .before .before .before .before .before .before .before .before .before .before .before .before .pre in (λ f. (omega (arith, q .inside, q .each-or-none f), omega (arith, q .target, q .each-or-none f)), (q .few, q .words, q .apart))
+move-vias-requires c κs = let q = c .before .before .before .before .before .before .before .before .before .before .before .before .before .pre in (λ f. (omega (arith, q .inside, q .each-or-none f), omega (arith, q .target, q .each-or-none f)), (q .words, q .apart))
 
 same-length : tie.Need-same-length
 same-length c = search needs

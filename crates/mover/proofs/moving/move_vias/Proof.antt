@@ -13,7 +13,7 @@ returns c = λ n h. let a = c .before .before .before .args in none-moved 1 (a .
 
 move-words-requires : tie.Need-move-words-requires
 move-words-requires c κs = let a = c .before .before .before .before .args in let q = c .before .before .before .before .pre .0 (c .before .if1 .left) in let r = c .before .before .before .before .pre .1 in
-    ((omega (arith, q .0, one-mul (a .lo + a .m)), q .0, omega (arith, q .1), omega (arith, r .0), r .1), r .2)
+    ((omega (arith, q .0, one-mul (a .lo + a .m)), q .0, omega (arith, q .1), omega arith, r .0), r .1)
 
 same-length : tie.Need-same-length
 same-length c = search needs
