@@ -3,7 +3,7 @@
 use mathlib.Core.Path.{_≡_}
 use mathlib.Core.Logic.{_⊎_}
 use mathlib.Core.Bool.{Bool, cond}
-use mathlib.Core.List.{List, [], _∷_, map}
+use mathlib.Core.List.{List, [], _∷_, _++_, map}
 use mathlib.Core.Option.{Option, none, some}
 use Prim.Native.Nat.{ℕ, zero, suc, _+_, _*_, _/_, _%_, _≤_, _<_}
 use lib.Dec.{eqb}
@@ -16,7 +16,7 @@ use Rattle.model.specs.Analyse.{Facts, Known, Fact, last-writer, known-of, anal
 use Rattle.model.specs.Legal.{fact-at}
 use Rattle.effects.specs.Origin.{org-at, class-at, wrote-at, from-at, num}
 use Rattle.inst.specs.Record as I
-use Rattle.inst.specs.Record.{Within, Listed, read-at, write-at}
+use Rattle.inst.specs.Record.{Within, Listed, present, read-at, write-at}
 
 -- a position and 1, or 0 for none
 unfoldable pub place-at : ℕ → Option ℕ
@@ -114,9 +114,14 @@ pub record Safe (recs ops w : List ℕ) (n R : ℕ) : Type 0 where
   pub few : n ≤ 800
   pub room : 10 * n ≤ length w
   pub good : (p : ℕ) → p < n → Good recs ops R (cell w p 0)
-  pub org : (p : ℕ) → p < n → cell w p 2 < 10000
-  pub wrote : (p : ℕ) → p < n → cell w p 4 ≤ 10000
-  pub from : (p : ℕ) → p < n → (cell w p 5 ≤ 10000) ⊎ (cell w p 5 ≡ 4294967295)
+  pub org : (p : ℕ) → p < n → cell w p 2 < 2004
+  pub wrote : (p : ℕ) → p < n → cell w p 4 ≤ 2004
+  pub from : (p : ℕ) → p < n → (cell w p 5 ≤ 2004) ⊎ (cell w p 5 ≡ 4294967295)
+
+-- where word 9 of a position is 0, words 6 to 8 are all that it writes and reads
+pub record Brief (recs ops w : List ℕ) (n : ℕ) : Type 0 where
+  pub defs : (p : ℕ) → p < n → cell w p 9 ≡ 0 → defs-of recs w p ≡ present (cell w p 6)
+  pub reads : (p : ℕ) → p < n → cell w p 9 ≡ 0 → reads-of recs ops w p ≡ present (cell w p 7) ++ present (cell w p 8)
 
 -- the words stand for the chain's facts
 pub record Told (recs ops w regs : List ℕ) (n : ℕ) (run : List Fact) : Type 0 where

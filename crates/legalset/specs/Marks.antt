@@ -40,9 +40,14 @@ pub record Passed (ok : (ℕ → Bool) → ℕ → Bool) (a b : ℕ) (S U : List
   pub count : members U + r ≡ members S
   pub left : r ≡ 0 → (U ≡ S) × ((p : ℕ) → a ≤ p → p < b → T (in-set S p) → T (ok (in-set S) p))
 
--- dropping from S until nothing breaks the rule came to U
-pub record Settled (ok : (ℕ → Bool) → ℕ → Bool) (m : ℕ) (S U : List ℕ) : Type 0 where
+-- all positions in the set are among the first m
+pub record Inside (m : ℕ) (S : List ℕ) : Type 0 where
+  pub low : (p : ℕ) → T (in-set S p) → p < m
+
+-- dropping from S until nothing breaks the rule, or fewer than `least` are left, came to U, of r members
+pub record Settled (ok : (ℕ → Bool) → ℕ → Bool) (m least : ℕ) (S U : List ℕ) (r : ℕ) : Type 0 where
   pub size : length U ≡ length S
   pub within : in-set U ⊑ in-set S
   pub holds : (L : ℕ → Bool) → L ⊑ in-set S → ((p : ℕ) → T (L p) → T (ok L p)) → L ⊑ in-set U
-  pub keeps : (p : ℕ) → p < m → T (in-set U p) → T (ok (in-set U) p)
+  pub count : r ≡ members U
+  pub keeps : least ≤ r → (p : ℕ) → p < m → T (in-set U p) → T (ok (in-set U) p)

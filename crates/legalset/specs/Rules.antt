@@ -1,6 +1,6 @@
 -- 01, "The legal set", as the passes test it: the six rules for a member p over a chain of n positions. L₀ is the set that the
 -- summary was made of, L the set now. Assumes nothing.
-use mathlib.Core.Bool.{Bool, true, false, not, _&&_, _||_}
+use mathlib.Core.Bool.{Bool, true, false, not, _&&_, _||_, cond}
 use mathlib.Core.List.{List, [], _∷_}
 use Prim.Native.Nat.{ℕ, zero, suc, _+_, _-_, _/_, _%_}
 use lib.Dec.{eqb, leb, ltb}
@@ -79,6 +79,10 @@ module _ (C : View) (n : ℕ) where
   -- rules 1 and 3 to 6, which ask of the set
   unfoldable pub cycle-ok : (ℕ → Bool) → ℕ → Bool
   cycle-ok L p = forward-ok L L p && backward-ok (C .defs) (C .reads) n L p
+
+  -- what a pass tests: forward rules 3 to 6, backward rule 1
+  unfoldable pub pass-ok : Bool → (ℕ → Bool) → ℕ → Bool
+  pass-ok ahead L p = cond ahead (forward-ok L L p) (backward-ok (C .defs) (C .reads) n L p)
 
   -- the positions to begin with: movable, among the first m, and by rule 2
   unfoldable pub begins : (ℕ → Bool) → ℕ → (ℕ → Bool) → ℕ → Bool

@@ -23,6 +23,7 @@ use Rattle.legalset.proofs.Pending.{pending-ext}
 use Rattle.plan.specs.Passes.{stamp, Stamped, Awaits, Awaited, Backed}
 use Rattle.plan.proofs.Places.{Placed, all-placed, writes-placed}
 use Rattle.plan.proofs.Summing.{zero-at}
+use Rattle.plan.proofs.Forwarding.{skip-sift, skip-lost}
 
 -- ---- what a record writes is not awaited
 
@@ -49,20 +50,15 @@ awaited-one rd L q {st} {st′} e t s = record { size = s .size; each = λ r h. 
     is true y = omega arith
     is false y = refl
 
-pub backed : (recs ops w : List ℕ) {q g x r : ℕ} {st mid st′ marks marks′ : List ℕ} {b : Bool} → x ≡ cell w q 0 → g ≡ x → b ≡ all (λ x. eqb (getD st x 0) 0) (writes (inst recs g))
-    → (marks′ ≡ sifted marks q b) × (r ≡ lost marks q b) → Stamped (writes (inst recs g)) 1 0 st mid → Awaited (λ x. reads ops (inst recs g)) (in-set marks′) q mid st′
-    → Backed (defs-of recs w) (reads-of recs ops w) q st marks st′ marks′ r
+pub backed : {defs rd : ℕ → List ℕ} {q r : ℕ} {st mid st′ marks marks′ : List ℕ} {b : Bool} → b ≡ (not (in-set marks q) || all (λ x. eqb (getD st x 0) 0) (defs q))
+    → (marks′ ≡ sifted marks q b) × (r ≡ lost marks q b) → Stamped (defs q) 1 0 st mid → Awaited rd (in-set marks′) q mid st′ → Backed defs rd q st marks st′ marks′ r
 unfolding stamp
-backed recs ops w {q} {g} {x} {r} {st} {mid} {st′} {marks} {marks′} {b} e f t d s a =
-    let k = f ∙ e in
-    let z : b ≡ all (λ x. eqb (getD st x 0) 0) (writes (inst recs (cell w q 0))) = t ∙ ap (λ (y : ℕ). all (λ x. eqb (getD st x 0) 0) (writes (inst recs y))) k in
-    record {
-      size = a .size ∙ s .size;
-      each = λ v h. a .each v (subst (λ (m : ℕ). v < m) (sym (s .size)) h) ∙ ap (cond (not (in-set marks′ q) && mem v (reads ops (inst recs g))) 1) (s .each v h ∙ is (mem v (writes (inst recs g))) (getD st v 0))
-          ∙ ap (λ (y : ℕ). cond (not (in-set marks′ q) && mem v (reads ops (inst recs y))) 1 (cond (mem v (writes (inst recs y))) 0 (getD st v 0))) k;
-      sifts = d .0 ∙ ap (sifted marks q) z;
-      loses = d .1 ∙ ap (lost marks q) z;
-    }
+backed {defs} {rd} {q} {st = st} {marks = marks} {marks′ = marks′} t d s a = record {
+  size = a .size ∙ s .size;
+  each = λ v h. a .each v (subst (λ (m : ℕ). v < m) (sym (s .size)) h) ∙ ap (cond (not (in-set marks′ q) && mem v (rd q)) 1) (s .each v h ∙ is (mem v (defs q)) (getD st v 0));
+  sifts = d .0 ∙ skip-sift marks q _ t;
+  loses = d .1 ∙ skip-lost marks q _ t;
+}
   where
     is : (c : Bool) (y : ℕ) → cond c (y % 1 + 0) y ≡ cond c 0 y
     is true y = omega arith

@@ -1,4 +1,4 @@
--- The marks that are left are the greatest legal set, with as many members. Assumes nothing.
+-- The marks that are left are the greatest legal set, with as many members, or that has fewer than the least. Assumes nothing.
 use mathlib.Core.Path.{_≡_, refl, sym, ap, _∙_, subst}
 use mathlib.Core.Bool.{Bool, true, false, not, _&&_}
 use mathlib.Core.List.{List, [], _∷_}
@@ -7,19 +7,20 @@ use native.Mathlib.Omega.{arith}
 use mathlib.Core.Logic.{_⊎_, ⊎-elim}
 use borrow.Author.Tests.{le-ltb}
 use borrow.Rule.Slice.PartMut.{putMid, same-len-mid, mid-len, take-put, drop-put}
-use lib.Dec.{eqb, ltb}
+use lib.Dec.{T, eqb, ltb, ltb→lt}
 use lib.ListN.{getD, length, take, drop}
 use Rattle.words.specs.Lists.{hit, all, member, count}
 use Rattle.words.specs.Bits.{is-in}
-use Rattle.words.proofs.Bools.{lt?}
+use Rattle.words.proofs.Bools.{lt?, left, T-true}
 use Rattle.model.specs.Analyse.{Fact, Class, movable}
 use Rattle.model.specs.Legal.{fact-at, greatest}
 use Rattle.effects.specs.Origin.{class-at}
 use Rattle.legalset.specs.Chain.{cell, view, defs-of, writer, Safe, Stands, Told}
-use Rattle.legalset.specs.Marks.{in-set, members, Settled}
+use Rattle.legalset.specs.Marks.{in-set, members, Inside, Settled, _⊑_}
 use Rattle.legalset.specs.Rules.{result-ok, cycle-ok, begins}
-use Rattle.legalset.proofs.Settling.{settled-greatest}
+use Rattle.legalset.proofs.Settling.{greatest-left, settled-greatest}
 use Rattle.plan.specs.Passes.{Row, Greatest, Set-up, Lent, Around}
+use Rattle.plan.proofs.Marking.{none-marked}
 use Rattle.plan.proofs.Backing.{all-on, writes-low}
 use Rattle.plan.proofs.Summing.{safe-len}
 
@@ -35,17 +36,21 @@ none-left [] h = refl
 none-left (true ∷ G) h = absurd (mathlib.Core.Bool.true≢false (sym (h 0)))
 none-left (false ∷ G) h = none-left G (λ p. h (suc p))
 
-none-marked : (S : List ℕ) → ((p : ℕ) → in-set S p ≡ false) → members S ≡ 0
-unfolding members in-set
-none-marked [] h = refl
-none-marked (x ∷ S) h = let a = ap hit (h 0) in let b = none-marked S (λ p. h (suc p)) in omega arith
-
 as-many : (S : List ℕ) (G : List Bool) → ((p : ℕ) → in-set S p ≡ member G p) → members S ≡ count G
 unfolding members in-set
 as-many [] G h = none-left G h
 as-many (x ∷ S) [] h = none-marked (x ∷ S) h
 as-many (x ∷ S) (true ∷ G) h = let a = ap hit (h 0) in let b = as-many S G (λ p. h (suc p)) in omega arith
 as-many (x ∷ S) (false ∷ G) h = let a = ap hit (h 0) in let b = as-many S G (λ p. h (suc p)) in omega arith
+
+-- at least as many marks as members, if all of these are marked
+at-most : (S : List ℕ) (G : List Bool) → member G ⊑ in-set S → count G ≤ members S
+unfolding members in-set
+at-most S [] h = omega arith
+at-most [] (true ∷ G) h = absurd (h 0 tt)
+at-most [] (false ∷ G) h = at-most [] G (λ p. h (suc p))
+at-most (x ∷ S) (true ∷ G) h = let a = ap hit (T-true (not (eqb x 0)) (h 0 tt)) in let b = at-most S G (λ p. h (suc p)) in omega arith
+at-most (x ∷ S) (false ∷ G) h = let b = at-most S G (λ p. h (suc p)) in omega arith
 
 -- the row in place of the needs
 pub results-row : (regs : List ℕ) {recs ops w bits : List ℕ} {o n p : ℕ} {needed : ℕ → Bool} → Safe recs ops w n (length regs) → p < n → Row bits o (length regs) needed
@@ -63,21 +68,41 @@ begins-row regs {recs} {ops} {w} {bits} {o} {m} {n} {needed} s h k p = ⊎-elim
     (λ (l : m ≤ p). ap (λ (b : Bool). b && eqb (cell w p 1) 1 && result-ok (view recs ops w regs) n (λ r. is-in bits (64 * o + r)) p) (le-ltb p m l)
     ∙ sym (ap (λ (b : Bool). b && eqb (cell w p 1) 1 && result-ok (view recs ops w regs) n needed p) (le-ltb p m l))) (lt? p m)
 
-module _ {recs ops w : List ℕ} (regs bits : List ℕ) (o : ℕ) {m n : ℕ} {S U : List ℕ} (s : Safe recs ops w n (length regs)) (h : m ≤ n)
-    (b : (p : ℕ) → in-set S p ≡ begins (view recs ops w regs) n (λ q. eqb (cell w q 1) 1) m (λ r. is-in bits (64 * o + r)) p) (d : Settled (cycle-ok (view recs ops w regs) n) m S U) (e : length S ≡ 800) where
-  chosen-set : (run : List Fact) (needed : ℕ → Bool) → Told recs ops w regs n run → Row bits o (length regs) needed → (p : ℕ) → in-set U p ≡ member (greatest run needed m) p
-  chosen-set run needed t k =
-      settled-greatest (view recs ops w regs) n run (t .stands) needed (λ q. eqb (cell w q 1) 1) m h (λ p l. ap movable (t .class p l) ∙ movable-is (cell w p 1)) (λ p. b p ∙ begins-row regs s h k p) d
+-- the marks to begin with are among the first m
+pub begins-inside : (recs ops w regs bits : List ℕ) (o m n : ℕ) {S : List ℕ} → ((p : ℕ) → in-set S p ≡ begins (view recs ops w regs) n (λ q. eqb (cell w q 1) 1) m (λ r. is-in bits (64 * o + r)) p) → Inside m S
+unfolding begins
+begins-inside recs ops w regs bits o m n b = record {
+  low = λ p t. let k = result-ok (view recs ops w regs) n (λ r. is-in bits (64 * o + r)) p in
+      ltb→lt p m (left (ltb p m) (eqb (cell w p 1) 1) (left (ltb p m && eqb (cell w p 1) 1) k (subst T (b p) t)));
+}
 
-  pub chosen : {r : ℕ} → r ≡ members U → Greatest recs ops w regs bits o U m n r
-  chosen f = record { size = d .size ∙ e; set = chosen-set; count = λ run needed t k. f ∙ as-many U (greatest run needed m) (chosen-set run needed t k) }
+module _ {recs ops w : List ℕ} (regs bits : List ℕ) (o : ℕ) {m n least r : ℕ} {S U : List ℕ} (s : Safe recs ops w n (length regs)) (h : m ≤ n)
+    (b : (p : ℕ) → in-set S p ≡ begins (view recs ops w regs) n (λ q. eqb (cell w q 1) 1) m (λ r. is-in bits (64 * o + r)) p)
+    (d : Settled (cycle-ok (view recs ops w regs) n) m least S U r) (e : length S ≡ 800) where
+  module _ (run : List Fact) (needed : ℕ → Bool) (t : Told recs ops w regs n run) (k : Row bits o (length regs) needed) where
+    chosen-class : (p : ℕ) → p < n → movable (fact-at run p .does .class) ≡ eqb (cell w p 1) 1
+    chosen-class p l = ap movable (t .class p l) ∙ movable-is (cell w p 1)
+
+    chosen-left : member (greatest run needed m) ⊑ in-set U
+    chosen-left = greatest-left (view recs ops w regs) n run (t .stands) needed (λ q. eqb (cell w q 1) 1) m h chosen-class (λ p. b p ∙ begins-row regs s h k p) d
+
+    chosen-set : least ≤ r → (p : ℕ) → in-set U p ≡ member (greatest run needed m) p
+    chosen-set = settled-greatest (view recs ops w regs) n run (t .stands) needed (λ q. eqb (cell w q 1) 1) m h chosen-class (λ p. b p ∙ begins-row regs s h k p) d
+
+  pub chosen : Greatest recs ops w regs bits o U m n least r
+  chosen = record {
+    size = d .size ∙ e;
+    set = λ l run needed t k. chosen-set run needed t k l;
+    few = λ l run needed t k. let x = d .count in let y = at-most U (greatest run needed m) (chosen-left run needed t k) in omega arith;
+    count = λ l run needed t k. d .count ∙ as-many U (greatest run needed m) (chosen-set run needed t k l);
+  }
 
 -- ---- the words of registers, lent as a part of the work
 
 pub lent-part : {recs ops w regs work marks marks′ : List ℕ} {o s m n : ℕ} → Lent recs ops w regs work marks o s m n → length marks′ ≡ 800 → Set-up recs ops w regs (take (s + length regs - s) (drop s work)) marks′ m n
 lent-part {regs = regs} {work = work} {s = s} h e =
     let z : length (take (s + length regs - s) (drop s work)) ≡ length regs = mid-len s (s + length regs) work (h .room) ∙ omega arith in
-    record { safe = safe-len (h .safe) z; regs-size = sym z; in-x = h .in-x; marks-size = e }
+    record { safe = safe-len (h .safe) z; brief = h .brief; regs-size = sym z; in-x = h .in-x; marks-size = e }
 
 pub around : {recs ops w regs work marks : List ℕ} (ys : List ℕ) {o s m n : ℕ} → Lent recs ops w regs work marks o s m n → length ys ≡ length (take (s + length regs - s) (drop s work))
     → Around s (length regs) work (putMid s (s + length regs - s) work ys)

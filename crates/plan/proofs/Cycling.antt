@@ -1,13 +1,17 @@
--- A cycle, and cycles until one drops nothing. Assumes nothing.
+-- Passes in turn until both drop nothing. Assumes nothing.
 use mathlib.Core.Path.{_≡_, refl, sym, ap, _∙_, subst}
-use mathlib.Core.Bool.{Bool}
+use mathlib.Core.Bool.{Bool, true, false, not, _&&_}
 use mathlib.Core.List.{List, [], _∷_}
-use Prim.Native.Nat.{ℕ, zero, suc, _+_, _≤_, _<_}
+use Prim.Native.Nat.{ℕ, _+_, _-_, _*_, _≤_, _<_}
 use native.Mathlib.Omega.{arith}
+use borrow.Author.Tests.{eqb-true, eqb-false}
+use lib.Dec.{eqb, leb}
 use lib.ListN.{length, replicate, length-replicate}
+use Rattle.words.specs.Lists.{hit}
+use Rattle.words.proofs.Bools.{clash}
 use Rattle.legalset.specs.Chain.{view, Safe}
-use Rattle.legalset.specs.Marks.{in-set, members, Passed, Settled}
-use Rattle.legalset.specs.Rules.{cycle-ok}
+use Rattle.legalset.specs.Marks.{members, Passed, Settled}
+use Rattle.legalset.specs.Rules.{cycle-ok, pass-ok}
 use Rattle.legalset.proofs.Settling.{Settling, settling-start, settling-more, settled}
 use Rattle.plan.specs.Passes.{Set-up}
 use Rattle.plan.proofs.Summing.{safe-len}
@@ -17,20 +21,35 @@ cleared st e = let l = ap length e ∙ length-replicate (length st) 0 in (l, e �
 
 -- with the words of registers and marks as they are later
 pub set-up-on : {recs ops w regs st st′ marks marks′ : List ℕ} {m n : ℕ} → Set-up recs ops w regs st marks m n → length st′ ≡ length st → length marks′ ≡ length marks → Set-up recs ops w regs st′ marks′ m n
-set-up-on s a b = record { safe = safe-len (s .safe) a; regs-size = s .regs-size ∙ sym a; in-x = s .in-x; marks-size = b ∙ s .marks-size }
+set-up-on s a b = record { safe = safe-len (s .safe) a; brief = s .brief; regs-size = s .regs-size ∙ sym a; in-x = s .in-x; marks-size = b ∙ s .marks-size }
 
--- S and st came to marks and st in cycles the last of which dropped r
-pub record Cycling (recs ops w regs : List ℕ) (m n : ℕ) (st₀ S st marks : List ℕ) (r : ℕ) : Type 0 where
+-- S and st came to marks and st in passes, of which `ahead` comes next; r members are left
+pub record Cycling (recs ops w regs : List ℕ) (m n : ℕ) (st₀ S st marks : List ℕ) (ahead quiet done : Bool) (r : ℕ) : Type 0 where
   pub size : length st ≡ length st₀
-  pub settling : Settling (cycle-ok (view recs ops w regs) n) m S marks r
+  pub settling : Settling (view recs ops w regs) n m S marks ahead quiet done r
 
-pub cycling-none : (recs ops w regs : List ℕ) (m n : ℕ) (st S : List ℕ) → Cycling recs ops w regs m n st S st S 1
-cycling-none recs ops w regs m n st S = record { size = refl; settling = settling-start (cycle-ok (view recs ops w regs) n) m S }
+pub cycling-none : (recs ops w regs : List ℕ) (m n : ℕ) (st S : List ℕ) {r : ℕ} → r ≡ members S → Cycling recs ops w regs m n st S st S true false false r
+cycling-none recs ops w regs m n st S e = record { size = refl; settling = settling-start (view recs ops w regs) n m e }
 
-pub cycling-more : {recs ops w regs : List ℕ} {m n : ℕ} {st₀ S st marks st′ marks′ : List ℕ} {r d : ℕ} → Cycling recs ops w regs m n st₀ S st marks r
-    → Passed (cycle-ok (view recs ops w regs) n) 0 m marks marks′ d × (length st′ ≡ length st) → Cycling recs ops w regs m n st₀ S st′ marks′ d
-cycling-more {recs} {ops} {w} {regs} {m} {n} i k = record { size = k .1 ∙ i .size; settling = settling-more (cycle-ok (view recs ops w regs) n) m (i .settling) (k .0) }
+pub cycling-more : {recs ops w regs : List ℕ} {m n : ℕ} {st₀ S st marks st′ marks′ : List ℕ} {a q z : Bool} {r d : ℕ} → Cycling recs ops w regs m n st₀ S st marks a q z r
+    → Passed (pass-ok (view recs ops w regs) n a) 0 m marks marks′ d × (length st′ ≡ length st) → Cycling recs ops w regs m n st₀ S st′ marks′ (not a) (eqb d 0) (q && eqb d 0) (r - d)
+cycling-more {recs} {ops} {w} {regs} {m} {n} i k = record { size = k .1 ∙ i .size; settling = settling-more (view recs ops w regs) n m (i .settling) (k .0) }
 
-pub cycling-end : {recs ops w regs : List ℕ} {m n : ℕ} {st₀ S st marks : List ℕ} {r : ℕ} → Cycling recs ops w regs m n st₀ S st marks r → r ≡ 0
-    → Settled (cycle-ok (view recs ops w regs) n) m S marks × (length st ≡ length st₀)
-cycling-end {recs} {ops} {w} {regs} {m} {n} i e = (settled (cycle-ok (view recs ops w regs) n) m (i .settling) e, i .size)
+pub cycling-end : {recs ops w regs : List ℕ} {m n : ℕ} {st₀ S st marks : List ℕ} {a q z : Bool} {r least : ℕ} → Cycling recs ops w regs m n st₀ S st marks a q z r → (not z && leb least r) ≡ false
+    → Settled (cycle-ok (view recs ops w regs) n) m least S marks r × (length st ≡ length st₀)
+cycling-end {recs} {ops} {w} {regs} {m} {n} i e = (settled (view recs ops w regs) n m (i .settling) e, i .size)
+
+-- ---- each pass drops something or is one more that does not
+
+abbrev pub to-go : List ℕ → Bool → Bool → ℕ
+to-go marks quiet done = 3 * members marks + hit (not quiet) + hit (not done)
+
+pub to-go-less : (U W : List ℕ) (q z x : Bool) (d : ℕ) → members W + d ≡ members U → (not z && x) ≡ true → to-go W (eqb d 0) (q && eqb d 0) < to-go U q z
+to-go-less U W q true x d e f = clash f refl
+to-go-less U W q false x d e f = go (eqb d 0) refl q
+  where
+    go : (y : Bool) → eqb d 0 ≡ y → (q : Bool) → to-go W y (q && y) < to-go U q false
+    go true h true = let k = eqb-true d 0 h in omega arith
+    go true h false = let k = eqb-true d 0 h in omega arith
+    go false h true = let k = eqb-false d 0 h in omega arith
+    go false h false = let k = eqb-false d 0 h in omega arith

@@ -54,22 +54,22 @@ module _ (w regs ops : List ℕ) (i : Inst) where
       ap (λ (l : List ℕ). cond (eqb (suc o) 4294967295) l (o ∷ []))
       (map-on (λ r. reg-org w regs r (d r)) (λ r. reg-org w regs r (e r)) (picked (getD i 9 0) (list-of ops i)) (λ r j. ap (reg-org w regs r) (h r (in-picked (getD i 9 0) (list-of ops i) r j))))
 
-  reg-low : (n : ℕ) → ((p : ℕ) → p < n → cell w p 2 < 10000) → (r d : ℕ) → d ≤ n → reg-org w regs r d < 10001
+  reg-low : (n : ℕ) → ((p : ℕ) → p < n → cell w p 2 < 2004) → (r d : ℕ) → d ≤ n → reg-org w regs r d < 2005
   unfolding reg-org
   reg-low n h r zero l = go (eqb (getD regs r 0 % 2) 1) (eqb (getD regs r 0 / 2 % 2) 1)
     where
-      go : (a b : Bool) → cond a 1 (cond b 3 0) < 10001
+      go : (a b : Bool) → cond a 1 (cond b 3 0) < 2005
       go true b = omega arith
       go false true = omega arith
       go false false = omega arith
   reg-low n h r (suc d) l = let z = h d (omega arith) in omega arith
 
-  origins-low : (n : ℕ) → ((p : ℕ) → p < n → cell w p 2 < 10000) → (d : ℕ → ℕ) → ((r : ℕ) → d r ≤ n) → (x : ℕ) → (x ≤ 10000) ⊎ (x ≡ 4294967295) → (o : ℕ) → In o (origins w regs ops i d x) → o < 10001
+  origins-low : (n : ℕ) → ((p : ℕ) → p < n → cell w p 2 < 2004) → (d : ℕ → ℕ) → ((r : ℕ) → d r ≤ n) → (x : ℕ) → (x ≤ 2004) ⊎ (x ≡ 4294967295) → (o : ℕ) → In o (origins w regs ops i d x) → o < 2005
   unfolding origins
   origins-low n h d l zero b o j = absurd j
   origins-low n h d l (suc x) b o j = go (eqb (suc x) 4294967295) refl j
     where
-      go : (c : Bool) → eqb (suc x) 4294967295 ≡ c → In o (cond c (map (λ r. reg-org w regs r (d r)) (picked (getD i 9 0) (list-of ops i))) (x ∷ [])) → o < 10001
+      go : (c : Bool) → eqb (suc x) 4294967295 ≡ c → In o (cond c (map (λ r. reg-org w regs r (d r)) (picked (getD i 9 0) (list-of ops i))) (x ∷ [])) → o < 2005
       go true e j = let z = in-map (λ r. reg-org w regs r (d r)) o (picked (getD i 9 0) (list-of ops i)) j in let y = z .2 in let u = reg-low n h (z .0) (d (z .0)) (l (z .0)) in omega arith
       go false e (inl q) = ⊎-elim (λ u. omega arith) (λ u. absurd (borrow.Author.Tests.eqb-false (suc x) 4294967295 e u)) b
       go false e (inr j) = absurd j
@@ -211,13 +211,6 @@ module _ (S : List ℕ) (p : ℕ) (ok : Bool) {b : Bool} (e : b ≡ (not (in-set
   unfolding lost
   skip-lost = ap hit skip
 
-pub forwarded : {recs ops w regs lasts st marks st′ marks′ : List ℕ} {sus bar p g x r : ℕ} {b : Bool} → x ≡ cell w p 0 → g ≡ x
-    → b ≡ (not (in-set marks p) || stay-test recs ops w regs st lasts marks g sus bar p) → Stamped (writes (inst recs g)) 1024 (1024 * (p + 1)) st st′
-    → (marks′ ≡ sifted marks p b) × (r ≡ lost marks p b) → Forwarded recs ops w regs lasts sus bar p st marks st′ marks′ r
-forwarded {recs} {ops} {w} {regs} {lasts} {st} {marks} {st′} {marks′} {sus} {bar} {p} {g} {x} {r} {b} e f t k d =
-    let z : b ≡ (not (in-set marks p) || stay-test recs ops w regs st lasts marks (cell w p 0) sus bar p) = t ∙ ap (λ (y : ℕ). not (in-set marks p) || stay-test recs ops w regs st lasts marks y sus bar p) (f ∙ e) in
-    record {
-      stamped = subst (λ (y : ℕ). Stamped (writes (inst recs y)) 1024 (1024 * (p + 1)) st st′) (f ∙ e) k;
-      sifts = d .0 ∙ skip-sift marks p _ z;
-      loses = d .1 ∙ skip-lost marks p _ z;
-    }
+pub forwarded : {recs ops w regs lasts st marks st′ marks′ : List ℕ} {sus bar p r : ℕ} {b : Bool} → b ≡ (not (in-set marks p) || stay-test recs ops w regs st lasts marks (cell w p 0) sus bar p)
+    → Stamped (writes (inst recs (cell w p 0))) 1024 (1024 * (p + 1)) st st′ → (marks′ ≡ sifted marks p b) × (r ≡ lost marks p b) → Forwarded recs ops w regs lasts sus bar p st marks st′ marks′ r
+forwarded {marks = marks} {p = p} t k d = record { stamped = k; sifts = d .0 ∙ skip-sift marks p _ t; loses = d .1 ∙ skip-lost marks p _ t }

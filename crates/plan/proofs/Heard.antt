@@ -1,9 +1,9 @@
 -- The words that `analyse` leaves of a chain are what the plan asks: they stand for the chain's facts, and their numbers are small.
 -- Assumes nothing.
-use mathlib.Core.Path.{_≡_, refl, sym, ap, _∙_, subst}
+use mathlib.Core.Path.{_≡_, refl, sym, ap, ap₂, _∙_, subst}
 use mathlib.Core.Logic.{_⊎_, inl, inr, ⊎-elim}
 use mathlib.Core.Bool.{Bool, cond}
-use mathlib.Core.List.{List, [], _∷_, map}
+use mathlib.Core.List.{List, [], _∷_, _++_, map}
 use Prim.Native.Nat.{ℕ, zero, suc, _+_, _*_, _/_, _%_, _≤_, _<_}
 use native.Mathlib.Nat.{zero-add}
 use native.Mathlib.Omega.{arith}
@@ -15,7 +15,7 @@ use Rattle.words.specs.Lists.{In, upto}
 use Rattle.words.proofs.Bools.{eq?, lt?}
 use Rattle.words.proofs.Members.{in-left, in-right, in-concat, map-in, in-range, in-getD, in-index}
 use Rattle.model.specs.Kinds.{row, cat, reading}
-use Rattle.model.specs.Picture.{Picture, Inst, inst, absent, kind, roles, slots, chosen, reads, list-of}
+use Rattle.model.specs.Picture.{Picture, Inst, inst, absent, kind, roles, slots, chosen, reads, writes, list-of}
 use Rattle.model.specs.Analyse.{Facts, Known, unknown, Fact, Org, analyse, known-of, last-writer}
 use Rattle.model.specs.Legal.{fact-at}
 use Rattle.model.specs.Move.{chain-places}
@@ -33,7 +33,7 @@ use Rattle.analyse.specs.Step.{Analysed}
 use Rattle.analyse.proofs.Run.{length-run}
 use Rattle.analyse.proofs.Looked.{ro-bit, frame-bit}
 use Rattle.analyse.proofs.Accepted as accepted
-use Rattle.legalset.specs.Chain.{cell, place-at, writer, defs-of, view, Good, Safe, Told, Says, Heard}
+use Rattle.legalset.specs.Chain.{cell, place-at, writer, defs-of, view, Good, Safe, Brief, Told, Says, Heard}
 use Rattle.legalset.proofs.Lasting.{writer-is}
 use Rattle.legalset.proofs.Telling as telling
 use Rattle.plan.specs.Passes.{Ended}
@@ -108,9 +108,17 @@ module _ {recs ops regs w bounds : List ℕ} {c : Chain} {R n : ℕ} {regs′ w�
     few = a .short;
     room = let h = a .safe .room in omega arith;
     good = λ p h. subst (Good recs ops R) (sym (cell-is w′ p 0)) (good-of (a .holds p h .good));
-    org = λ p h. subst (λ (x : ℕ). x < 10000) (sym (cell-is w′ p 2)) (a .safe .near p h .org);
-    wrote = λ p h. subst (λ (x : ℕ). x ≤ 10000) (sym (cell-is w′ p 4)) (a .safe .near p h .wrote);
-    from = λ p h. subst (λ (x : ℕ). (x ≤ 10000) ⊎ (x ≡ 4294967295)) (sym (cell-is w′ p 5)) (a .safe .near p h .from);
+    org = λ p h. subst (λ (x : ℕ). x < 2004) (sym (cell-is w′ p 2)) (a .safe .near p h .org);
+    wrote = λ p h. subst (λ (x : ℕ). x ≤ 2004) (sym (cell-is w′ p 4)) (a .safe .near p h .wrote);
+    from = λ p h. subst (λ (x : ℕ). (x ≤ 2004) ⊎ (x ≡ 4294967295)) (sym (cell-is w′ p 5)) (a .safe .near p h .from);
+  }
+
+  pub brief : Brief recs ops w′ n
+  brief = record {
+    defs = λ p h z. ap (λ (x : ℕ). writes (inst recs x)) (cell-is w′ p 0) ∙ a .holds p h .defs (sym (cell-is w′ p 9) ∙ z) ∙ ap present (sym (cell-is w′ p 6));
+    reads = λ p h z.
+        ap (λ (x : ℕ). reads ops (inst recs x)) (cell-is w′ p 0) ∙ a .holds p h .reads (sym (cell-is w′ p 9) ∙ z)
+        ∙ ap₂ (λ (x y : ℕ). present x ++ present y) (sym (cell-is w′ p 7)) (sym (cell-is w′ p 8));
   }
 
   module _ (P : Picture) (eb : P .bounds ≡ bounds) (G : Facts) (seen : Seen G R regs) (copy : List ℕ) (ec : copy ≡ take R regs′) where

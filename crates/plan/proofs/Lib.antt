@@ -10,6 +10,7 @@ pub mod Cycling
 pub mod Starting
 pub mod Chosen
 pub mod Six
+pub mod Wording
 pub mod Using
 pub mod LastUse
 pub mod Heard

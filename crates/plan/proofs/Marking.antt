@@ -8,9 +8,10 @@ use native.Mathlib.Omega.{arith}
 use borrow.Author.Tests.{eq-eqb, ne-eqb}
 use lib.Dec.{eqb}
 use lib.ListN.{getD, length, set, take}
-use lib.Seq.{take-suc, take-all}
+use lib.Seq.{take-suc}
 use Rattle.words.specs.Lists.{hit}
-use Rattle.legalset.specs.Marks.{in-set, members, sifted, lost}
+use Rattle.words.proofs.Bools.{true-T, not-true-is-false}
+use Rattle.legalset.specs.Marks.{in-set, members, sifted, lost, Inside}
 
 pub past-marks : (S : List ℕ) (p : ℕ) → length S ≤ p → false ≡ in-set S p
 unfolding in-set
@@ -63,8 +64,20 @@ pub members-next : (S : List ℕ) (p : ℕ) {n d : ℕ} → p < length S → n �
 members-next S p {n} {d} h e f =
     let z = ap members (ap (λ (k : ℕ). take k S) (add-one p) ∙ take-suc S p 0 h) ∙ members-append (take p S) (getD S p 0 ∷ []) in omega arith
 
-pub members-all : (S : List ℕ) (p : ℕ) {n : ℕ} → length S ≤ p → n ≡ members (take p S) → n ≡ members S
-members-all S p h e = e ∙ ap members (take-all p S h)
+pub none-marked : (S : List ℕ) → ((p : ℕ) → in-set S p ≡ false) → members S ≡ 0
+unfolding members in-set
+none-marked [] h = refl
+none-marked (x ∷ S) h = let a = ap hit (h 0) in let b = none-marked S (λ p. h (suc p)) in omega arith
+
+-- no mark stands behind the first m
+members-first : (m : ℕ) (S : List ℕ) → ((p : ℕ) → m ≤ p → in-set S p ≡ false) → members (take m S) ≡ members S
+unfolding members in-set
+members-first zero S h = sym (none-marked S (λ p. h p (omega arith)))
+members-first (suc m) [] h = refl
+members-first (suc m) (x ∷ S) h = ap (λ (k : ℕ). hit (not (eqb x 0)) + k) (members-first m S (λ p l. h (suc p) (omega arith)))
+
+pub members-inside : (S : List ℕ) (p : ℕ) {m n : ℕ} → Inside m S → m ≤ p → n ≡ members (take p S) → n ≡ members S
+members-inside S p h a e = e ∙ members-first p S (λ q l. not-true-is-false (in-set S q) (λ t. let z = h .low q (true-T (in-set S q) t) in omega arith))
 
 members-low : (S : List ℕ) → members S ≤ length S
 unfolding members

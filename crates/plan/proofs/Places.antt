@@ -53,7 +53,7 @@ present-in : (x : ℕ) → (x ≡ absent → ⊥) → In x (present x)
 unfolding present
 present-in x n = subst (λ (b : Bool). In x (cond b [] (x ∷ []))) (sym (ne-eqb x absent n)) (inl refl)
 
-made : (g : ℕ → ℕ) (K : ℕ) → Placed (concat (map (λ s. present (g s)) (upto K))) g K
+pub made : (g : ℕ → ℕ) (K : ℕ) → Placed (concat (map (λ s. present (g s)) (upto K))) g K
 made g K = record {
   to = λ r i. let z = concat-in r (map (λ s. present (g s)) (upto K)) i in let y = in-map (λ s. present (g s)) (z .0) (upto K) (z .2) in
       let h = range-in (y .0) 0 K (y .1) .1 in (y .0, omega arith, sym (in-present r (g (y .0)) (subst (In r) (y .2) (z .1)) .0));

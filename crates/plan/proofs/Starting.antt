@@ -8,7 +8,7 @@ use native.Mathlib.Omega.{arith}
 use borrow.Author.Tests.{eq-eqb, ne-eqb, lt-ltb, le-ltb}
 use borrow.Author.Count.{below-more}
 use lib.Dec.{eqb, ltb}
-use lib.ListN.{getD, length, set, length-set}
+use lib.ListN.{getD, length, set, replicate, length-set, length-replicate}
 use lib.Seq.{getD-set-same, getD-set-other}
 use Rattle.words.specs.Lists.{In, upto, all, hit}
 use Rattle.words.specs.Bits.{is-in}
@@ -20,7 +20,7 @@ use Rattle.legalset.specs.Marks.{in-set}
 use Rattle.legalset.specs.Rules.{result-ok, begins}
 use Rattle.plan.specs.Passes.{result-test, begin-test, Ended}
 use Rattle.plan.proofs.Places.{all-placed, writes-placed}
-use Rattle.plan.proofs.Marking.{past-marks}
+use Rattle.plan.proofs.Summing.{zeros}
 use Rattle.plan.proofs.Backing.{all-on, writes-low}
 
 module _ (regs bits : List ℕ) (o p r : ℕ) where
@@ -36,20 +36,14 @@ module _ (regs bits : List ℕ) (o p r : ℕ) where
 pub writes-tested : {recs : List ℕ} {R g : ℕ} (f : ℕ → Bool) → Fits recs R g → all (λ k. eqb (write-at (inst recs g) k) absent || f (write-at (inst recs g) k)) (upto 5) ≡ all f (writes (inst recs g))
 writes-tested {recs} {R} {g} f h = sym (all-placed (writes-placed recs g (h .within)) f)
 
-module _ (recs w regs bits : List ℕ) (o m p : ℕ) where
-  pub begin-past : m ≤ p → false ≡ begin-test recs w regs bits o m p
+module _ (recs w regs bits : List ℕ) (o p : ℕ) {x : ℕ} (e : x ≡ cell w p 1) where
+  pub begin-fixed : (x ≡ 1 → ⊥) → false ≡ begin-test recs w regs bits o p
   unfolding begin-test
-  begin-past h = sym (ap (λ (b : Bool). b && eqb (cell w p 1) 1 && all (result-test regs bits o p) (defs-of recs w p)) (le-ltb p m h))
+  begin-fixed n = sym (ap (λ (b : Bool). b && all (result-test regs bits o p) (defs-of recs w p)) (ne-eqb (cell w p 1) 1 (λ q. n (e ∙ q))))
 
-  pub begin-fixed : {x : ℕ} → p < m → x ≡ cell w p 1 → (x ≡ 1 → ⊥) → false ≡ begin-test recs w regs bits o m p
+  pub begin-may : {b : Bool} → x ≡ 1 → b ≡ all (result-test regs bits o p) (defs-of recs w p) → b ≡ begin-test recs w regs bits o p
   unfolding begin-test
-  begin-fixed h e n = sym (ap₂ (λ (a b : Bool). a && b && all (result-test regs bits o p) (defs-of recs w p)) (lt-ltb p m h) (ne-eqb (cell w p 1) 1 (λ q. n (e ∙ q))))
-
-  pub begin-may : {x g y : ℕ} {b : Bool} → p < m → x ≡ cell w p 1 → x ≡ 1 → y ≡ cell w p 0 → g ≡ y → b ≡ all (result-test regs bits o p) (writes (inst recs g)) → b ≡ begin-test recs w regs bits o m p
-  unfolding begin-test
-  begin-may h e n f k t =
-      t ∙ ap (λ (j : ℕ). all (result-test regs bits o p) (writes (inst recs j))) (k ∙ f)
-      ∙ sym (ap₂ (λ (a b : Bool). a && b && all (result-test regs bits o p) (defs-of recs w p)) (lt-ltb p m h) (eq-eqb (cell w p 1) 1 (sym e ∙ n)))
+  begin-may n t = t ∙ sym (ap (λ (b : Bool). b && all (result-test regs bits o p) (defs-of recs w p)) (eq-eqb (cell w p 1) 1 (sym e ∙ n)))
 
 pub results-are : (bits : List ℕ) (o : ℕ) {recs ops w regs : List ℕ} {n p : ℕ} → Safe recs ops w n (length regs) → p < n → Ended recs w n regs
     → all (result-test regs bits o p) (defs-of recs w p) ≡ result-ok (view recs ops w regs) n (λ r. is-in bits (64 * o + r)) p
@@ -58,39 +52,45 @@ results-are bits o {recs} {ops} {w} {regs} {n} {p} s h d =
     all-on (result-test regs bits o p) (λ r. not (is-in bits (64 * o + r) && eqb (writer (defs-of recs w) r n) (p + 1))) (defs-of recs w p)
     (λ r i. ap (λ (y : ℕ). not (is-in bits (64 * o + r) && eqb y (p + 1))) (d .each r (writes-low recs (length regs) (cell w p 0) (s .good p h .fits) r i)))
 
-begins-is : (bits : List ℕ) (o : ℕ) {recs ops w regs : List ℕ} {m n : ℕ} → Safe recs ops w n (length regs) → m ≤ n → Ended recs w n regs → (p : ℕ)
-    → begin-test recs w regs bits o m p ≡ begins (view recs ops w regs) n (λ q. eqb (cell w q 1) 1) m (λ r. is-in bits (64 * o + r)) p
-unfolding begin-test begins
-begins-is bits o {recs} {ops} {w} {regs} {m} {n} s h d p = ⊎-elim
-    (λ (l : p < m). ap (λ (b : Bool). ltb p m && eqb (cell w p 1) 1 && b) (results-are bits o s (omega arith) d))
-    (λ (l : m ≤ p). ap (λ (b : Bool). b && eqb (cell w p 1) 1 && all (result-test regs bits o p) (defs-of recs w p)) (le-ltb p m l)
-    ∙ sym (ap (λ (b : Bool). b && eqb (cell w p 1) 1 && result-ok (view recs ops w regs) n (λ r. is-in bits (64 * o + r)) p) (le-ltb p m l))) (lt? p m)
+module _ (bits : List ℕ) (o : ℕ) {recs ops w regs : List ℕ} {m n : ℕ} (s : Safe recs ops w n (length regs)) (h : m ≤ n) (d : Ended recs w n regs) (p : ℕ) where
+  begins-in : p < m → begin-test recs w regs bits o p ≡ begins (view recs ops w regs) n (λ q. eqb (cell w q 1) 1) m (λ r. is-in bits (64 * o + r)) p
+  unfolding begin-test begins
+  begins-in l =
+      ap (λ (b : Bool). eqb (cell w p 1) 1 && b) (results-are bits o s (omega arith) d)
+      ∙ sym (ap (λ (b : Bool). b && eqb (cell w p 1) 1 && result-ok (view recs ops w regs) n (λ r. is-in bits (64 * o + r)) p) (lt-ltb p m l))
+
+  begins-past : m ≤ p → false ≡ begins (view recs ops w regs) n (λ q. eqb (cell w q 1) 1) m (λ r. is-in bits (64 * o + r)) p
+  unfolding begins
+  begins-past l = sym (ap (λ (b : Bool). b && eqb (cell w p 1) 1 && result-ok (view recs ops w regs) n (λ r. is-in bits (64 * o + r)) p) (le-ltb p m l))
 
 -- ---- the marks
 
+-- those before p are set, the others 0
 pub record Starting (f : ℕ → Bool) (p : ℕ) (marks : List ℕ) : Type 0 where
   pub size : length marks ≡ 800
   pub each : (q : ℕ) → q < p → getD marks q 0 ≡ hit (f q)
+  pub rest : (q : ℕ) → p ≤ q → getD marks q 0 ≡ 0
 
-pub starting-none : (f : ℕ → Bool) (marks : List ℕ) → length marks ≡ 800 → Starting f 0 marks
-starting-none f marks e = record { size = e; each = λ q h. absurd (omega arith) }
+pub starting-none : (f : ℕ → Bool) {marks : List ℕ} → marks ≡ replicate 800 0 → Starting f 0 marks
+starting-none f e = record { size = ap length e ∙ length-replicate {A = ℕ} 800 0; each = λ q h. absurd (omega arith); rest = λ q h. ap (λ (l : List ℕ). getD l q 0) e ∙ zeros 800 q }
 
 pub starting-more : {f : ℕ → Bool} {p x : ℕ} {b : Bool} {marks : List ℕ} → Starting f p marks → p < 800 → b ≡ f p → x ≡ hit b → Starting f (p + 1) (set marks p x)
 starting-more {f} {p} {x} {b} {marks} i h e k = record {
   size = length-set marks p x ∙ i .size;
   each = λ q l. ⊎-elim (λ (y : q ≡ p). let s = i .size in ap (λ (z : ℕ). getD (set marks p x) z 0) y ∙ getD-set-same marks p x 0 (omega arith) ∙ k ∙ ap hit (e ∙ ap f (sym y)))
       (λ (y : q ≡ p → ⊥). getD-set-other marks p q x 0 y ∙ i .each q (omega arith)) (eq? q p);
+  rest = λ q l. getD-set-other marks p q x 0 (λ y. omega arith) ∙ i .rest q (omega arith);
 }
 
-pub starting-end : (bits : List ℕ) (o : ℕ) {recs ops w regs : List ℕ} {m n p : ℕ} {marks : List ℕ} → Safe recs ops w n (length regs) → m ≤ n → Ended recs w n regs → Starting (begin-test recs w regs bits o m) p marks → 800 ≤ p
+pub starting-end : (bits : List ℕ) (o : ℕ) {recs ops w regs : List ℕ} {m n p : ℕ} {marks : List ℕ} → Safe recs ops w n (length regs) → m ≤ n → Ended recs w n regs → Starting (begin-test recs w regs bits o) p marks → p ≤ m → m ≤ p
     → (length marks ≡ 800) × ((q : ℕ) → in-set marks q ≡ begins (view recs ops w regs) n (λ q. eqb (cell w q 1) 1) m (λ r. is-in bits (64 * o + r)) q)
 unfolding in-set
-starting-end bits o {recs} {ops} {w} {regs} {m} {n} {p} {marks} s h d i l = (i .size, λ q. one q (lt? q 800) ∙ begins-is bits o s h d q)
+starting-end bits o {recs} {ops} {w} {regs} {m} {n} {p} {marks} s h d i k l = (i .size, λ q. one q (lt? q m))
   where
     is : (b : Bool) → not (eqb (hit b) 0) ≡ b
     is true = refl
     is false = refl
 
-    one : (q : ℕ) → (q < 800) ⊎ (800 ≤ q) → in-set marks q ≡ begin-test recs w regs bits o m q
-    one q (inl k) = ap (λ (x : ℕ). not (eqb x 0)) (i .each q (omega arith)) ∙ is (begin-test recs w regs bits o m q)
-    one q (inr k) = let f = s .few in let z = i .size in sym (past-marks marks q (omega arith)) ∙ begin-past recs w regs bits o m q (omega arith)
+    one : (q : ℕ) → (q < m) ⊎ (m ≤ q) → in-set marks q ≡ begins (view recs ops w regs) n (λ q. eqb (cell w q 1) 1) m (λ r. is-in bits (64 * o + r)) q
+    one q (inl u) = ap (λ (x : ℕ). not (eqb x 0)) (i .each q (omega arith)) ∙ is (begin-test recs w regs bits o q) ∙ begins-in bits o s h d q u
+    one q (inr u) = ap (λ (x : ℕ). not (eqb x 0)) (i .rest q (omega arith)) ∙ begins-past bits o s h d q u

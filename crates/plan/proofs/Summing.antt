@@ -23,8 +23,11 @@ use Rattle.plan.specs.Passes.{stamp, Stamped, Beside, Stamps, Writes, Ke
 
 -- ---- the record of a position
 
+pub good-of : {recs ops : List ℕ} {R g x y : ℕ} → Good recs ops R y → x ≡ y → g ≡ x → Good recs ops R g
+good-of {recs} {ops} {R} k e f = subst (λ (j : ℕ). Good recs ops R j) (sym (f ∙ e)) k
+
 pub good-at : {recs ops w : List ℕ} {n R q g x : ℕ} → Safe recs ops w n R → q < n → x ≡ cell w q 0 → g ≡ x → Good recs ops R g
-good-at {recs} {ops} {w} {n} {R} {q} s h e f = subst (λ (y : ℕ). Good recs ops R y) (sym (f ∙ e)) (s .good q h)
+good-at {q = q} s h e f = good-of (s .good q h) e f
 
 pub used-at : {recs ops : List ℕ} {R g u : ℕ} → Good recs ops R g → u ≡ uses-of (inst recs g) → Used recs g u
 used-at k e = record { within = k .known .within; uses = e }
@@ -40,18 +43,16 @@ whole-stamp v h = record { some = omega arith; small = omega arith; twice = λ x
 pub kept-none : (defs : ℕ → List ℕ) (L : ℕ → Bool) (q : ℕ) (st : List ℕ) {b : Bool} → b ≡ L q → b ≡ true → Kept-stamped defs L q st st
 kept-none defs L q st e t = record { size = refl; each = λ r h. sym (ap (λ (x : Bool). cond (not x && mem r (defs q)) (q + 1) (getD st r 0)) (sym e ∙ t)) }
 
-module _ (recs w : List ℕ) (L : ℕ → Bool) {q g x : ℕ} {before after : List ℕ} {b : Bool} where
-  pub kept-one : b ≡ L q → b ≡ false → x ≡ cell w q 0 → g ≡ x → Stamped (writes (inst recs g)) 1 (q + 1) before after → Kept-stamped (defs-of recs w) L q before after
-  unfolding stamp
-  kept-one e t f k s = record {
-    size = s .size;
-    each = λ r h. s .each r h ∙ is (mem r (writes (inst recs g))) (getD before r 0) ∙ ap (λ (y : Bool). cond (not y && mem r (writes (inst recs g))) (q + 1) (getD before r 0)) (sym t ∙ e)
-        ∙ ap (λ (y : ℕ). cond (not (L q) && mem r (writes (inst recs y))) (q + 1) (getD before r 0)) (k ∙ f);
-  }
-    where
-      is : (c : Bool) (y : ℕ) → stamp 1 (q + 1) c y ≡ cond c (q + 1) y
-      is true y = omega arith
-      is false y = refl
+pub kept-one : (defs : ℕ → List ℕ) (L : ℕ → Bool) {q : ℕ} {before after : List ℕ} {b : Bool} → b ≡ L q → b ≡ false → Stamped (defs q) 1 (q + 1) before after → Kept-stamped defs L q before after
+unfolding stamp
+kept-one defs L {q} {before} e t s = record {
+  size = s .size;
+  each = λ r h. s .each r h ∙ is (mem r (defs q)) (getD before r 0) ∙ ap (λ (y : Bool). cond (not y && mem r (defs q)) (q + 1) (getD before r 0)) (sym t ∙ e);
+}
+  where
+    is : (c : Bool) (y : ℕ) → stamp 1 (q + 1) c y ≡ cond c (q + 1) y
+    is true y = omega arith
+    is false y = refl
 
 -- the last kept writers among the first q
 pub record Summing (defs : ℕ → List ℕ) (L : ℕ → Bool) (q : ℕ) (before st : List ℕ) : Type 0 where
@@ -96,14 +97,14 @@ unfolding wrote-in
 noted-yes b o q ls e t f g = ap (λ (i : ℕ). set ls i (q + 1)) (g ∙ f) ∙ sym (ap (λ (x : Bool). cond x ls (set ls o (q + 1))) (sym e ∙ t))
 
 pub record Noting (wrote : ℕ → ℕ) (L : ℕ → Bool) (q : ℕ) (ls : List ℕ) : Type 0 where
-  pub size : length ls ≡ 10002
-  pub each : (o : ℕ) → o < 10002 → getD ls o 0 ≡ last-kept L (λ k. eqb (wrote k) o) q
+  pub size : length ls ≡ 2006
+  pub each : (o : ℕ) → o < 2006 → getD ls o 0 ≡ last-kept L (λ k. eqb (wrote k) o) q
 
-pub noting-none : (wrote : ℕ → ℕ) (L : ℕ → Bool) (ls : List ℕ) → length ls ≡ 10002 → ((o : ℕ) → getD ls o 0 ≡ 0) → Noting wrote L 0 ls
+pub noting-none : (wrote : ℕ → ℕ) (L : ℕ → Bool) (ls : List ℕ) → length ls ≡ 2006 → ((o : ℕ) → getD ls o 0 ≡ 0) → Noting wrote L 0 ls
 unfolding last-kept last-below
 noting-none wrote L ls e z = record { size = e; each = λ o h. z o }
 
-pub noting-more : {wrote : ℕ → ℕ} {L : ℕ → Bool} {q : ℕ} {ls after : List ℕ} → Noting wrote L q ls → wrote q ≤ 10000 → after ≡ wrote-in (L q) (wrote q) q ls → Noting wrote L (q + 1) after
+pub noting-more : {wrote : ℕ → ℕ} {L : ℕ → Bool} {q : ℕ} {ls after : List ℕ} → Noting wrote L q ls → wrote q ≤ 2004 → after ≡ wrote-in (L q) (wrote q) q ls → Noting wrote L (q + 1) after
 unfolding last-kept wrote-in
 noting-more {wrote} {L} {q} {ls} {after} i h e = go (L q) refl
   where

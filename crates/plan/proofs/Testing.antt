@@ -43,6 +43,10 @@ module _ (st marks : List ℕ) (p r : ℕ) where
       ∙ ap (λ (j : ℕ). when-in (in-set marks) (getD st j 0 / 1024) || leb (getD st j 0 % 1024) (p + 1)) e
       ∙ sym (ap (λ (x : Bool). x || (when-in (in-set marks) (getD st r 0 / 1024) || leb (getD st r 0 % 1024) (p + 1))) (ne-eqb r absent n))
 
+pub place-is : (st marks : List ℕ) (p r : ℕ) {b : Bool} → b ≡ place-test st marks p r → b ≡ (eqb r absent || read-test st marks p r)
+unfolding place-test
+place-is st marks p r e = e
+
 pub reads-all : {recs ops : List ℕ} {R g n : ℕ} (st marks : List ℕ) (p : ℕ) → Good recs ops R g → n ≡ 5 + length (list-of ops (inst recs g))
     → all (λ k. place-test st marks p (read-place ops (inst recs g) k)) (upto n) ≡ all (read-test st marks p) (reads ops (inst recs g))
 unfolding place-test
@@ -70,7 +74,7 @@ module _ (regs : List ℕ) {w st : List ℕ} {n r k : ℕ} (h : Near w st n) (l 
   pub near-room : (getD st k 0 / 1024 ≡ 0 → ⊥) → 10 * (getD st k 0 / 1024 - 1) + 10 ≤ length w
   near-room z = let a = h .room in let b = h .writer k (subst (λ (x : ℕ). x < length st) (sym e) l) in omega arith
 
-  pub reg-yes : {x : ℕ} → (getD st k 0 / 1024 ≡ 0 → ⊥) → x ≡ cell w (getD st k 0 / 1024 - 1) 2 → (x ≡ reg-org w regs r (getD st r 0 / 1024)) × (x < 10001)
+  pub reg-yes : {x : ℕ} → (getD st k 0 / 1024 ≡ 0 → ⊥) → x ≡ cell w (getD st k 0 / 1024 - 1) 2 → (x ≡ reg-org w regs r (getD st r 0 / 1024)) × (x < 2005)
   unfolding reg-org
   reg-yes {x} z f =
       let b = h .writer k (subst (λ (x : ℕ). x < length st) (sym e) l) in
@@ -84,13 +88,13 @@ module _ (regs : List ℕ) {w st : List ℕ} {n r k : ℕ} (h : Near w st n) (l 
   unfolding reg-org
   none-is z = ap (reg-org w regs r) (ap (λ (j : ℕ). getD st j 0 / 1024) (sym e) ∙ z) ∙ ap (λ (j : ℕ). cond (eqb (getD regs j 0 % 2) 1) 1 (cond (eqb (getD regs j 0 / 2 % 2) 1) 3 0)) (sym e)
 
-  pub reg-ro : getD st k 0 / 1024 ≡ 0 → getD regs k 0 % 2 ≡ 1 → (1 ≡ reg-org w regs r (getD st r 0 / 1024)) × (1 < 10001)
+  pub reg-ro : getD st k 0 / 1024 ≡ 0 → getD regs k 0 % 2 ≡ 1 → (1 ≡ reg-org w regs r (getD st r 0 / 1024)) × (1 < 2005)
   reg-ro z a = (sym (none-is z ∙ ap (λ (b : Bool). cond b 1 (cond (eqb (getD regs k 0 / 2 % 2) 1) 3 0)) (eq-eqb (getD regs k 0 % 2) 1 a)), omega arith)
 
-  pub reg-frame : getD st k 0 / 1024 ≡ 0 → (getD regs k 0 % 2 ≡ 1 → ⊥) → getD regs k 0 / 2 % 2 ≡ 1 → (3 ≡ reg-org w regs r (getD st r 0 / 1024)) × (3 < 10001)
+  pub reg-frame : getD st k 0 / 1024 ≡ 0 → (getD regs k 0 % 2 ≡ 1 → ⊥) → getD regs k 0 / 2 % 2 ≡ 1 → (3 ≡ reg-org w regs r (getD st r 0 / 1024)) × (3 < 2005)
   reg-frame z a b = (sym (none-is z ∙ ap₂ (λ (x y : Bool). cond x 1 (cond y 3 0)) (ne-eqb (getD regs k 0 % 2) 1 a) (eq-eqb (getD regs k 0 / 2 % 2) 1 b)), omega arith)
 
-  pub reg-none : getD st k 0 / 1024 ≡ 0 → (getD regs k 0 % 2 ≡ 1 → ⊥) → (getD regs k 0 / 2 % 2 ≡ 1 → ⊥) → (0 ≡ reg-org w regs r (getD st r 0 / 1024)) × (0 < 10001)
+  pub reg-none : getD st k 0 / 1024 ≡ 0 → (getD regs k 0 % 2 ≡ 1 → ⊥) → (getD regs k 0 / 2 % 2 ≡ 1 → ⊥) → (0 ≡ reg-org w regs r (getD st r 0 / 1024)) × (0 < 2005)
   reg-none z a b = (sym (none-is z ∙ ap₂ (λ (x y : Bool). cond x 1 (cond y 3 0)) (ne-eqb (getD regs k 0 % 2) 1 a) (ne-eqb (getD regs k 0 / 2 % 2) 1 b)), omega arith)
 
 module _ (w regs st lasts : List ℕ) (bar p : ℕ) where
@@ -218,7 +222,7 @@ only-first false = refl
 
 -- ---- sizes
 
-pub from-small : {x f : ℕ} → (x ≤ 10000) ⊎ (x ≡ 4294967295) → f ≡ x → (f ≡ 4294967295 → ⊥) → f - 1 < 10001
+pub from-small : {x f : ℕ} → (x ≤ 2004) ⊎ (x ≡ 4294967295) → f ≡ x → (f ≡ 4294967295 → ⊥) → f - 1 < 2005
 from-small (inl h) e n = omega arith
 from-small (inr h) e n = absurd (n (e ∙ h))
 
@@ -256,8 +260,11 @@ module _ (recs ops w regs st lasts marks : List ℕ) (g sus bar p : ℕ) where
       ∙ ap₂ (λ (i j : Bool). conj (three ∷ i ∷ j ∷ true ∷ [])) (sym (not-false x a) ∙ e) (sym (not-false z d) ∙ k)
       ∙ ap (λ (j : Bool). conj (three ∷ leb sus (p + 1) ∷ five ∷ j ∷ [])) (sym (not-false y b) ∙ f)
 
-  pub skipped : {x : Bool} → x ≡ in-set marks p → not x ≡ true → true ≡ (not (in-set marks p) || stay-test recs ops w regs st lasts marks g sus bar p)
-  skipped {x} e t = sym (ap (λ (y : Bool). not y || stay-test recs ops w regs st lasts marks g sus bar p) (sym e ∙ not-true x t))
+-- ---- a test asked only of a member
 
-  pub asked : {x y : Bool} → x ≡ in-set marks p → not x ≡ false → y ≡ stay-test recs ops w regs st lasts marks g sus bar p → y ≡ (not (in-set marks p) || stay-test recs ops w regs st lasts marks g sus bar p)
-  asked {x} e t f = f ∙ sym (ap (λ (y : Bool). not y || stay-test recs ops w regs st lasts marks g sus bar p) (sym e ∙ not-false x t))
+module _ (S : List ℕ) (p : ℕ) (ok : Bool) {x : Bool} (e : x ≡ in-set S p) where
+  pub skipped : not x ≡ true → true ≡ (not (in-set S p) || ok)
+  skipped t = sym (ap (λ (y : Bool). not y || ok) (sym e ∙ not-true x t))
+
+  pub asked : {y : Bool} → not x ≡ false → y ≡ ok → y ≡ (not (in-set S p) || ok)
+  asked t f = f ∙ sym (ap (λ (y : Bool). not y || ok) (sym e ∙ not-false x t))

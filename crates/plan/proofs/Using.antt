@@ -109,13 +109,6 @@ noticing-end {g} {st} {q} {k} {K} {l} {before} i a u v = record {
       (ap (λ (m : ℕ). any (λ j. not (eqb (g j) absent) && eqb (getD st (g j) 0) (p + 1)) (upto m)) e ∙ sym (any-placed a (λ r. eqb (getD st r 0) (p + 1))));
 }
 
-pub read-on : (recs ops w : List ℕ) {q g x : ℕ} {st st′ ls ls′ : List ℕ} → x ≡ cell w q 0 → g ≡ x → Noticed st (reads ops (inst recs g)) q ls ls′ → Stamped (writes (inst recs g)) 1 (q + 1) st st′
-    → ReadOn (λ (k : ℕ). writes (inst recs (cell w k 0))) (λ (k : ℕ). reads ops (inst recs (cell w k 0))) q st ls st′ ls′
-read-on recs ops w {q} {g} {x} {st} {st′} {ls} {ls′} e f a b = record {
-  noticed = subst (λ (y : ℕ). Noticed st (reads ops (inst recs y)) q ls ls′) (f ∙ e) a;
-  stamped = subst (λ (y : ℕ). Stamped (writes (inst recs y)) 1 (q + 1) st st′) (f ∙ e) b;
-}
-
 -- ---- the chain
 
 own-is : (p q : ℕ) → q ≡ or-own p (suc q)

@@ -1,23 +1,38 @@
 -- What the parts of a pass require and ensure. Assumes nothing.
 use mathlib.Core.Path.{_≡_}
 use mathlib.Core.Bool.{Bool, true, false, not, _&&_, _||_, cond}
-use mathlib.Core.List.{List, [], _∷_}
+use mathlib.Core.List.{List, [], _∷_, _++_}
 use Prim.Native.Nat.{ℕ, zero, suc, _+_, _*_, _-_, _/_, _%_, _≤_, _<_}
 use lib.Dec.{eqb, leb, ltb}
-use lib.ListN.{getD, length, set, take, drop}
+use lib.ListN.{getD, length, set, take, drop, replicate}
 use Rattle.words.specs.Lists.{mem, hit, all, conj, member, count}
 use Rattle.words.specs.Bits.{is-in}
 use Rattle.model.specs.Picture.{Inst, inst, absent, reads, writes, list-of}
 use Rattle.model.specs.Analyse.{Fact}
 use Rattle.model.specs.Legal.{greatest}
-use Rattle.inst.specs.Record.{read-at}
-use Rattle.legalset.specs.Chain.{writer, cell, flag, defs-of, origins, reg-org, Safe, Told}
+use Rattle.inst.specs.Record.{Known, present, read-at}
+use Rattle.legalset.specs.Chain.{writer, cell, flag, defs-of, reads-of, origins, reg-org, Fits, Good, Safe, Brief, Told}
 use Rattle.legalset.specs.Marks.{in-set, sifted, lost}
 use Rattle.legalset.specs.Rules.{last-kept, read-fine, org-fine, own-memory, still-fine, pending}
 
 -- read k: slots 0 to 4, then the list; absent where there is none
 unfoldable pub read-place : List ℕ → Inst → ℕ → ℕ
 read-place ops i k = cond (ltb k 5) (read-at i k) (getD (list-of ops i) (k - 5) absent)
+
+-- ---- one position
+
+-- what position p writes are registers below R; where word 9 is 0 it is word 6
+pub record Written (recs w : List ℕ) (R p : ℕ) : Type 0 where
+  pub room : 10 * p + 10 ≤ length w
+  pub known : Known recs (cell w p 0)
+  pub fits : Fits recs R (cell w p 0)
+  pub brief : cell w p 9 ≡ 0 → defs-of recs w p ≡ present (cell w p 6)
+
+-- what it reads are such too; where word 9 is 0 it is words 7 and 8
+pub record Readable (recs ops w : List ℕ) (R p : ℕ) : Type 0 where
+  pub room : 10 * p + 10 ≤ length w
+  pub good : Good recs ops R (cell w p 0)
+  pub brief : cell w p 9 ≡ 0 → reads-of recs ops w p ≡ present (cell w p 7) ++ present (cell w p 8)
 
 -- ---- a word a register
 
@@ -42,7 +57,7 @@ pub record Stamps (defs : ℕ → List ℕ) (L : ℕ → Bool) (n p : ℕ) (st :
 
 -- the last kept write of each origin and 1
 pub record Writes (wrote : ℕ → ℕ) (L : ℕ → Bool) (n : ℕ) (lasts : List ℕ) : Type 0 where
-  pub each : (o : ℕ) → 0 < o → o < 10002 → getD lasts o 0 ≡ last-kept L (λ q. eqb (wrote q) o) n
+  pub each : (o : ℕ) → 0 < o → o < 2006 → getD lasts o 0 ≡ last-kept L (λ q. eqb (wrote q) o) n
 
 -- whether each register is awaited at q: read by a kept position from q on with no write in between
 pub record Awaits (defs reads : ℕ → List ℕ) (L : ℕ → Bool) (n q : ℕ) (st : List ℕ) : Type 0 where
@@ -89,7 +104,7 @@ piece-test w regs st lasts bar p r = org-test lasts bar p (reg-org w regs r (get
 pub record Near (w st : List ℕ) (n : ℕ) : Type 0 where
   pub room : 10 * n ≤ length w
   pub writer : (r : ℕ) → r < length st → getD st r 0 / 1024 ≤ n
-  pub org : (p : ℕ) → p < n → cell w p 2 < 10000
+  pub org : (p : ℕ) → p < n → cell w p 2 < 2004
 
 -- rule 5 for position p, record g
 unfoldable pub memory-test : List ℕ → List ℕ → List ℕ → List ℕ → List ℕ → List ℕ → ℕ → ℕ → ℕ → Bool
@@ -130,6 +145,7 @@ pub record Backed (defs reads : ℕ → List ℕ) (q : ℕ) (st marks st′ mark
 -- the words of n positions, the first m in x, a word a register twice, and marks
 pub record Set-up (recs ops w regs st marks : List ℕ) (m n : ℕ) : Type 0 where
   pub safe : Safe recs ops w n (length st)
+  pub brief : Brief recs ops w n
   pub regs-size : length regs ≡ length st
   pub in-x : m ≤ n
   pub marks-size : length marks ≡ 800
@@ -142,19 +158,20 @@ pub record Ended (recs w : List ℕ) (n : ℕ) (regs : List ℕ) : Type 0 where
 unfoldable pub result-test : List ℕ → List ℕ → ℕ → ℕ → ℕ → Bool
 result-test regs bits o p r = not (is-in bits (64 * o + r) && eqb (getD regs r 0 / 16) (p + 1))
 
--- the positions to begin with, by the words
-unfoldable pub begin-test : List ℕ → List ℕ → List ℕ → List ℕ → ℕ → ℕ → ℕ → Bool
-begin-test recs w regs bits o m p = ltb p m && eqb (cell w p 1) 1 && all (result-test regs bits o p) (defs-of recs w p)
+-- whether position p, if it is in x, begins in the set, by the words
+unfoldable pub begin-test : List ℕ → List ℕ → List ℕ → List ℕ → ℕ → ℕ → Bool
+begin-test recs w regs bits o p = eqb (cell w p 1) 1 && all (result-test regs bits o p) (defs-of recs w p)
 
 -- the row that begins at word o of bits stands for the registers needed elsewhere
 pub record Row (bits : List ℕ) (o R : ℕ) (needed : ℕ → Bool) : Type 0 where
   pub each : (r : ℕ) → r < R → is-in bits (64 * o + r) ≡ needed r
 
--- the words of n positions, the first m in x; of work, a row from word o on and the words from s on, one a register; and marks
+-- the words of n positions, the first m in x; of work, a row from word o on and the words from s on, one a register; and marks, all 0
 pub record Lent (recs ops w regs work marks : List ℕ) (o s m n : ℕ) : Type 0 where
   pub safe : Safe recs ops w n (length regs)
+  pub brief : Brief recs ops w n
   pub in-x : m ≤ n
-  pub marks-size : length marks ≡ 800
+  pub zero : marks ≡ replicate 800 0
   pub row-room : o ≤ length work
   pub room : s + length regs ≤ length work
 
@@ -164,8 +181,10 @@ pub record Around (s k : ℕ) (before after : List ℕ) : Type 0 where
   pub below : take s after ≡ take s before
   pub behind : drop (s + k) after ≡ drop (s + k) before
 
--- the marks are `model`'s greatest legal set, of r members, for whatever run and needs the words stand for
-pub record Greatest (recs ops w regs bits : List ℕ) (o : ℕ) (marks : List ℕ) (m n r : ℕ) : Type 0 where
+-- the marks are `model`'s greatest legal set, of r members, for whatever run and needs the words stand for; or that has fewer than
+-- `least`, as has what is marked
+pub record Greatest (recs ops w regs bits : List ℕ) (o : ℕ) (marks : List ℕ) (m n least r : ℕ) : Type 0 where
   pub size : length marks ≡ 800
-  pub set : (run : List Fact) (needed : ℕ → Bool) → Told recs ops w regs n run → Row bits o (length regs) needed → (p : ℕ) → in-set marks p ≡ member (greatest run needed m) p
-  pub count : (run : List Fact) (needed : ℕ → Bool) → Told recs ops w regs n run → Row bits o (length regs) needed → r ≡ count (greatest run needed m)
+  pub set : least ≤ r → (run : List Fact) (needed : ℕ → Bool) → Told recs ops w regs n run → Row bits o (length regs) needed → (p : ℕ) → in-set marks p ≡ member (greatest run needed m) p
+  pub few : r < least → (run : List Fact) (needed : ℕ → Bool) → Told recs ops w regs n run → Row bits o (length regs) needed → count (greatest run needed m) < least
+  pub count : least ≤ r → (run : List Fact) (needed : ℕ → Bool) → Told recs ops w regs n run → Row bits o (length regs) needed → r ≡ count (greatest run needed m)

@@ -1,5 +1,4 @@
 // The pass that drops what breaks one of rules 3 to 6 against the summary of a set (01, "The legal set").
-use crate::chain::cell_at;
 use crate::marks::drop_unless;
 use crate::marks::marked;
 use crate::rules::rule3;
@@ -13,30 +12,28 @@ ghost use mathlib.Core.Bool.{not, _||_};
 ghost use Prim.Native.Nat.{_<_, _≤_};
 ghost use lib.ListN.{length};
 ghost use Rattle.inst.specs.Table.{rows};
-ghost use Rattle.inst.specs.Record.{Used};
-ghost use Rattle.legalset.specs.Chain.{cell, view, Good, Safe};
+ghost use Rattle.legalset.specs.Chain.{cell, view, Safe, Brief};
 ghost use Rattle.legalset.specs.Marks.{in-set, own, Passed};
 ghost use Rattle.legalset.specs.Rules.{forward-ok};
-ghost use Rattle.plan.specs.Passes.{stay-test, Near, Forwarded, Summed};
+ghost use Rattle.plan.specs.Passes.{stay-test, Near, Forwarded, Summed, Readable};
 
-// Rules 3 to 6 for position p, record g, the cheap ones first.
+// Rules 3 to 6 for position p, the cheap ones first.
 fn stays(
+    t: &[u32; 202],
     ops: &[u32],
     recs: &[u32],
     w: &[u32],
     regs: &[u32],
     st: &[u64],
-    lasts: &[u32; 10002],
+    lasts: &[u32; 2006],
     marks: &[u32; 800],
-    g: usize,
-    uses: u32,
     sus: u32,
     bar: u32,
     p: usize,
     n: usize,
 ) -> bool
-    requires { ⌜ Used (now recs) g uses × Good (now recs) (now ops) (length (now st)) g × Near (now w) (now st) n × (length (now regs) ≡ length (now st)) × (p < n) × (n ≤ 800) × ((cell (now w) p 5 ≤ 10000) ⊎ (cell (now w) p 5 ≡ 4294967295)) × (length (now marks) ≡ 800) ⌝ }
-    ensures { λ b. ⌜ b ≡ stay-test (now (recs .entry)) (now (ops .entry)) (now (w .entry)) (now (regs .entry)) (now (st .entry)) (now (lasts .entry)) (now (marks .entry)) g sus bar p ⌝ }
+    requires { ⌜ (now t ≡ rows) × Readable (now recs) (now ops) (now w) (length (now st)) p × Near (now w) (now st) n × (length (now regs) ≡ length (now st)) × (p < n) × (n ≤ 800) × ((cell (now w) p 5 ≤ 2004) ⊎ (cell (now w) p 5 ≡ 4294967295)) × (length (now marks) ≡ 800) ⌝ }
+    ensures { λ b. ⌜ b ≡ stay-test (now (recs .entry)) (now (ops .entry)) (now (w .entry)) (now (regs .entry)) (now (st .entry)) (now (lasts .entry)) (now (marks .entry)) (cell (now (w .entry)) p 0) sus bar p ⌝ }
 {
     if !rule4(sus, p) {
         return false;
@@ -44,59 +41,44 @@ fn stays(
     if !rule6(w, marks, p) {
         return false;
     }
-    if !rule5(ops, recs, w, regs, st, lasts, g, bar, p, n) {
+    if !rule5(ops, recs, w, regs, st, lasts, bar, p, n) {
         return false;
     }
-    rule3(ops, recs, g, uses, st, marks, p)
+    rule3(t, ops, recs, w, st, marks, p)
 }
 
 // The same, asked only of a member.
 fn may_stay(
+    t: &[u32; 202],
     ops: &[u32],
     recs: &[u32],
     w: &[u32],
     regs: &[u32],
     st: &[u64],
-    lasts: &[u32; 10002],
+    lasts: &[u32; 2006],
     marks: &[u32; 800],
-    g: usize,
-    uses: u32,
     sus: u32,
     bar: u32,
     p: usize,
     n: usize,
 ) -> bool
-    requires { ⌜ Used (now recs) g uses × Good (now recs) (now ops) (length (now st)) g × Near (now w) (now st) n × (length (now regs) ≡ length (now st)) × (p < n) × (n ≤ 800) × ((cell (now w) p 5 ≤ 10000) ⊎ (cell (now w) p 5 ≡ 4294967295)) × (length (now marks) ≡ 800) ⌝ }
-    ensures { λ b. ⌜ b ≡ (not (in-set (now (marks .entry)) p) || stay-test (now (recs .entry)) (now (ops .entry)) (now (w .entry)) (now (regs .entry)) (now (st .entry)) (now (lasts .entry)) (now (marks .entry)) g sus bar p) ⌝ }
+    requires { ⌜ (now t ≡ rows) × Readable (now recs) (now ops) (now w) (length (now st)) p × Near (now w) (now st) n × (length (now regs) ≡ length (now st)) × (p < n) × (n ≤ 800) × ((cell (now w) p 5 ≤ 2004) ⊎ (cell (now w) p 5 ≡ 4294967295)) × (length (now marks) ≡ 800) ⌝ }
+    ensures { λ b. ⌜ b ≡ (not (in-set (now (marks .entry)) p) || stay-test (now (recs .entry)) (now (ops .entry)) (now (w .entry)) (now (regs .entry)) (now (st .entry)) (now (lasts .entry)) (now (marks .entry)) (cell (now (w .entry)) p 0) sus bar p) ⌝ }
 {
     if !marked(marks, p) {
         return true;
     }
-    stays(
-        ops,
-        recs,
-        w,
-        regs,
-        st,
-        lasts,
-        marks,
-        g,
-        uses,
-        sus,
-        bar,
-        p,
-        n,
-    )
+    stays(t, ops, recs, w, regs, st, lasts, marks, sus, bar, p, n)
 }
 
 // Position p: dropped if it is a member that breaks one of rules 3 to 6. Its writes are noted. Says how many were dropped.
 fn step(
-    t: &[u32; 101],
+    t: &[u32; 202],
     recs: &[u32],
     ops: &[u32],
     w: &[u32],
     regs: &[u32],
-    lasts: &[u32; 10002],
+    lasts: &[u32; 2006],
     st: &mut [u64],
     marks: &mut [u32; 800],
     sus: u32,
@@ -104,24 +86,22 @@ fn step(
     p: usize,
     n: usize,
 ) -> u32
-    requires { ⌜ (now t ≡ rows) × Safe (now recs) (now ops) (now w) n (length (now st)) × (length (now regs) ≡ length (now st)) × Near (now w) (now st) n × (p < n) × (length (now marks) ≡ 800) ⌝ }
+    requires { ⌜ (now t ≡ rows) × Safe (now recs) (now ops) (now w) n (length (now st)) × Brief (now recs) (now ops) (now w) n × (length (now regs) ≡ length (now st)) × Near (now w) (now st) n × (p < n) × (length (now marks) ≡ 800) ⌝ }
     ensures { λ r. ⌜ Forwarded (now (recs .entry)) (now (ops .entry)) (now (w .entry)) (now (regs .entry)) (now (lasts .entry)) sus bar p (now (st .entry)) (now (marks .entry)) (now (st .exit)) (now (marks .exit)) r ⌝ }
 {
-    let g = inst::record::wide(cell_at(w, p, 0));
-    let u = inst::access::uses(t, recs, g);
-    let ok = may_stay(ops, recs, w, regs, st, lasts, marks, g, u, sus, bar, p, n);
-    put_writes(recs, g, u, st, 1024, 1024 * (p as u64 + 1));
+    let ok = may_stay(t, ops, recs, w, regs, st, lasts, marks, sus, bar, p, n);
+    put_writes(t, recs, w, p, st, 1024, 1024 * (p as u64 + 1));
     drop_unless(marks, p, ok)
 }
 
 // The members that break one of rules 3 to 6 are dropped, first to last. Says how many were.
 pub fn forward(
-    t: &[u32; 101],
+    t: &[u32; 202],
     recs: &[u32],
     ops: &[u32],
     w: &[u32],
     regs: &[u32],
-    lasts: &[u32; 10002],
+    lasts: &[u32; 2006],
     st: &mut [u64],
     marks: &mut [u32; 800],
     sus: u32,
@@ -129,7 +109,7 @@ pub fn forward(
     m: usize,
     n: usize,
 ) -> u32
-    requires { ⌜ (now t ≡ rows) × Safe (now recs) (now ops) (now w) n (length (now st)) × (length (now regs) ≡ length (now st)) × (m ≤ n) × (length (now marks) ≡ 800) × Summed (now recs) (now ops) (now w) (now regs) n 0 (now st) (now lasts) (now marks) sus bar ⌝ }
+    requires { ⌜ (now t ≡ rows) × Safe (now recs) (now ops) (now w) n (length (now st)) × Brief (now recs) (now ops) (now w) n × (length (now regs) ≡ length (now st)) × (m ≤ n) × (length (now marks) ≡ 800) × Summed (now recs) (now ops) (now w) (now regs) n 0 (now st) (now lasts) (now marks) sus bar ⌝ }
     ensures { λ r. ⌜ Passed (own (forward-ok (view (now (recs .entry)) (now (ops .entry)) (now (w .entry)) (now (regs .entry))) n)) 0 m (now (marks .entry)) (now (marks .exit)) r × (length (now (st .exit)) ≡ length (now (st .entry))) ⌝ }
 {
     let mut r = 0u32;

@@ -3,7 +3,7 @@ ghost use mathlib.Core.Path.{_≡_};
 ghost use mathlib.Core.List.{[], _∷_};
 ghost use Prim.Native.Nat.{_<_, _≤_};
 ghost use lib.ListN.{length};
-ghost use Rattle.legalset.specs.Marks.{in-set, members, sifted, lost};
+ghost use Rattle.legalset.specs.Marks.{in-set, members, sifted, lost, Inside};
 
 // Is position p in the set?
 pub fn marked(marks: &[u32; 800], p: usize) -> bool
@@ -40,14 +40,14 @@ fn one(x: u32) -> u32
     1
 }
 
-// How many positions are in the set.
-pub fn count(marks: &[u32; 800]) -> u32
-    requires { ⌜ length (now marks) ≡ 800 ⌝ }
+// How many positions are in the set, all of which are among the first m.
+pub fn count(marks: &[u32; 800], m: usize) -> u32
+    requires { ⌜ (length (now marks) ≡ 800) × (m ≤ 800) × Inside m (now marks) ⌝ }
     ensures { λ r. ⌜ r ≡ members (now (marks .entry)) ⌝ }
 {
     let mut n = 0u32;
     let mut p = 0usize;
-    while p < 800 {
+    while p < m {
         n += one(marks[p]);
         p += 1;
     }

@@ -1,6 +1,6 @@
 // The six rules that a member keeps, each a function of its own (01, "The legal set"), against what the kept positions do. `st` holds a
 // word a register: for rule 1 as `backward` keeps it, for rules 3 and 5 as `summary` and `forward` do. `sus`, `bar` and `lasts` are of
-// `summary`.
+// `summary`. Rules 1 to 3 ask of a position's own words where its word 9 is 0, else of its record.
 use crate::chain::cell_at;
 use crate::chain::places;
 use crate::chain::read_place;
@@ -13,11 +13,12 @@ ghost use lib.ListN.{length, getD};
 ghost use lib.Dec.{eqb, leb};
 ghost use Rattle.words.specs.Lists.{all};
 ghost use Rattle.model.specs.Picture.{inst, absent, reads, writes};
+ghost use Rattle.inst.specs.Table.{rows};
 ghost use Rattle.inst.specs.Record.{Used};
-ghost use Rattle.legalset.specs.Chain.{cell, flag, reg-org, picked, Fits, Good};
+ghost use Rattle.legalset.specs.Chain.{cell, flag, defs-of, reads-of, reg-org, picked, Fits, Good};
 ghost use Rattle.legalset.specs.Marks.{in-set};
 ghost use Rattle.legalset.specs.Rules.{when-in, own-memory, still-fine};
-ghost use Rattle.plan.specs.Passes.{result-test, read-test, place-test, org-test, piece-test, from-test, memory-test, Near};
+ghost use Rattle.plan.specs.Passes.{result-test, read-test, place-test, org-test, piece-test, from-test, memory-test, Near, Written, Readable};
 
 // Is register r, if it is one, not awaited?
 fn free(st: &[u64], r: u32) -> bool
@@ -31,8 +32,8 @@ fn free(st: &[u64], r: u32) -> bool
     st[k] == 0
 }
 
-// Rule 1: nothing that record g writes is awaited, that is, read further on by a kept position with no write in between.
-pub fn rule1(recs: &[u32], g: usize, uses: u32, st: &[u64]) -> bool
+// Rule 1 for what record g writes, slot by slot.
+fn free_slots(recs: &[u32], g: usize, uses: u32, st: &[u64]) -> bool
     requires { ⌜ Used (now recs) g uses × Fits (now recs) (length (now st)) g ⌝ }
     ensures { λ b. ⌜ b ≡ all (λ x. eqb (getD (now (st .entry)) x 0) 0) (writes (inst (now (recs .entry)) g)) ⌝ }
 {
@@ -47,6 +48,18 @@ pub fn rule1(recs: &[u32], g: usize, uses: u32, st: &[u64]) -> bool
     true
 }
 
+// Rule 1: nothing that position p writes is awaited, that is, read further on by a kept position with no write in between.
+pub fn rule1(t: &[u32; 202], recs: &[u32], w: &[u32], p: usize, st: &[u64]) -> bool
+    requires { ⌜ (now t ≡ rows) × Written (now recs) (now w) (length (now st)) p ⌝ }
+    ensures { λ b. ⌜ b ≡ all (λ x. eqb (getD (now (st .entry)) x 0) 0) (defs-of (now (recs .entry)) (now (w .entry)) p) ⌝ }
+{
+    if cell_at(w, p, 9) == 0 {
+        return free(st, cell_at(w, p, 6));
+    }
+    let g = inst::record::wide(cell_at(w, p, 0));
+    free_slots(recs, g, inst::access::uses(t, recs, g), st)
+}
+
 // Rule 2 for register r, if it is one: p does not write it last in the chain, or it is not needed elsewhere.
 fn unneeded(regs: &[u32], bits: &[u64], o: usize, r: u32, p: usize) -> bool
     requires { ⌜ ((r ≡ absent) ⊎ (r < length (now regs))) × (p < 800) × (o ≤ length (now bits)) ⌝ }
@@ -59,8 +72,8 @@ fn unneeded(regs: &[u32], bits: &[u64], o: usize, r: u32, p: usize) -> bool
     !(words::bits::bit_in(bits, o, k) & (regs[k] / 16 == p as u32 + 1))
 }
 
-// Rule 2: no register of the row that begins at word `o` of `bits` is written by record g, at p, and by none after it.
-pub fn rule2(
+// Rule 2 for what record g, at p, writes, slot by slot.
+pub fn unneeded_slots(
     recs: &[u32],
     g: usize,
     uses: u32,
@@ -81,6 +94,26 @@ pub fn rule2(
         s += 1;
     }
     true
+}
+
+// Rule 2: no register of the row that begins at word `o` of `bits` is written at p and by none after it.
+pub fn rule2(
+    t: &[u32; 202],
+    recs: &[u32],
+    w: &[u32],
+    regs: &[u32],
+    bits: &[u64],
+    o: usize,
+    p: usize,
+) -> bool
+    requires { ⌜ (now t ≡ rows) × Written (now recs) (now w) (length (now regs)) p × (p < 800) × (o ≤ length (now bits)) ⌝ }
+    ensures { λ b. ⌜ b ≡ all (result-test (now (regs .entry)) (now (bits .entry)) o p) (defs-of (now (recs .entry)) (now (w .entry)) p) ⌝ }
+{
+    if cell_at(w, p, 9) == 0 {
+        return unneeded(regs, bits, o, cell_at(w, p, 6), p);
+    }
+    let g = inst::record::wide(cell_at(w, p, 0));
+    unneeded_slots(recs, g, inst::access::uses(t, recs, g), regs, bits, o, p)
 }
 
 // Is the position before d, if there is one, in the set?
@@ -107,8 +140,8 @@ fn read_ok(st: &[u64], marks: &[u32; 800], r: u32, p: usize) -> bool
     before_in(marks, v / 1024) | (v % 1024 <= p as u64 + 1)
 }
 
-// Rule 3: each register that record g reads has its writer in the set, or is written by no kept position after p.
-pub fn rule3(
+// Rule 3 for what record g, at p, reads, place by place.
+fn places_ok(
     ops: &[u32],
     recs: &[u32],
     g: usize,
@@ -132,6 +165,26 @@ pub fn rule3(
     true
 }
 
+// Rule 3: each register that position p reads has its writer in the set, or is written by no kept position after p.
+pub fn rule3(
+    t: &[u32; 202],
+    ops: &[u32],
+    recs: &[u32],
+    w: &[u32],
+    st: &[u64],
+    marks: &[u32; 800],
+    p: usize,
+) -> bool
+    requires { ⌜ (now t ≡ rows) × Readable (now recs) (now ops) (now w) (length (now st)) p × (length (now marks) ≡ 800) × (p < 800) ⌝ }
+    ensures { λ b. ⌜ b ≡ all (read-test (now (st .entry)) (now (marks .entry)) p) (reads-of (now (recs .entry)) (now (ops .entry)) (now (w .entry)) p) ⌝ }
+{
+    if cell_at(w, p, 9) == 0 {
+        return read_ok(st, marks, cell_at(w, p, 7), p) & read_ok(st, marks, cell_at(w, p, 8), p);
+    }
+    let g = inst::record::wide(cell_at(w, p, 0));
+    places_ok(ops, recs, g, inst::access::uses(t, recs, g), st, marks, p)
+}
+
 // Rule 4: no kept position after p may suspend. `sus` is the last that may, and 1.
 pub fn rule4(sus: u32, p: usize) -> bool
     requires { ⌜ p < 800 ⌝ }
@@ -141,8 +194,8 @@ pub fn rule4(sus: u32, p: usize) -> bool
 }
 
 // Rule 5 for the origin of number o.
-fn org_ok(lasts: &[u32; 10002], bar: u32, p: usize, o: u32) -> bool
-    requires { ⌜ (o < 10001) × (p < 800) ⌝ }
+fn org_ok(lasts: &[u32; 2006], bar: u32, p: usize, o: u32) -> bool
+    requires { ⌜ (o < 2005) × (p < 800) ⌝ }
     ensures { λ b. ⌜ b ≡ org-test (now (lasts .entry)) bar p o ⌝ }
 {
     let e = p as u32 + 1;
@@ -153,7 +206,7 @@ fn org_ok(lasts: &[u32; 10002], bar: u32, p: usize, o: u32) -> bool
 // Where register r points that is read at this place.
 fn reg_org(w: &[u32], regs: &[u32], st: &[u64], r: u32, n: usize) -> u32
     requires { ⌜ Near (now w) (now st) n × (r < length (now st)) × (length (now regs) ≡ length (now st)) ⌝ }
-    ensures { λ o. ⌜ (o ≡ reg-org (now (w .entry)) (now (regs .entry)) r (getD (now (st .entry)) r 0 / 1024)) × (o < 10001) ⌝ }
+    ensures { λ o. ⌜ (o ≡ reg-org (now (w .entry)) (now (regs .entry)) r (getD (now (st .entry)) r 0 / 1024)) × (o < 2005) ⌝ }
 {
     let k = inst::record::wide(r);
     let d = (st[k] / 1024) as usize;
@@ -174,7 +227,7 @@ fn piece_ok(
     w: &[u32],
     regs: &[u32],
     st: &[u64],
-    lasts: &[u32; 10002],
+    lasts: &[u32; 2006],
     bar: u32,
     p: usize,
     n: usize,
@@ -196,7 +249,7 @@ fn pieces_ok(
     w: &[u32],
     regs: &[u32],
     st: &[u64],
-    lasts: &[u32; 10002],
+    lasts: &[u32; 2006],
     bar: u32,
     p: usize,
     n: usize,
@@ -220,21 +273,20 @@ fn pieces_ok(
     true
 }
 
-// Rule 5 for all that position p, record g, reads.
+// Rule 5 for all that position p reads.
 fn froms_ok(
     ops: &[u32],
     recs: &[u32],
     w: &[u32],
     regs: &[u32],
     st: &[u64],
-    lasts: &[u32; 10002],
-    g: usize,
+    lasts: &[u32; 2006],
     bar: u32,
     p: usize,
     n: usize,
 ) -> bool
-    requires { ⌜ Good (now recs) (now ops) (length (now st)) g × Near (now w) (now st) n × (length (now regs) ≡ length (now st)) × (p < n) × (n ≤ 800) × ((cell (now w) p 5 ≤ 10000) ⊎ (cell (now w) p 5 ≡ 4294967295)) ⌝ }
-    ensures { λ b. ⌜ b ≡ from-test (now (w .entry)) (now (regs .entry)) (now (ops .entry)) (inst (now (recs .entry)) g) (now (st .entry)) (now (lasts .entry)) bar p ⌝ }
+    requires { ⌜ Good (now recs) (now ops) (length (now st)) (cell (now w) p 0) × Near (now w) (now st) n × (length (now regs) ≡ length (now st)) × (p < n) × (n ≤ 800) × ((cell (now w) p 5 ≤ 2004) ⊎ (cell (now w) p 5 ≡ 4294967295)) ⌝ }
+    ensures { λ b. ⌜ b ≡ from-test (now (w .entry)) (now (regs .entry)) (now (ops .entry)) (inst (now (recs .entry)) (cell (now (w .entry)) p 0)) (now (st .entry)) (now (lasts .entry)) bar p ⌝ }
 {
     let f = cell_at(w, p, 5);
     if f == 0 {
@@ -243,6 +295,7 @@ fn froms_ok(
     if f != 4294967295 {
         return org_ok(lasts, bar, p, f - 1);
     }
+    let g = inst::record::wide(cell_at(w, p, 0));
     let xs = inst::access::list(ops, recs, g);
     pieces_ok(
         xs,
@@ -275,19 +328,18 @@ pub fn rule5(
     w: &[u32],
     regs: &[u32],
     st: &[u64],
-    lasts: &[u32; 10002],
-    g: usize,
+    lasts: &[u32; 2006],
     bar: u32,
     p: usize,
     n: usize,
 ) -> bool
-    requires { ⌜ Good (now recs) (now ops) (length (now st)) g × Near (now w) (now st) n × (length (now regs) ≡ length (now st)) × (p < n) × (n ≤ 800) × ((cell (now w) p 5 ≤ 10000) ⊎ (cell (now w) p 5 ≡ 4294967295)) ⌝ }
-    ensures { λ b. ⌜ b ≡ memory-test (now (recs .entry)) (now (ops .entry)) (now (w .entry)) (now (regs .entry)) (now (st .entry)) (now (lasts .entry)) g bar p ⌝ }
+    requires { ⌜ Good (now recs) (now ops) (length (now st)) (cell (now w) p 0) × Near (now w) (now st) n × (length (now regs) ≡ length (now st)) × (p < n) × (n ≤ 800) × ((cell (now w) p 5 ≤ 2004) ⊎ (cell (now w) p 5 ≡ 4294967295)) ⌝ }
+    ensures { λ b. ⌜ b ≡ memory-test (now (recs .entry)) (now (ops .entry)) (now (w .entry)) (now (regs .entry)) (now (st .entry)) (now (lasts .entry)) (cell (now (w .entry)) p 0) bar p ⌝ }
 {
     if !still(w, bar, p) {
         return false;
     }
-    froms_ok(ops, recs, w, regs, st, lasts, g, bar, p, n)
+    froms_ok(ops, recs, w, regs, st, lasts, bar, p, n)
 }
 
 // Rule 6 by the number of the memory written.

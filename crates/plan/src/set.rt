@@ -1,5 +1,4 @@
 // The greatest legal set of a chain for a target (01, "The legal set"; 000's `plan`), and the pass with its thresholds.
-use crate::marks::count;
 use crate::settle::settle;
 use crate::start::start;
 ghost use mathlib.Core.Path.{_≡_};
@@ -31,10 +30,10 @@ impl Sink {
     }
 }
 
-// The marks become the greatest legal set. Says how many members it has. The row of registers needed elsewhere begins at word `o` of
-// `work`; its words from `s` on, one a register, are written.
+// The marks become the greatest legal set, unless it has fewer members than `least`. Says how many are marked. The row of registers
+// needed elsewhere begins at word `o` of `work`; its words from `s` on, one a register, are written.
 pub fn legal_set(
-    t: &[u32; 101],
+    t: &[u32; 202],
     recs: &[u32],
     ops: &[u32],
     w: &[u32],
@@ -45,12 +44,12 @@ pub fn legal_set(
     marks: &mut [u32; 800],
     m: usize,
     n: usize,
+    least: u32,
 ) -> u32
     requires { ⌜ (now t ≡ rows) × Lent (now recs) (now ops) (now w) (now regs) (now work) (now marks) o s m n × Ended (now recs) (now w) n (now regs) ⌝ }
-    ensures { λ r. ⌜ Greatest (now (recs .entry)) (now (ops .entry)) (now (w .entry)) (now (regs .entry)) (now (work .entry)) o (now (marks .exit)) m n r × Around s (length (now (regs .entry))) (now (work .entry)) (now (work .exit)) ⌝ }
+    ensures { λ r. ⌜ Greatest (now (recs .entry)) (now (ops .entry)) (now (w .entry)) (now (regs .entry)) (now (work .entry)) o (now (marks .exit)) m n least r × Around s (length (now (regs .entry))) (now (work .entry)) (now (work .exit)) ⌝ }
 {
     start(t, recs, ops, w, regs, work, o, marks, m, n);
     let e = s + regs.len();
-    settle(t, recs, ops, w, regs, &mut work[s..e], marks, m, n);
-    count(marks)
+    settle(t, recs, ops, w, regs, &mut work[s..e], marks, m, n, least)
 }

@@ -1,6 +1,7 @@
-// Cycles of passes until one drops nothing (01, "The legal set": unions of legal sets are legal, so a greatest one exists).
+// Passes in turn until both drop nothing, or too few are left (01, "The legal set": unions of legal sets are legal, so a greatest one exists).
 use crate::backward::backward;
 use crate::forward::forward;
+use crate::marks::count;
 use crate::summary::keep_memory;
 use crate::summary::keep_writes;
 use crate::summary::last_flag;
@@ -8,14 +9,14 @@ ghost use mathlib.Core.Path.{_≡_};
 ghost use Prim.Native.Nat.{_≤_};
 ghost use lib.ListN.{length};
 ghost use Rattle.inst.specs.Table.{rows};
-ghost use Rattle.legalset.specs.Chain.{view, defs-of, reads-of, Safe};
-ghost use Rattle.legalset.specs.Marks.{own, Passed, Settled};
-ghost use Rattle.legalset.specs.Rules.{forward-ok, backward-ok, cycle-ok};
+ghost use Rattle.legalset.specs.Chain.{view, defs-of, reads-of, Safe, Brief};
+ghost use Rattle.legalset.specs.Marks.{own, Inside, Passed, Settled};
+ghost use Rattle.legalset.specs.Rules.{forward-ok, backward-ok, cycle-ok, pass-ok};
 ghost use Rattle.plan.specs.Passes.{Set-up};
 
 // The summary of the set now, and the pass forward by it.
 fn look_ahead(
-    t: &[u32; 101],
+    t: &[u32; 202],
     recs: &[u32],
     ops: &[u32],
     w: &[u32],
@@ -30,7 +31,7 @@ fn look_ahead(
 {
     words::bits::clear(st);
     keep_writes(t, recs, ops, w, marks, st, n);
-    let mut lasts = [0u32; 10002];
+    let mut lasts = [0u32; 2006];
     keep_memory(w, marks, &mut lasts, n);
     let bar = last_flag(w, marks, n, 8);
     let sus = last_flag(w, marks, n, 16);
@@ -39,7 +40,7 @@ fn look_ahead(
 
 // The pass backward.
 fn look_back(
-    t: &[u32; 101],
+    t: &[u32; 202],
     recs: &[u32],
     ops: &[u32],
     w: &[u32],
@@ -47,16 +48,17 @@ fn look_back(
     marks: &mut [u32; 800],
     n: usize,
 ) -> u32
-    requires { ⌜ (now t ≡ rows) × Safe (now recs) (now ops) (now w) n (length (now st)) × (length (now marks) ≡ 800) ⌝ }
+    requires { ⌜ (now t ≡ rows) × Safe (now recs) (now ops) (now w) n (length (now st)) × Brief (now recs) (now ops) (now w) n × (length (now marks) ≡ 800) ⌝ }
     ensures { λ r. ⌜ Passed (backward-ok (defs-of (now (recs .entry)) (now (w .entry))) (reads-of (now (recs .entry)) (now (ops .entry)) (now (w .entry))) n) 0 n (now (marks .entry)) (now (marks .exit)) r × (length (now (st .exit)) ≡ length (now (st .entry))) ⌝ }
 {
     words::bits::clear(st);
     backward(t, recs, ops, w, st, marks, n)
 }
 
-// Both passes. Says how many members were dropped.
-fn cycle(
-    t: &[u32; 101],
+// The pass forward or the one backward. Says how many members were dropped.
+fn pass(
+    ahead: bool,
+    t: &[u32; 202],
     recs: &[u32],
     ops: &[u32],
     w: &[u32],
@@ -67,16 +69,17 @@ fn cycle(
     n: usize,
 ) -> u32
     requires { ⌜ (now t ≡ rows) × Set-up (now recs) (now ops) (now w) (now regs) (now st) (now marks) m n ⌝ }
-    ensures { λ r. ⌜ Passed (cycle-ok (view (now (recs .entry)) (now (ops .entry)) (now (w .entry)) (now (regs .entry))) n) 0 m (now (marks .entry)) (now (marks .exit)) r × (length (now (st .exit)) ≡ length (now (st .entry))) ⌝ }
+    ensures { λ r. ⌜ Passed (pass-ok (view (now (recs .entry)) (now (ops .entry)) (now (w .entry)) (now (regs .entry))) n ahead) 0 m (now (marks .entry)) (now (marks .exit)) r × (length (now (st .exit)) ≡ length (now (st .entry))) ⌝ }
 {
-    let a = look_ahead(t, recs, ops, w, regs, st, marks, m, n);
-    let b = look_back(t, recs, ops, w, st, marks, n);
-    a + b
+    if ahead {
+        return look_ahead(t, recs, ops, w, regs, st, marks, m, n);
+    }
+    look_back(t, recs, ops, w, st, marks, n)
 }
 
-// The marks become the greatest set within them that keeps the rules.
+// The marks become the greatest set within them that keeps the rules, unless fewer than `least` are left before. Says how many are.
 pub fn settle(
-    t: &[u32; 101],
+    t: &[u32; 202],
     recs: &[u32],
     ops: &[u32],
     w: &[u32],
@@ -85,12 +88,22 @@ pub fn settle(
     marks: &mut [u32; 800],
     m: usize,
     n: usize,
-)
-    requires { ⌜ (now t ≡ rows) × Set-up (now recs) (now ops) (now w) (now regs) (now st) (now marks) m n ⌝ }
-    ensures { λ _. ⌜ Settled (cycle-ok (view (now (recs .entry)) (now (ops .entry)) (now (w .entry)) (now (regs .entry))) n) m (now (marks .entry)) (now (marks .exit)) × (length (now (st .exit)) ≡ length (now (st .entry))) ⌝ }
+    least: u32,
+) -> u32
+    requires { ⌜ (now t ≡ rows) × Set-up (now recs) (now ops) (now w) (now regs) (now st) (now marks) m n × Inside m (now marks) ⌝ }
+    ensures { λ r. ⌜ Settled (cycle-ok (view (now (recs .entry)) (now (ops .entry)) (now (w .entry)) (now (regs .entry))) n) m least (now (marks .entry)) (now (marks .exit)) r × (length (now (st .exit)) ≡ length (now (st .entry))) ⌝ }
 {
-    let mut r = 1u32;
-    while r != 0 {
-        r = cycle(t, recs, ops, w, regs, st, marks, m, n);
+    let mut left = count(marks, m);
+    // `ahead`: the pass that comes next; `quiet`: the last dropped nothing; `done`: nor did the one before.
+    let mut ahead = true;
+    let mut quiet = false;
+    let mut done = false;
+    while !done & (least <= left) {
+        let d = pass(ahead, t, recs, ops, w, regs, st, marks, m, n);
+        left -= d;
+        done = quiet & (d == 0);
+        quiet = d == 0;
+        ahead = !ahead;
     }
+    left
 }

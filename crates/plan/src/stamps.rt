@@ -1,5 +1,6 @@
-// A word a register, in a lent slice: the registers that a record writes, or reads, are stamped with a number. What stood there
-// below `keep` stays beside it.
+// A word a register, in a lent slice: the registers that a position writes, or reads, are stamped with a number. What stood there
+// below `keep` stays beside it. Where word 9 of the position is 0 its own words say which they are, else its record does.
+use crate::chain::cell_at;
 use crate::chain::places;
 use crate::chain::read_place;
 ghost use mathlib.Core.Path.{_≡_};
@@ -7,9 +8,10 @@ ghost use mathlib.Core.Logic.{_⊎_};
 ghost use Prim.Native.Nat.{ℕ, _+_, _%_, _<_, _≤_};
 ghost use lib.ListN.{length};
 ghost use Rattle.model.specs.Picture.{inst, absent, reads, writes};
+ghost use Rattle.inst.specs.Table.{rows};
 ghost use Rattle.inst.specs.Record.{Used};
-ghost use Rattle.legalset.specs.Chain.{Fits, Good};
-ghost use Rattle.plan.specs.Passes.{put-in, Stamped, Beside};
+ghost use Rattle.legalset.specs.Chain.{defs-of, reads-of, Fits, Good};
+ghost use Rattle.plan.specs.Passes.{put-in, Stamped, Beside, Written, Readable};
 
 // Stamps register r, if it is one.
 fn put(st: &mut [u64], r: u32, keep: u64, v: u64)
@@ -22,8 +24,8 @@ fn put(st: &mut [u64], r: u32, keep: u64, v: u64)
     }
 }
 
-// Stamps what record g writes.
-pub fn put_writes(recs: &[u32], g: usize, uses: u32, st: &mut [u64], keep: u64, v: u64)
+// Stamps what record g writes, slot by slot.
+fn put_slots(recs: &[u32], g: usize, uses: u32, st: &mut [u64], keep: u64, v: u64)
     requires { ⌜ Used (now recs) g uses × Fits (now recs) (length (now st)) g × Beside keep v ⌝ }
     ensures { λ _. ⌜ Stamped (writes (inst (now (recs .entry)) g)) keep v (now (st .entry)) (now (st .exit)) ⌝ }
 {
@@ -35,8 +37,29 @@ pub fn put_writes(recs: &[u32], g: usize, uses: u32, st: &mut [u64], keep: u64, 
     }
 }
 
-// Stamps what record g reads.
-pub fn put_reads(ops: &[u32], recs: &[u32], g: usize, uses: u32, st: &mut [u64], keep: u64, v: u64)
+// Stamps what position p writes.
+pub fn put_writes(
+    t: &[u32; 202],
+    recs: &[u32],
+    w: &[u32],
+    p: usize,
+    st: &mut [u64],
+    keep: u64,
+    v: u64,
+)
+    requires { ⌜ (now t ≡ rows) × Written (now recs) (now w) (length (now st)) p × Beside keep v ⌝ }
+    ensures { λ _. ⌜ Stamped (defs-of (now (recs .entry)) (now (w .entry)) p) keep v (now (st .entry)) (now (st .exit)) ⌝ }
+{
+    if cell_at(w, p, 9) == 0 {
+        put(st, cell_at(w, p, 6), keep, v);
+        return;
+    }
+    let g = inst::record::wide(cell_at(w, p, 0));
+    put_slots(recs, g, inst::access::uses(t, recs, g), st, keep, v);
+}
+
+// Stamps what record g reads, place by place.
+fn put_places(ops: &[u32], recs: &[u32], g: usize, uses: u32, st: &mut [u64], keep: u64, v: u64)
     requires { ⌜ Used (now recs) g uses × Good (now recs) (now ops) (length (now st)) g × Beside keep v ⌝ }
     ensures { λ _. ⌜ Stamped (reads (now (ops .entry)) (inst (now (recs .entry)) g)) keep v (now (st .entry)) (now (st .exit)) ⌝ }
 {
@@ -47,4 +70,27 @@ pub fn put_reads(ops: &[u32], recs: &[u32], g: usize, uses: u32, st: &mut [u64],
         put(st, r, keep, v);
         k += 1;
     }
+}
+
+// Stamps what position p reads.
+pub fn put_reads(
+    t: &[u32; 202],
+    ops: &[u32],
+    recs: &[u32],
+    w: &[u32],
+    p: usize,
+    st: &mut [u64],
+    keep: u64,
+    v: u64,
+)
+    requires { ⌜ (now t ≡ rows) × Readable (now recs) (now ops) (now w) (length (now st)) p × Beside keep v ⌝ }
+    ensures { λ _. ⌜ Stamped (reads-of (now (recs .entry)) (now (ops .entry)) (now (w .entry)) p) keep v (now (st .entry)) (now (st .exit)) ⌝ }
+{
+    if cell_at(w, p, 9) == 0 {
+        put(st, cell_at(w, p, 7), keep, v);
+        put(st, cell_at(w, p, 8), keep, v);
+        return;
+    }
+    let g = inst::record::wide(cell_at(w, p, 0));
+    put_places(ops, recs, g, inst::access::uses(t, recs, g), st, keep, v);
 }

@@ -5,39 +5,32 @@ use crate::rules::rule2;
 ghost use mathlib.Core.Path.{_≡_};
 ghost use Prim.Native.Nat.{ℕ, _+_, _*_, _<_, _≤_};
 ghost use lib.Dec.{eqb};
-ghost use lib.ListN.{length};
+ghost use lib.ListN.{length, replicate};
 ghost use Rattle.words.specs.Bits.{is-in};
 ghost use Rattle.words.specs.Lists.{hit};
 ghost use Rattle.inst.specs.Table.{rows};
-ghost use Rattle.legalset.specs.Chain.{cell, view, Safe};
+ghost use Rattle.legalset.specs.Chain.{cell, view, Safe, Brief};
 ghost use Rattle.legalset.specs.Marks.{in-set};
 ghost use Rattle.legalset.specs.Rules.{begins};
-ghost use Rattle.plan.specs.Passes.{begin-test, Ended};
+ghost use Rattle.plan.specs.Passes.{begin-test, Ended, Written};
 
-// Does position p begin in the set?
+// Does position p, which is in x, begin in the set?
 fn begins_in(
-    t: &[u32; 101],
+    t: &[u32; 202],
     recs: &[u32],
-    ops: &[u32],
     w: &[u32],
     regs: &[u32],
     bits: &[u64],
     o: usize,
     p: usize,
-    m: usize,
-    n: usize,
 ) -> bool
-    requires { ⌜ (now t ≡ rows) × Safe (now recs) (now ops) (now w) n (length (now regs)) × (m ≤ n) × (o ≤ length (now bits)) ⌝ }
-    ensures { λ b. ⌜ b ≡ begin-test (now (recs .entry)) (now (w .entry)) (now (regs .entry)) (now (bits .entry)) o m p ⌝ }
+    requires { ⌜ (now t ≡ rows) × Written (now recs) (now w) (length (now regs)) p × (p < 800) × (o ≤ length (now bits)) ⌝ }
+    ensures { λ b. ⌜ b ≡ begin-test (now (recs .entry)) (now (w .entry)) (now (regs .entry)) (now (bits .entry)) o p ⌝ }
 {
-    if m <= p {
-        return false;
-    }
     if cell_at(w, p, 1) != 1 {
         return false;
     }
-    let g = inst::record::wide(cell_at(w, p, 0));
-    rule2(recs, g, inst::access::uses(t, recs, g), regs, bits, o, p)
+    rule2(t, recs, w, regs, bits, o, p)
 }
 
 fn one(b: bool) -> u32
@@ -49,9 +42,9 @@ fn one(b: bool) -> u32
     0
 }
 
-// The marks of all positions.
+// The marks of all positions, all 0 before: those in x that begin in the set.
 pub fn start(
-    t: &[u32; 101],
+    t: &[u32; 202],
     recs: &[u32],
     ops: &[u32],
     w: &[u32],
@@ -62,12 +55,12 @@ pub fn start(
     m: usize,
     n: usize,
 )
-    requires { ⌜ (now t ≡ rows) × Safe (now recs) (now ops) (now w) n (length (now regs)) × (m ≤ n) × (length (now marks) ≡ 800) × Ended (now recs) (now w) n (now regs) × (o ≤ length (now bits)) ⌝ }
+    requires { ⌜ (now t ≡ rows) × Safe (now recs) (now ops) (now w) n (length (now regs)) × Brief (now recs) (now ops) (now w) n × (m ≤ n) × (now marks ≡ replicate 800 0) × Ended (now recs) (now w) n (now regs) × (o ≤ length (now bits)) ⌝ }
     ensures { λ _. ⌜ (length (now (marks .exit)) ≡ 800) × ((p : ℕ) → in-set (now (marks .exit)) p ≡ begins (view (now (recs .entry)) (now (ops .entry)) (now (w .entry)) (now (regs .entry))) n (λ q. eqb (cell (now (w .entry)) q 1) 1) m (λ r. is-in (now (bits .entry)) (64 * o + r)) p) ⌝ }
 {
     let mut p = 0usize;
-    while p < 800 {
-        marks[p] = one(begins_in(t, recs, ops, w, regs, bits, o, p, m, n));
+    while p < m {
+        marks[p] = one(begins_in(t, recs, w, regs, bits, o, p));
         p += 1;
     }
 }

@@ -8,14 +8,14 @@ ghost use mathlib.Core.Bool.{not, _&&_};
 ghost use Prim.Native.Nat.{ℕ, _+_, _*_, _<_, _≤_};
 ghost use lib.ListN.{length, getD, replicate};
 ghost use Rattle.inst.specs.Table.{rows};
-ghost use Rattle.legalset.specs.Chain.{cell, flag, defs-of, Safe};
+ghost use Rattle.legalset.specs.Chain.{cell, flag, defs-of, Safe, Brief};
 ghost use Rattle.legalset.specs.Marks.{in-set};
 ghost use Rattle.legalset.specs.Rules.{last-kept};
 ghost use Rattle.plan.specs.Passes.{Stamps, Writes, Kept-stamped, wrote-in};
 
 // Stamps what position q writes, if it is kept.
 fn keep_one(
-    t: &[u32; 101],
+    t: &[u32; 202],
     recs: &[u32],
     ops: &[u32],
     w: &[u32],
@@ -24,20 +24,18 @@ fn keep_one(
     n: usize,
     q: usize,
 )
-    requires { ⌜ (now t ≡ rows) × Safe (now recs) (now ops) (now w) n (length (now st)) × (length (now marks) ≡ 800) × (q < n) ⌝ }
+    requires { ⌜ (now t ≡ rows) × Safe (now recs) (now ops) (now w) n (length (now st)) × Brief (now recs) (now ops) (now w) n × (length (now marks) ≡ 800) × (q < n) ⌝ }
     ensures { λ _. ⌜ Kept-stamped (defs-of (now (recs .entry)) (now (w .entry))) (in-set (now (marks .entry))) q (now (st .entry)) (now (st .exit)) ⌝ }
 {
     if marked(marks, q) {
         return;
     }
-    let g = inst::record::wide(cell_at(w, q, 0));
-    let u = inst::access::uses(t, recs, g);
-    put_writes(recs, g, u, st, 1, q as u64 + 1);
+    put_writes(t, recs, w, q, st, 1, q as u64 + 1);
 }
 
 // Each register's last kept writer.
 pub fn keep_writes(
-    t: &[u32; 101],
+    t: &[u32; 202],
     recs: &[u32],
     ops: &[u32],
     w: &[u32],
@@ -45,7 +43,7 @@ pub fn keep_writes(
     st: &mut [u64],
     n: usize,
 )
-    requires { ⌜ (now t ≡ rows) × Safe (now recs) (now ops) (now w) n (length (now st)) × (length (now marks) ≡ 800) × (now st ≡ replicate (length (now st)) 0) ⌝ }
+    requires { ⌜ (now t ≡ rows) × Safe (now recs) (now ops) (now w) n (length (now st)) × Brief (now recs) (now ops) (now w) n × (length (now marks) ≡ 800) × (now st ≡ replicate (length (now st)) 0) ⌝ }
     ensures { λ _. ⌜ (length (now (st .exit)) ≡ length (now (st .entry))) × Stamps (defs-of (now (recs .entry)) (now (w .entry))) (in-set (now (marks .entry))) n 0 (now (st .exit)) ⌝ }
 {
     let mut q = 0usize;
@@ -56,8 +54,8 @@ pub fn keep_writes(
 }
 
 // Notes the memory that position q writes, if it is kept.
-fn note_one(w: &[u32], marks: &[u32; 800], lasts: &mut [u32; 10002], q: usize)
-    requires { ⌜ (10 * q + 10 ≤ length (now w)) × (q < 800) × (length (now marks) ≡ 800) × (cell (now w) q 4 ≤ 10000) ⌝ }
+fn note_one(w: &[u32], marks: &[u32; 800], lasts: &mut [u32; 2006], q: usize)
+    requires { ⌜ (10 * q + 10 ≤ length (now w)) × (q < 800) × (length (now marks) ≡ 800) × (cell (now w) q 4 ≤ 2004) ⌝ }
     ensures { λ _. ⌜ now (lasts .exit) ≡ wrote-in (in-set (now (marks .entry)) q) (cell (now (w .entry)) q 4) q (now (lasts .entry)) ⌝ }
 {
     if marked(marks, q) {
@@ -68,8 +66,8 @@ fn note_one(w: &[u32], marks: &[u32; 800], lasts: &mut [u32; 10002], q: usize)
 }
 
 // The last kept write of each origin.
-pub fn keep_memory(w: &[u32], marks: &[u32; 800], lasts: &mut [u32; 10002], n: usize)
-    requires { ⌜ (10 * n ≤ length (now w)) × (n ≤ 800) × (length (now marks) ≡ 800) × (length (now lasts) ≡ 10002) × ((p : ℕ) → p < n → cell (now w) p 4 ≤ 10000) × ((o : ℕ) → getD (now lasts) o 0 ≡ 0) ⌝ }
+pub fn keep_memory(w: &[u32], marks: &[u32; 800], lasts: &mut [u32; 2006], n: usize)
+    requires { ⌜ (10 * n ≤ length (now w)) × (n ≤ 800) × (length (now marks) ≡ 800) × (length (now lasts) ≡ 2006) × ((p : ℕ) → p < n → cell (now w) p 4 ≤ 2004) × ((o : ℕ) → getD (now lasts) o 0 ≡ 0) ⌝ }
     ensures { λ _. ⌜ Writes (λ q. cell (now (w .entry)) q 4) (in-set (now (marks .entry))) n (now (lasts .exit)) ⌝ }
 {
     let mut q = 0usize;

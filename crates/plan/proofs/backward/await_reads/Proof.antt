@@ -13,7 +13,7 @@ returns : tie.Need-returns
 returns c = awaited-none _ _ _ _ (c .before .marked .ensures) (c .if1 .taken)
 
 put-reads-requires : tie.Need-put-reads-requires
-put-reads-requires c κs = search needs
+put-reads-requires c κs = (c .before .before .before .before .before .before .before .pre .0, c .before .before .before .before .before .before .before .pre .1, whole-stamp _ (omega arith))
 
 same-length : tie.Need-same-length
 same-length c = search needs

@@ -16,16 +16,16 @@ abbrev μ-loop : tie.MeasureT-loop
 μ-loop t recs ops w st₀ marks₀ n r₀ q₀ st marks r q = q
 
 loop-holds : tie.Need-loop-holds Inv-loop μ-loop
-loop-holds c = (omega arith, backing-none _ _ _ _ _ _ (c .before .before .before .before .pre .3))
+loop-holds c = (omega arith, backing-none _ _ _ _ _ _ (c .before .before .before .before .pre .4))
 
 sub-back : tie.Need-sub-back Inv-loop μ-loop
 sub-back c = search needs
 
 back-requires : tie.Need-back-requires Inv-loop μ-loop
-back-requires c κs = let i = c .before .before .before .loop .inv .1 in let h = c .before .before .loop-test .taken in (c .before .before .before .before .before .before .before .before .pre .0, safe-len (c .before .before .before .before .before .before .before .before .pre .1) (i .size), i .passed .size ∙ c .before .before .before .before .before .before .before .before .pre .2, omega (arith, c .before .before .before .loop .inv .0))
+back-requires c κs = let i = c .before .before .before .loop .inv .1 in let h = c .before .before .loop-test .taken in (c .before .before .before .before .before .before .before .before .pre .0, safe-len (c .before .before .before .before .before .before .before .before .pre .1) (i .size), c .before .before .before .before .before .before .before .before .pre .2, i .passed .size ∙ c .before .before .before .before .before .before .before .before .pre .3, omega (arith, c .before .before .before .loop .inv .0))
 
 add-r : tie.Need-add-r Inv-loop μ-loop
-add-r c = omega (arith, passed-low (c .before .before .before .before .before .before .loop .inv .1 .passed) (c .before .before .before .before .before .before .before .before .before .before .before .pre .2), lost-low _ _ _ (c .before .before .back .ensures .loses))
+add-r c = omega (arith, passed-low (c .before .before .before .before .before .before .loop .inv .1 .passed) (c .before .before .before .before .before .before .before .before .before .before .before .pre .3), lost-low _ _ _ (c .before .before .back .ensures .loses))
 
 sub-q : tie.Need-sub-q Inv-loop μ-loop
 sub-q c = search needs

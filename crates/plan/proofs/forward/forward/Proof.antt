@@ -16,13 +16,13 @@ abbrev μ-loop : tie.MeasureT-loop
 μ-loop t recs ops w regs lasts st₀ marks₀ sus bar m n r₀ p₀ st marks r p = m - p
 
 loop-holds : tie.Need-loop-holds Inv-loop μ-loop
-loop-holds c = (omega arith, going-none (c .before .before .before .before .before .pre .5))
+loop-holds c = (omega arith, going-none (c .before .before .before .before .before .pre .6))
 
 step-requires : tie.Need-step-requires Inv-loop μ-loop
-step-requires c κs = let i = c .before .before .before .loop .inv .1 in let h = c .before .before .loop-test .taken in (c .before .before .before .before .before .before .before .before .before .pre .0, safe-len (c .before .before .before .before .before .before .before .before .before .pre .1) (i .size), c .before .before .before .before .before .before .before .before .before .pre .2 ∙ sym (i .size), going-near (c .before .before .before .before .before .before .before .before .before .pre .1) (omega (arith, c .before .before .before .before .before .before .before .before .before .pre .3)) (c .before .before .before .before .before .before .before .before .before .pre .5) i, omega (arith, c .before .before .before .before .before .before .before .before .before .pre .3), i .passed .size ∙ c .before .before .before .before .before .before .before .before .before .pre .4)
+step-requires c κs = let i = c .before .before .before .loop .inv .1 in let h = c .before .before .loop-test .taken in (c .before .before .before .before .before .before .before .before .before .pre .0, safe-len (c .before .before .before .before .before .before .before .before .before .pre .1) (i .size), c .before .before .before .before .before .before .before .before .before .pre .2, c .before .before .before .before .before .before .before .before .before .pre .3 ∙ sym (i .size), going-near (c .before .before .before .before .before .before .before .before .before .pre .1) (omega (arith, c .before .before .before .before .before .before .before .before .before .pre .4)) (c .before .before .before .before .before .before .before .before .before .pre .6) i, omega (arith, c .before .before .before .before .before .before .before .before .before .pre .4), i .passed .size ∙ c .before .before .before .before .before .before .before .before .before .pre .5)
 
 add-r : tie.Need-add-r Inv-loop μ-loop
-add-r c = omega (arith, passed-low (c .before .before .before .before .before .before .loop .inv .1 .passed) (c .before .before .before .before .before .before .before .before .before .before .before .before .pre .4), lost-low _ _ _ (c .before .before .step .ensures .loses))
+add-r c = omega (arith, passed-low (c .before .before .before .before .before .before .loop .inv .1 .passed) (c .before .before .before .before .before .before .before .before .before .before .before .before .pre .5), lost-low _ _ _ (c .before .before .step .ensures .loses))
 
 add-p : tie.Need-add-p Inv-loop μ-loop
 add-p c = search needs
@@ -31,7 +31,7 @@ loop-less : tie.Need-loop-less Inv-loop μ-loop
 loop-less c = search needs
 
 loop-again : tie.Need-loop-again Inv-loop μ-loop
-loop-again c = (omega arith, going-more (c .before .before .before .before .before .before .before .before .before .before .before .before .pre .1) (omega (arith, c .before .before .before .before .before .before .before .before .before .before .before .before .pre .3, c .before .before .before .before .before .loop-test .taken)) (c .before .before .before .before .before .before .before .before .before .before .before .before .pre .5) (c .before .before .before .before .before .before .loop .inv .1) (c .before .before .step .ensures))
+loop-again c = (omega arith, going-more (c .before .before .before .before .before .before .before .before .before .before .before .before .pre .1) (omega (arith, c .before .before .before .before .before .before .before .before .before .before .before .before .pre .4, c .before .before .before .before .before .loop-test .taken)) (c .before .before .before .before .before .before .before .before .before .before .before .before .pre .6) (c .before .before .before .before .before .before .loop .inv .1) (c .before .before .step .ensures))
 
 same-length : tie.Need-same-length Inv-loop μ-loop
 same-length c = c .before .loop .inv .1 .size

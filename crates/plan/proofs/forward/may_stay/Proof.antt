@@ -8,13 +8,13 @@ marked-requires : tie.Need-marked-requires
 marked-requires c κs = search needs
 
 returns : tie.Need-returns
-returns c = skipped _ _ _ _ _ _ _ _ _ _ _ (c .before .marked .ensures) (c .if1 .taken)
+returns c = skipped _ _ _ (c .before .marked .ensures) (c .if1 .taken)
 
 stays-requires : tie.Need-stays-requires
 stays-requires c κs = search needs
 
 returns-2 : tie.Need-returns-2
-returns-2 c = asked _ _ _ _ _ _ _ _ _ _ _ (c .before .before .marked .ensures) (c .before .if1 .left) (c .stays .ensures)
+returns-2 c = asked _ _ _ (c .before .before .marked .ensures) (c .before .if1 .left) (c .stays .ensures)
 
 pub may-stay-spec : {M : Type 1} → statement M
 may-stay-spec = tie.close (tie.spec marked-requires returns stays-requires returns-2)

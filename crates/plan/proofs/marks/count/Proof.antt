@@ -5,15 +5,15 @@ use mathlib.Core.Path.{_≡_, refl, sym}
 use lib.ListN.{length, take}
 use native.Mathlib.Omega.{arith}
 use Rattle.legalset.specs.Marks.{members}
-use Rattle.plan.proofs.Marking.{members-next, members-all, members-few}
+use Rattle.plan.proofs.Marking.{members-next, members-inside, members-few}
 use Rattle.plan.proofs.marks.count.Statement.{statement}
 use Rattle.plan.proofs.marks.count.Tie as tie
 
 abbrev Inv-loop : tie.InvT-loop
-Inv-loop marks n₀ p₀ n p = (p ≤ 800) × (n ≡ members (take p marks))
+Inv-loop marks m n₀ p₀ n p = (p ≤ m) × (n ≡ members (take p marks))
 
 abbrev μ-loop : tie.MeasureT-loop
-μ-loop marks n₀ p₀ n p = 800 - p
+μ-loop marks m n₀ p₀ n p = m - p
 
 loop-holds : tie.Need-loop-holds Inv-loop μ-loop
 unfolding members
@@ -41,7 +41,7 @@ loop-again : tie.Need-loop-again Inv-loop μ-loop
 loop-again c = (omega arith, members-next (c .before .before .before .before .args .marks .now) (c .before .before .before .loop .p) (omega arith) (c .before .before .before .loop .inv .1) (c .one .ensures .0))
 
 returns : tie.Need-returns Inv-loop μ-loop
-returns c = members-all (c .before .before .args .marks .now) (c .before .loop .p) (omega arith) (c .before .loop .inv .1)
+returns c = members-inside (c .before .before .args .marks .now) (c .before .loop .p) (c .before .before .pre .2) (omega arith) (c .before .loop .inv .1)
 
 pub count-spec : {M : Type 1} → statement M
 count-spec =

@@ -1,61 +1,49 @@
 -- `plan::rules::rule1` meets its contract. Assumes nothing.
-use borrow.Author.Needs.{needs}
-use mathlib.Core.Path.{_≡_, refl, sym, ap, _∙_}
-use mathlib.Core.Bool.{Bool, true, _||_}
-use Prim.Native.Nat.{ℕ, _≤_, _-_}
+use Prim.Native.Nat.{ℕ}
 use lib.Dec.{eqb}
 use lib.ListN.{getD}
-use native.Mathlib.Omega.{arith}
-use Rattle.words.specs.Lists.{all, upto}
-use Rattle.words.proofs.Alls.{loop-no, loop-on, loop-yes}
-use Rattle.model.specs.Picture.{inst, absent}
-use Rattle.inst.specs.Record.{write-at}
-use Rattle.plan.proofs.Places.{slot-low}
-use Rattle.plan.proofs.Backing.{writes-all}
+use Rattle.plan.proofs.Wording.{known-at, slots-at, slots-tested, word-low, word-tested}
+use borrow.Author.Needs.{needs}
 use Rattle.plan.proofs.rules.rule1.Statement.{statement}
 use Rattle.plan.proofs.rules.rule1.Tie as tie
 
-abbrev Inv-loop : tie.InvT-loop
-Inv-loop recs g uses st s₀ s = (s ≤ 5) × (all (λ (k : ℕ). eqb (write-at (inst recs g) k) absent || eqb (getD st (write-at (inst recs g) k) 0) 0) (upto s) ≡ true)
+cell-at-requires : tie.Need-cell-at-requires
+cell-at-requires c κs = search needs
 
-abbrev μ-loop : tie.MeasureT-loop
-μ-loop recs g uses st s₀ s = 5 - s
+cell-at-requires-2 : tie.Need-cell-at-requires-2
+cell-at-requires-2 c κs = search needs
 
-loop-holds : tie.Need-loop-holds Inv-loop μ-loop
-loop-holds c = (omega arith, refl)
+free-requires : tie.Need-free-requires
+free-requires c κs = word-low (c .before .before .before .before .before .before .pre .1) (c .before .before .cell-at .ensures) (c .before .if1 .taken) (c .cell-at2 .ensures)
 
-write-at-requires : tie.Need-write-at-requires Inv-loop μ-loop
-write-at-requires c κs = search needs
+returns : tie.Need-returns
+returns c = word-tested (c .before .before .before .before .before .before .before .pre .1) (c .before .before .before .cell-at .ensures) (c .before .before .if1 .taken) (c .before .cell-at2 .ensures) (λ (x : ℕ). eqb (getD (c .before .before .before .before .before .before .before .args .st .now) x 0) 0) (c .free .ensures)
 
-free-requires : tie.Need-free-requires Inv-loop μ-loop
-free-requires c κs = slot-low (c .before .before .before .before .before .args .st .now) (c .before .before .before .before .before .pre .1) refl (c .before .loop-test .taken) (c .write-at .ensures)
+cell-at-requires-3 : tie.Need-cell-at-requires-3
+cell-at-requires-3 c κs = search needs
 
-returns : tie.Need-returns Inv-loop μ-loop
-returns c = loop-no (λ (k : ℕ). eqb (write-at (inst (c .before .before .before .before .before .before .before .args .recs .now) (c .before .before .before .before .before .before .before .args .g)) k) absent || eqb (getD (c .before .before .before .before .before .before .before .args .st .now) (write-at (inst (c .before .before .before .before .before .before .before .args .recs .now) (c .before .before .before .before .before .before .before .args .g)) k) 0) 0) (c .before .before .before .loop-test .taken) (c .before .free .ensures ∙ ap (λ (r : ℕ). eqb r absent || eqb (getD (c .before .before .before .before .before .before .before .args .st .now) r 0) 0) (c .before .before .write-at .ensures)) (c .if1 .taken) ∙ writes-all (c .before .before .before .before .before .before .before .args .st .now) (c .before .before .before .before .before .before .before .pre .1)
+wide-requires : tie.Need-wide-requires
+wide-requires c κs = search needs
 
-add-s : tie.Need-add-s Inv-loop μ-loop
-add-s c = search needs
+uses-requires : tie.Need-uses-requires
+uses-requires c κs = (c .before .before .before .before .before .before .before .pre .0, known-at (c .before .before .before .before .before .before .before .pre .1) (c .before .cell-at3 .ensures) (c .wide .ensures))
 
-loop-less : tie.Need-loop-less Inv-loop μ-loop
-loop-less c = search needs
+free-slots-requires : tie.Need-free-slots-requires
+free-slots-requires c κs = slots-at (c .before .before .before .before .before .before .before .before .pre .1) (c .before .before .cell-at3 .ensures) (c .before .wide .ensures) (c .uses .ensures)
 
-loop-again : tie.Need-loop-again Inv-loop μ-loop
-loop-again c = (omega arith, loop-on (λ (k : ℕ). eqb (write-at (inst (c .before .before .before .before .before .before .before .args .recs .now) (c .before .before .before .before .before .before .before .args .g)) k) absent || eqb (getD (c .before .before .before .before .before .before .before .args .st .now) (write-at (inst (c .before .before .before .before .before .before .before .args .recs .now) (c .before .before .before .before .before .before .before .args .g)) k) 0) 0) (c .before .before .before .before .loop .inv .1) (c .before .free .ensures ∙ ap (λ (r : ℕ). eqb r absent || eqb (getD (c .before .before .before .before .before .before .before .args .st .now) r 0) 0) (c .before .before .write-at .ensures)) (c .if1 .left))
-
-returns-2 : tie.Need-returns-2 Inv-loop μ-loop
-returns-2 c = loop-yes (λ (k : ℕ). eqb (write-at (inst (c .before .before .before .before .args .recs .now) (c .before .before .before .before .args .g)) k) absent || eqb (getD (c .before .before .before .before .args .st .now) (write-at (inst (c .before .before .before .before .args .recs .now) (c .before .before .before .before .args .g)) k) 0) 0) (c .before .loop .inv .0) (c .loop-test .left) (c .before .loop .inv .1) ∙ writes-all (c .before .before .before .before .args .st .now) (c .before .before .before .before .pre .1)
+returns-2 : tie.Need-returns-2
+returns-2 c = slots-tested (c .before .before .before .before .before .before .before .before .before .pre .1) (λ (x : ℕ). eqb (getD (c .before .before .before .before .before .before .before .before .before .args .st .now) x 0) 0) (c .before .before .before .cell-at3 .ensures) (c .before .before .wide .ensures) (c .free-slots .ensures)
 
 pub rule1-spec : {M : Type 1} → statement M
 rule1-spec =
     tie.close
     (tie.spec
-    Inv-loop
-    μ-loop
-    loop-holds
-    write-at-requires
+    cell-at-requires
+    cell-at-requires-2
     free-requires
     returns
-    add-s
-    loop-less
-    loop-again
+    cell-at-requires-3
+    wide-requires
+    uses-requires
+    free-slots-requires
     returns-2)

@@ -1,61 +1,47 @@
 -- `plan::rules::rule2` meets its contract. Assumes nothing.
-use borrow.Author.Needs.{needs}
-use mathlib.Core.Path.{_≡_, refl, sym, ap, _∙_}
-use mathlib.Core.Bool.{Bool, true, _||_}
-use Prim.Native.Nat.{ℕ, _≤_, _-_}
-use lib.Dec.{eqb}
-use native.Mathlib.Omega.{arith}
-use Rattle.words.specs.Lists.{all, upto}
-use Rattle.words.proofs.Alls.{loop-no, loop-on, loop-yes}
-use Rattle.model.specs.Picture.{inst, absent}
-use Rattle.inst.specs.Record.{write-at}
 use Rattle.plan.specs.Passes.{result-test}
-use Rattle.plan.proofs.Places.{slot-low}
-use Rattle.plan.proofs.Starting.{writes-tested}
+use Rattle.plan.proofs.Wording.{known-at, slots-at, slots-tested, word-low, word-tested}
+use borrow.Author.Needs.{needs}
 use Rattle.plan.proofs.rules.rule2.Statement.{statement}
 use Rattle.plan.proofs.rules.rule2.Tie as tie
 
-abbrev Inv-loop : tie.InvT-loop
-Inv-loop recs g uses regs bits o p s₀ s = (s ≤ 5) × (all (λ (k : ℕ). eqb (write-at (inst recs g) k) absent || result-test regs bits o p (write-at (inst recs g) k)) (upto s) ≡ true)
+cell-at-requires : tie.Need-cell-at-requires
+cell-at-requires c κs = search needs
 
-abbrev μ-loop : tie.MeasureT-loop
-μ-loop recs g uses regs bits o p s₀ s = 5 - s
+cell-at-requires-2 : tie.Need-cell-at-requires-2
+cell-at-requires-2 c κs = search needs
 
-loop-holds : tie.Need-loop-holds Inv-loop μ-loop
-loop-holds c = (omega arith, refl)
+unneeded-requires : tie.Need-unneeded-requires
+unneeded-requires c κs = (word-low (c .before .before .before .before .before .before .before .pre .1) (c .before .before .cell-at .ensures) (c .before .if1 .taken) (c .cell-at2 .ensures), c .before .before .before .before .before .before .before .pre .2, c .before .before .before .before .before .before .before .pre .3)
 
-write-at-requires : tie.Need-write-at-requires Inv-loop μ-loop
-write-at-requires c κs = search needs
+returns : tie.Need-returns
+returns c = let a = c .before .before .before .before .before .before .before .before .args in word-tested (c .before .before .before .before .before .before .before .before .pre .1) (c .before .before .before .cell-at .ensures) (c .before .before .if1 .taken) (c .before .cell-at2 .ensures) (result-test (a .regs .now) (a .bits .now) (a .o) (a .p)) (c .unneeded .ensures)
 
-unneeded-requires : tie.Need-unneeded-requires Inv-loop μ-loop
-unneeded-requires c κs = (slot-low (c .before .before .before .before .before .before .args .regs .now) (c .before .before .before .before .before .before .pre .1) refl (c .before .loop-test .taken) (c .write-at .ensures), c .before .before .before .before .before .before .pre .2, c .before .before .before .before .before .before .pre .3)
+cell-at-requires-3 : tie.Need-cell-at-requires-3
+cell-at-requires-3 c κs = search needs
 
-returns : tie.Need-returns Inv-loop μ-loop
-returns c = let a = c .before .before .before .before .before .before .before .before .args in loop-no (λ (k : ℕ). eqb (write-at (inst (a .recs .now) (a .g)) k) absent || result-test (a .regs .now) (a .bits .now) (a .o) (a .p) (write-at (inst (a .recs .now) (a .g)) k)) (c .before .before .before .loop-test .taken) (c .before .unneeded .ensures ∙ ap (λ (r : ℕ). eqb r absent || result-test (a .regs .now) (a .bits .now) (a .o) (a .p) r) (c .before .before .write-at .ensures)) (c .if1 .taken) ∙ writes-tested (result-test (a .regs .now) (a .bits .now) (a .o) (a .p)) (c .before .before .before .before .before .before .before .before .pre .1)
+wide-requires : tie.Need-wide-requires
+wide-requires c κs = search needs
 
-add-s : tie.Need-add-s Inv-loop μ-loop
-add-s c = search needs
+uses-requires : tie.Need-uses-requires
+uses-requires c κs = (c .before .before .before .before .before .before .before .before .pre .0, known-at (c .before .before .before .before .before .before .before .before .pre .1) (c .before .cell-at3 .ensures) (c .wide .ensures))
 
-loop-less : tie.Need-loop-less Inv-loop μ-loop
-loop-less c = search needs
+unneeded-slots-requires : tie.Need-unneeded-slots-requires
+unneeded-slots-requires c κs = let k = slots-at (c .before .before .before .before .before .before .before .before .before .pre .1) (c .before .before .cell-at3 .ensures) (c .before .wide .ensures) (c .uses .ensures) in (k .0, k .1, c .before .before .before .before .before .before .before .before .before .pre .2, c .before .before .before .before .before .before .before .before .before .pre .3)
 
-loop-again : tie.Need-loop-again Inv-loop μ-loop
-loop-again c = let a = c .before .before .before .before .before .before .before .before .args in (omega arith, loop-on (λ (k : ℕ). eqb (write-at (inst (a .recs .now) (a .g)) k) absent || result-test (a .regs .now) (a .bits .now) (a .o) (a .p) (write-at (inst (a .recs .now) (a .g)) k)) (c .before .before .before .before .loop .inv .1) (c .before .unneeded .ensures ∙ ap (λ (r : ℕ). eqb r absent || result-test (a .regs .now) (a .bits .now) (a .o) (a .p) r) (c .before .before .write-at .ensures)) (c .if1 .left))
-
-returns-2 : tie.Need-returns-2 Inv-loop μ-loop
-returns-2 c = let a = c .before .before .before .before .before .args in loop-yes (λ (k : ℕ). eqb (write-at (inst (a .recs .now) (a .g)) k) absent || result-test (a .regs .now) (a .bits .now) (a .o) (a .p) (write-at (inst (a .recs .now) (a .g)) k)) (c .before .loop .inv .0) (c .loop-test .left) (c .before .loop .inv .1) ∙ writes-tested (result-test (a .regs .now) (a .bits .now) (a .o) (a .p)) (c .before .before .before .before .before .pre .1)
+returns-2 : tie.Need-returns-2
+returns-2 c = let a = c .before .before .before .before .before .before .before .before .before .before .args in slots-tested (c .before .before .before .before .before .before .before .before .before .before .pre .1) (result-test (a .regs .now) (a .bits .now) (a .o) (a .p)) (c .before .before .before .cell-at3 .ensures) (c .before .before .wide .ensures) (c .unneeded-slots .ensures)
 
 pub rule2-spec : {M : Type 1} → statement M
 rule2-spec =
     tie.close
     (tie.spec
-    Inv-loop
-    μ-loop
-    loop-holds
-    write-at-requires
+    cell-at-requires
+    cell-at-requires-2
     unneeded-requires
     returns
-    add-s
-    loop-less
-    loop-again
+    cell-at-requires-3
+    wide-requires
+    uses-requires
+    unneeded-slots-requires
     returns-2)

@@ -1,64 +1,58 @@
 -- `plan::rules::rule3` meets its contract. Assumes nothing.
-use borrow.Author.Needs.{needs}
-use mathlib.Core.Path.{_≡_, refl, sym, _∙_}
-use mathlib.Core.Bool.{true}
-use Prim.Native.Nat.{ℕ, _≤_, _-_}
 use native.Mathlib.Omega.{arith}
-use Rattle.words.specs.Lists.{all, upto}
-use Rattle.words.proofs.Alls.{loop-no, loop-on, loop-yes}
-use Rattle.model.specs.Picture.{inst}
-use Rattle.plan.specs.Passes.{read-place, place-test}
-use Rattle.plan.proofs.Places.{place-low}
-use Rattle.plan.proofs.Testing.{reads-all}
-use mathlib.Core.Path.{ap}
+use Rattle.plan.specs.Passes.{read-test}
+use Rattle.plan.proofs.Testing.{place-is}
+use Rattle.plan.proofs.Summing.{good-of}
+use Rattle.plan.proofs.Wording.{places-at, places-tested, words-low, words-tested}
+use borrow.Author.Needs.{needs}
 use Rattle.plan.proofs.rules.rule3.Statement.{statement}
 use Rattle.plan.proofs.rules.rule3.Tie as tie
 
-abbrev Inv-loop : tie.InvT-loop
-Inv-loop ops recs g uses st marks p n k₀ k = (k ≤ n) × (all (λ (j : ℕ). place-test st marks p (read-place ops (inst recs g) j)) (upto k) ≡ true)
+cell-at-requires : tie.Need-cell-at-requires
+cell-at-requires c κs = search needs
 
-abbrev μ-loop : tie.MeasureT-loop
-μ-loop ops recs g uses st marks p n k₀ k = n - k
+cell-at-requires-2 : tie.Need-cell-at-requires-2
+cell-at-requires-2 c κs = search needs
 
-places-requires : tie.Need-places-requires Inv-loop μ-loop
-places-requires c κs = search needs
+read-ok-requires : tie.Need-read-ok-requires
+read-ok-requires c κs = (words-low (c .before .before .before .before .before .before .before .pre .1) (c .before .before .cell-at .ensures) (c .before .if1 .taken) 0 (omega arith) (c .cell-at2 .ensures), c .before .before .before .before .before .before .before .pre .2, c .before .before .before .before .before .before .before .pre .3)
 
-loop-holds : tie.Need-loop-holds Inv-loop μ-loop
-loop-holds c = (omega arith, refl)
+cell-at-requires-3 : tie.Need-cell-at-requires-3
+cell-at-requires-3 c κs = search needs
 
-read-place-requires : tie.Need-read-place-requires Inv-loop μ-loop
-read-place-requires c κs = (c .before .before .before .before .before .before .pre .0, c .before .before .before .before .before .before .pre .1 .listed, omega (arith, c .before .before .places .ensures))
+read-ok-requires-2 : tie.Need-read-ok-requires-2
+read-ok-requires-2 c κs = (words-low (c .before .before .before .before .before .before .before .before .before .pre .1) (c .before .before .before .before .cell-at .ensures) (c .before .before .before .if1 .taken) 1 (omega arith) (c .cell-at3 .ensures), c .before .before .before .before .before .before .before .before .before .pre .2, c .before .before .before .before .before .before .before .before .before .pre .3)
 
-read-ok-requires : tie.Need-read-ok-requires Inv-loop μ-loop
-read-ok-requires c κs = (place-low (c .before .before .before .before .before .before .before .args .st .now) (c .before .before .before .before .before .before .before .pre .1) refl (c .before .before .before .places .ensures) (c .before .loop-test .taken) (c .read-place .ensures), c .before .before .before .before .before .before .before .pre .2, c .before .before .before .before .before .before .before .pre .3)
+returns : tie.Need-returns
+returns c = let a = c .before .before .before .before .before .before .before .before .before .before .args in words-tested (c .before .before .before .before .before .before .before .before .before .before .pre .1) (c .before .before .before .before .before .cell-at .ensures) (c .before .before .before .before .if1 .taken) (read-test (a .st .now) (a .marks .now) (a .p)) (c .before .before .before .cell-at2 .ensures) (place-is _ _ _ _ (c .before .before .read-ok .ensures)) (c .before .cell-at3 .ensures) (place-is _ _ _ _ (c .read-ok2 .ensures))
 
-returns : tie.Need-returns Inv-loop μ-loop
-returns c = loop-no (λ (j : ℕ). place-test (c .before .before .before .before .before .before .before .before .before .args .st .now) (c .before .before .before .before .before .before .before .before .before .args .marks .now) (c .before .before .before .before .before .before .before .before .before .args .p) (read-place (c .before .before .before .before .before .before .before .before .before .args .ops .now) (inst (c .before .before .before .before .before .before .before .before .before .args .recs .now) (c .before .before .before .before .before .before .before .before .before .args .g)) j)) (c .before .before .before .loop-test .taken) (c .before .read-ok .ensures ∙ ap (place-test (c .before .before .before .before .before .before .before .before .before .args .st .now) (c .before .before .before .before .before .before .before .before .before .args .marks .now) (c .before .before .before .before .before .before .before .before .before .args .p)) (c .before .before .read-place .ensures)) (c .if1 .taken) ∙ reads-all _ _ _ (c .before .before .before .before .before .before .before .before .before .pre .1) (c .before .before .before .before .before .places .ensures)
+cell-at-requires-4 : tie.Need-cell-at-requires-4
+cell-at-requires-4 c κs = search needs
 
-add-k : tie.Need-add-k Inv-loop μ-loop
-add-k c = search needs
+wide-requires : tie.Need-wide-requires
+wide-requires c κs = search needs
 
-loop-less : tie.Need-loop-less Inv-loop μ-loop
-loop-less c = search needs
+uses-requires : tie.Need-uses-requires
+uses-requires c κs = (c .before .before .before .before .before .before .before .before .pre .0, good-of (c .before .before .before .before .before .before .before .before .pre .1 .good) (c .before .cell-at4 .ensures) (c .wide .ensures) .known)
 
-loop-again : tie.Need-loop-again Inv-loop μ-loop
-loop-again c = (omega arith, loop-on (λ (j : ℕ). place-test (c .before .before .before .before .before .before .before .before .before .args .st .now) (c .before .before .before .before .before .before .before .before .before .args .marks .now) (c .before .before .before .before .before .before .before .before .before .args .p) (read-place (c .before .before .before .before .before .before .before .before .before .args .ops .now) (inst (c .before .before .before .before .before .before .before .before .before .args .recs .now) (c .before .before .before .before .before .before .before .before .before .args .g)) j)) (c .before .before .before .before .loop .inv .1) (c .before .read-ok .ensures ∙ ap (place-test (c .before .before .before .before .before .before .before .before .before .args .st .now) (c .before .before .before .before .before .before .before .before .before .args .marks .now) (c .before .before .before .before .before .before .before .before .before .args .p)) (c .before .before .read-place .ensures)) (c .if1 .left))
+places-ok-requires : tie.Need-places-ok-requires
+places-ok-requires c κs = let k = places-at (c .before .before .before .before .before .before .before .before .before .pre .1) (c .before .before .cell-at4 .ensures) (c .before .wide .ensures) (c .uses .ensures) in (k .0, k .1, c .before .before .before .before .before .before .before .before .before .pre .2, c .before .before .before .before .before .before .before .before .before .pre .3)
 
-returns-2 : tie.Need-returns-2 Inv-loop μ-loop
-returns-2 c = loop-yes (λ (j : ℕ). place-test (c .before .before .before .before .before .before .args .st .now) (c .before .before .before .before .before .before .args .marks .now) (c .before .before .before .before .before .before .args .p) (read-place (c .before .before .before .before .before .before .args .ops .now) (inst (c .before .before .before .before .before .before .args .recs .now) (c .before .before .before .before .before .before .args .g)) j)) (c .before .loop .inv .0) (c .loop-test .left) (c .before .loop .inv .1) ∙ reads-all _ _ _ (c .before .before .before .before .before .before .pre .1) (c .before .before .places .ensures)
+returns-2 : tie.Need-returns-2
+returns-2 c = let a = c .before .before .before .before .before .before .before .before .before .before .args in places-tested (c .before .before .before .before .before .before .before .before .before .before .pre .1) (read-test (a .st .now) (a .marks .now) (a .p)) (c .before .before .before .cell-at4 .ensures) (c .before .before .wide .ensures) (c .places-ok .ensures)
 
 pub rule3-spec : {M : Type 1} → statement M
 rule3-spec =
     tie.close
     (tie.spec
-    Inv-loop
-    μ-loop
-    places-requires
-    loop-holds
-    read-place-requires
+    cell-at-requires
+    cell-at-requires-2
     read-ok-requires
+    cell-at-requires-3
+    read-ok-requires-2
     returns
-    add-k
-    loop-less
-    loop-again
+    cell-at-requires-4
+    wide-requires
+    uses-requires
+    places-ok-requires
     returns-2)

@@ -13,10 +13,10 @@ clear-requires : tie.Need-clear-requires
 clear-requires c κs = search needs
 
 keep-writes-requires : tie.Need-keep-writes-requires
-keep-writes-requires c κs = let z = cleared (c .before .before .before .before .before .before .before .before .before .before .before .args .st .now) (c .before .before .before .before .clear .ensures) in let p = c .before .before .before .before .before .before .before .before .before .before .before .pre .1 in (c .before .before .before .before .before .before .before .before .before .before .before .pre .0, safe-len (p .safe) (z .0), p .marks-size, z .1)
+keep-writes-requires c κs = let z = cleared (c .before .before .before .before .before .before .before .before .before .before .before .args .st .now) (c .before .before .before .before .clear .ensures) in let p = c .before .before .before .before .before .before .before .before .before .before .before .pre .1 in (c .before .before .before .before .before .before .before .before .before .before .before .pre .0, safe-len (p .safe) (z .0), p .brief, p .marks-size, z .1)
 
 keep-memory-requires : tie.Need-keep-memory-requires
-keep-memory-requires c κs = let p = c .before .before .before .before .before .before .before .before .before .before .before .before .before .before .before .before .pre .1 in (p .safe .room, p .safe .few, p .marks-size, length-replicate {A = ℕ} 10002 0, p .safe .wrote, zeros 10002)
+keep-memory-requires c κs = let p = c .before .before .before .before .before .before .before .before .before .before .before .before .before .before .before .before .pre .1 in (p .safe .room, p .safe .few, p .marks-size, length-replicate {A = ℕ} 2006 0, p .safe .wrote, zeros 2006)
 
 last-flag-requires : tie.Need-last-flag-requires
 last-flag-requires c κs = search needs
@@ -25,7 +25,7 @@ last-flag-requires-2 : tie.Need-last-flag-requires-2
 last-flag-requires-2 c κs = search needs
 
 forward-requires : tie.Need-forward-requires
-forward-requires c κs = let z = cleared (c .before .before .before .before .before .before .before .before .before .before .before .before .before .before .before .before .before .before .before .before .before .before .before .before .args .st .now) (c .before .before .before .before .before .before .before .before .before .before .before .before .before .before .before .before .before .clear .ensures) in let p = c .before .before .before .before .before .before .before .before .before .before .before .before .before .before .before .before .before .before .before .before .before .before .before .before .pre .1 in let e = c .before .before .before .before .before .before .before .before .before .before .before .before .keep-writes .ensures .0 ∙ z .0 in (c .before .before .before .before .before .before .before .before .before .before .before .before .before .before .before .before .before .before .before .before .before .before .before .before .pre .0, safe-len (p .safe) e, p .regs-size ∙ sym e, p .in-x, p .marks-size, record { stamps = c .before .before .before .before .before .before .before .before .before .before .before .before .keep-writes .ensures .1; writes = c .before .before .before .before .before .before .before .keep-memory .ensures; barrier = c .before .before .before .before .before .last-flag .ensures; suspension = c .before .before .before .last-flag2 .ensures })
+forward-requires c κs = let z = cleared (c .before .before .before .before .before .before .before .before .before .before .before .before .before .before .before .before .before .before .before .before .before .before .before .before .args .st .now) (c .before .before .before .before .before .before .before .before .before .before .before .before .before .before .before .before .before .clear .ensures) in let p = c .before .before .before .before .before .before .before .before .before .before .before .before .before .before .before .before .before .before .before .before .before .before .before .before .pre .1 in let e = c .before .before .before .before .before .before .before .before .before .before .before .before .keep-writes .ensures .0 ∙ z .0 in (c .before .before .before .before .before .before .before .before .before .before .before .before .before .before .before .before .before .before .before .before .before .before .before .before .pre .0, safe-len (p .safe) e, p .brief, p .regs-size ∙ sym e, p .in-x, p .marks-size, record { stamps = c .before .before .before .before .before .before .before .before .before .before .before .before .keep-writes .ensures .1; writes = c .before .before .before .before .before .before .before .keep-memory .ensures; barrier = c .before .before .before .before .before .last-flag .ensures; suspension = c .before .before .before .last-flag2 .ensures })
 
 same-length : tie.Need-same-length
 same-length c = search needs

@@ -10,7 +10,7 @@ clear-requires : tie.Need-clear-requires
 clear-requires c κs = search needs
 
 backward-requires : tie.Need-backward-requires
-backward-requires c κs = let z = cleared (c .before .before .before .before .before .before .before .before .before .before .args .st .now) (c .before .before .before .before .clear .ensures) in (c .before .before .before .before .before .before .before .before .before .before .pre .0, safe-len (c .before .before .before .before .before .before .before .before .before .before .pre .1) (z .0), c .before .before .before .before .before .before .before .before .before .before .pre .2, z .1)
+backward-requires c κs = let z = cleared (c .before .before .before .before .before .before .before .before .before .before .args .st .now) (c .before .before .before .before .clear .ensures) in (c .before .before .before .before .before .before .before .before .before .before .pre .0, safe-len (c .before .before .before .before .before .before .before .before .before .before .pre .1) (z .0), c .before .before .before .before .before .before .before .before .before .before .pre .2, c .before .before .before .before .before .before .before .before .before .before .pre .3, z .1)
 
 same-length : tie.Need-same-length
 same-length c = search needs

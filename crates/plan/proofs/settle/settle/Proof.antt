@@ -1,29 +1,35 @@
 -- `plan::settle::settle` meets its contract. Assumes nothing.
-use borrow.Author.Needs.{needs}
-use Prim.Native.Nat.{_+_}
 use native.Mathlib.Omega.{arith}
-use Rattle.legalset.specs.Marks.{members}
-use Rattle.plan.proofs.Cycling.{Cycling, cycling-none, cycling-more, cycling-end, set-up-on}
+use Rattle.plan.proofs.Cycling.{Cycling, cycling-none, cycling-more, cycling-end, to-go, to-go-less, set-up-on}
+use borrow.Author.Needs.{needs}
 use Rattle.plan.proofs.settle.settle.Statement.{statement}
 use Rattle.plan.proofs.settle.settle.Tie as tie
 
 abbrev Inv-loop : tie.InvT-loop
-Inv-loop t recs ops w regs st₀ marks₀ m n r₀ st marks r = Cycling recs ops w regs m n st₀ marks₀ st marks r
+Inv-loop t recs ops w regs st₀ marks₀ m n least left₀ ahead₀ quiet₀ done₀ st marks left ahead quiet done =
+    Cycling recs ops w regs m n st₀ marks₀ st marks ahead quiet done left
 
 abbrev μ-loop : tie.MeasureT-loop
-μ-loop t recs ops w regs st₀ marks₀ m n r₀ st marks r = members marks + r
+μ-loop t recs ops w regs st₀ marks₀ m n least left₀ ahead₀ quiet₀ done₀ st marks left ahead quiet done =
+    to-go marks quiet done
+
+count-requires : tie.Need-count-requires Inv-loop μ-loop
+count-requires c κs = let p = c .before .before .before .before .before .before .pre .1 in (p .marks-size, omega (arith, p .in-x, p .safe .few), c .before .before .before .before .before .before .pre .2)
 
 loop-holds : tie.Need-loop-holds Inv-loop μ-loop
-loop-holds c = cycling-none _ _ _ _ _ _ _ _
+loop-holds c = cycling-none _ _ _ _ _ _ _ _ (c .count .ensures)
 
-cycle-requires : tie.Need-cycle-requires Inv-loop μ-loop
-cycle-requires c κs = let i = c .before .before .before .loop .inv in (c .before .before .before .before .before .before .before .before .before .pre .0, set-up-on (c .before .before .before .before .before .before .before .before .before .pre .1) (i .size) (i .settling .size))
+pass-requires : tie.Need-pass-requires Inv-loop μ-loop
+pass-requires c κs = let i = c .before .before .before .loop .inv in (c .before .before .before .before .before .before .before .before .before .before .before .pre .0, set-up-on (c .before .before .before .before .before .before .before .before .before .before .before .pre .1) (i .size) (i .settling .size))
+
+sub-left : tie.Need-sub-left Inv-loop μ-loop
+sub-left c = omega (arith, c .before .before .before .before .before .before .loop .inv .settling .count, c .before .before .pass .ensures .0 .count)
 
 loop-less : tie.Need-loop-less Inv-loop μ-loop
-loop-less c = omega (arith, c .before .before .cycle .ensures .0 .count, c .before .before .before .before .before .loop-test .taken)
+loop-less c = to-go-less _ _ (c .before .before .before .before .before .before .loop .quiet) (c .before .before .before .before .before .before .loop .done) _ _ (c .before .before .pass .ensures .0 .count) (c .before .before .before .before .before .loop-test .taken)
 
 loop-again : tie.Need-loop-again Inv-loop μ-loop
-loop-again c = cycling-more (c .before .before .before .before .before .before .loop .inv) (c .before .before .cycle .ensures)
+loop-again c = cycling-more (c .before .before .before .before .before .before .loop .inv) (c .before .before .pass .ensures)
 
 same-length : tie.Need-same-length Inv-loop μ-loop
 same-length c = c .before .loop .inv .size
@@ -34,4 +40,14 @@ returns c = cycling-end (c .before .loop .inv) (c .loop-test .left)
 pub settle-spec : {M : Type 1} → statement M
 settle-spec =
     tie.close
-    (tie.spec Inv-loop μ-loop loop-holds cycle-requires loop-less loop-again same-length returns)
+    (tie.spec
+    Inv-loop
+    μ-loop
+    count-requires
+    loop-holds
+    pass-requires
+    sub-left
+    loop-less
+    loop-again
+    same-length
+    returns)

@@ -1,61 +1,65 @@
 -- `plan::stamps::put_reads` meets its contract. Assumes nothing.
-use borrow.Author.Needs.{needs}
-use mathlib.Core.Path.{_≡_, sym, _∙_}
-use Prim.Native.Nat.{_≤_, _-_, _+_}
-use lib.ListN.{length}
 use native.Mathlib.Omega.{arith}
-use Rattle.model.specs.Picture.{inst, list-of}
-use Rattle.plan.specs.Passes.{read-place}
-use Rattle.plan.proofs.Places.{reads-placed, Placed, place-low}
-use Rattle.plan.proofs.Stamping.{Stamping, stamping-none, stamping-more, stamping-end}
+use mathlib.Core.Path.{refl}
+use Rattle.plan.proofs.Summing.{good-of}
+use Rattle.plan.proofs.Wording.{places-at, places-stamped, words-low, words-low-on, words-stamped}
+use borrow.Author.Needs.{needs}
 use Rattle.plan.proofs.stamps.put_reads.Statement.{statement}
 use Rattle.plan.proofs.stamps.put_reads.Tie as tie
 
-abbrev Inv-loop : tie.InvT-loop
-Inv-loop ops recs g uses st₀ keep v n k₀ st k = (k ≤ n) × Stamping (read-place ops (inst recs g)) keep v k st₀ st
+cell-at-requires : tie.Need-cell-at-requires
+cell-at-requires c κs = search needs
 
-abbrev μ-loop : tie.MeasureT-loop
-μ-loop ops recs g uses st₀ keep v n k₀ st k = n - k
+cell-at-requires-2 : tie.Need-cell-at-requires-2
+cell-at-requires-2 c κs = search needs
 
-places-requires : tie.Need-places-requires Inv-loop μ-loop
-places-requires c κs = search needs
+put-requires : tie.Need-put-requires
+put-requires c κs = (words-low (c .before .before .before .before .before .before .before .before .pre .1) (c .before .before .before .cell-at .ensures) (c .before .before .if1 .taken) 0 (omega arith) (c .cell-at2 .ensures), c .before .before .before .before .before .before .before .before .pre .2)
 
-loop-holds : tie.Need-loop-holds Inv-loop μ-loop
-loop-holds c = (omega arith, stamping-none _ _ _ _)
+cell-at-requires-3 : tie.Need-cell-at-requires-3
+cell-at-requires-3 c κs = search needs
 
-read-place-requires : tie.Need-read-place-requires Inv-loop μ-loop
-read-place-requires c κs = (c .before .before .before .before .before .before .pre .0, c .before .before .before .before .before .before .pre .1 .listed, omega (arith, c .before .before .places .ensures))
+put-requires-2 : tie.Need-put-requires-2
+put-requires-2 c κs = (words-low-on (c .before .before .before .before .before .before .before .before .before .before .before .before .before .pre .1) (c .before .before .before .before .before .before .before .before .cell-at .ensures) (c .before .before .before .before .before .before .before .if1 .taken) (c .before .before .before .before .before .before .before .before .before .before .before .before .before .args .st .now) (c .before .before .before .before .before .before .before .before .before .before .before .before .before .pre .2) refl (c .before .before .before .before .before .cell-at2 .ensures) (c .before .before .before .before .put .ensures) (c .cell-at3 .ensures), c .before .before .before .before .before .before .before .before .before .before .before .before .before .pre .2)
 
-put-requires : tie.Need-put-requires Inv-loop μ-loop
-put-requires c κs = (place-low (c .before .before .before .loop .st) (c .before .before .before .before .before .before .before .before .pre .1) (c .before .before .before .loop .inv .1 .size) (c .before .before .before .before .places .ensures) (c .before .before .loop-test .taken) (c .before .read-place .ensures), c .before .before .before .before .before .before .before .before .pre .2)
+same-length : tie.Need-same-length
+same-length c = search needs
 
-add-k : tie.Need-add-k Inv-loop μ-loop
-add-k c = search needs
+returns : tie.Need-returns
+returns c = words-stamped (c .before .before .before .before .before .before .before .before .before .before .before .before .before .before .before .before .pre .1) (c .before .before .before .before .before .before .before .before .before .before .before .cell-at .ensures) (c .before .before .before .before .before .before .before .before .before .before .if1 .taken) (c .before .before .before .before .before .before .before .before .before .before .before .before .before .before .before .before .args .st .now) (c .before .before .before .before .before .before .before .before .before .before .before .before .before .before .before .before .pre .2) refl (c .before .before .before .before .before .before .before .before .cell-at2 .ensures) (c .before .before .before .before .before .before .before .put .ensures) (c .before .before .before .cell-at3 .ensures) (c .before .before .put2 .ensures)
 
-loop-less : tie.Need-loop-less Inv-loop μ-loop
-loop-less c = search needs
+cell-at-requires-4 : tie.Need-cell-at-requires-4
+cell-at-requires-4 c κs = search needs
 
-loop-again : tie.Need-loop-again Inv-loop μ-loop
-loop-again c = (omega arith, stamping-more (c .before .before .before .before .before .before .loop .inv .1) (c .before .before .before .before .before .before .before .before .before .before .before .pre .2) (c .before .before .before .before .before .before .before .before .before .before .before .pre .1 .fits .few) (c .before .before .before .before .read-place .ensures) (place-low (c .before .before .before .before .before .before .loop .st) (c .before .before .before .before .before .before .before .before .before .before .before .pre .1) (c .before .before .before .before .before .before .loop .inv .1 .size) (c .before .before .before .before .before .before .before .places .ensures) (c .before .before .before .before .before .loop-test .taken) (c .before .before .before .before .read-place .ensures)) (c .before .before .put .ensures))
+wide-requires : tie.Need-wide-requires
+wide-requires c κs = search needs
 
-same-length : tie.Need-same-length Inv-loop μ-loop
-same-length c = c .before .loop .inv .1 .size
+uses-requires : tie.Need-uses-requires
+uses-requires c κs = (c .before .before .before .before .before .before .before .before .pre .0, good-of (c .before .before .before .before .before .before .before .before .pre .1 .good) (c .before .cell-at4 .ensures) (c .wide .ensures) .known)
 
-returns : tie.Need-returns Inv-loop μ-loop
-returns c = stamping-end (c .before .loop .inv .1) (c .before .before .before .before .before .before .pre .2) (c .before .before .before .before .before .before .pre .1 .fits .few) (reads-placed _ _ _ _ (c .before .before .before .before .before .before .pre .1)) (omega (arith, c .before .before .places .ensures, c .before .loop .inv .0)) (omega (arith, c .before .before .places .ensures, c .loop-test .left))
+put-places-requires : tie.Need-put-places-requires
+put-places-requires c κs = let k = places-at (c .before .before .before .before .before .before .before .before .before .before .pre .1) (c .before .before .before .cell-at4 .ensures) (c .before .before .wide .ensures) (c .before .uses .ensures) in (k .0, k .1, c .before .before .before .before .before .before .before .before .before .before .pre .2)
+
+same-length-2 : tie.Need-same-length-2
+same-length-2 c = search needs
+
+returns-2 : tie.Need-returns-2
+returns-2 c = places-stamped (c .before .before .before .before .before .before .before .before .before .before .before .before .before .pre .1) (c .before .before .before .before .before .before .cell-at4 .ensures) (c .before .before .before .before .before .wide .ensures) (c .before .before .put-places .ensures)
 
 pub put-reads-spec : {M : Type 1} → statement M
 put-reads-spec =
     tie.close
     (tie.spec
-    Inv-loop
-    μ-loop
-    places-requires
-    loop-holds
-    read-place-requires
+    cell-at-requires
+    cell-at-requires-2
     put-requires
-    add-k
-    loop-less
-    loop-again
+    cell-at-requires-3
+    put-requires-2
     same-length
-    returns)
+    returns
+    cell-at-requires-4
+    wide-requires
+    uses-requires
+    put-places-requires
+    same-length-2
+    returns-2)

@@ -1,57 +1,55 @@
 -- `plan::stamps::put_writes` meets its contract. Assumes nothing.
+use mathlib.Core.Path.{refl}
+use Rattle.plan.proofs.Wording.{known-at, slots-at, slots-stamped, word-low, word-stamped}
 use borrow.Author.Needs.{needs}
-use mathlib.Core.Path.{_≡_, sym, _∙_}
-use Prim.Native.Nat.{_≤_, _-_}
-use lib.ListN.{length}
-use native.Mathlib.Omega.{arith}
-use Rattle.model.specs.Picture.{inst}
-use Rattle.inst.specs.Record.{write-at}
-use Rattle.plan.proofs.Places.{writes-placed, Placed, slot-low}
-use Rattle.plan.proofs.Stamping.{Stamping, stamping-none, stamping-more, stamping-end}
 use Rattle.plan.proofs.stamps.put_writes.Statement.{statement}
 use Rattle.plan.proofs.stamps.put_writes.Tie as tie
 
-abbrev Inv-loop : tie.InvT-loop
-Inv-loop recs g uses st₀ keep v s₀ st s = (s ≤ 5) × Stamping (write-at (inst recs g)) keep v s st₀ st
+cell-at-requires : tie.Need-cell-at-requires
+cell-at-requires c κs = search needs
 
-abbrev μ-loop : tie.MeasureT-loop
-μ-loop recs g uses st₀ keep v s₀ st s = 5 - s
+cell-at-requires-2 : tie.Need-cell-at-requires-2
+cell-at-requires-2 c κs = search needs
 
-loop-holds : tie.Need-loop-holds Inv-loop μ-loop
-loop-holds c = (omega arith, stamping-none _ _ _ _)
+put-requires : tie.Need-put-requires
+put-requires c κs = (word-low (c .before .before .before .before .before .before .before .pre .1) (c .before .before .before .cell-at .ensures) (c .before .before .if1 .taken) (c .cell-at2 .ensures), c .before .before .before .before .before .before .before .pre .2)
 
-write-at-requires : tie.Need-write-at-requires Inv-loop μ-loop
-write-at-requires c κs = search needs
+same-length : tie.Need-same-length
+same-length c = search needs
 
-put-requires : tie.Need-put-requires Inv-loop μ-loop
-put-requires c κs = (slot-low (c .before .before .before .loop .st) (c .before .before .before .before .before .before .pre .1) (c .before .before .before .loop .inv .1 .size) (c .before .before .loop-test .taken) (c .before .write-at .ensures), c .before .before .before .before .before .before .pre .2)
+returns : tie.Need-returns
+returns c = word-stamped (c .before .before .before .before .before .before .before .before .before .before .pre .1) (c .before .before .before .before .before .before .cell-at .ensures) (c .before .before .before .before .before .if1 .taken) (c .before .before .before .cell-at2 .ensures) (c .before .before .before .before .before .before .before .before .before .before .args .st .now) (c .before .before .before .before .before .before .before .before .before .before .pre .2) refl (c .before .before .put .ensures)
 
-add-s : tie.Need-add-s Inv-loop μ-loop
-add-s c = search needs
+cell-at-requires-3 : tie.Need-cell-at-requires-3
+cell-at-requires-3 c κs = search needs
 
-loop-less : tie.Need-loop-less Inv-loop μ-loop
-loop-less c = search needs
+wide-requires : tie.Need-wide-requires
+wide-requires c κs = search needs
 
-loop-again : tie.Need-loop-again Inv-loop μ-loop
-loop-again c = (omega arith, stamping-more (c .before .before .before .before .before .before .loop .inv .1) (c .before .before .before .before .before .before .before .before .before .pre .2) (c .before .before .before .before .before .before .before .before .before .pre .1 .few) (c .before .before .before .before .write-at .ensures) (slot-low (c .before .before .before .before .before .before .loop .st) (c .before .before .before .before .before .before .before .before .before .pre .1) (c .before .before .before .before .before .before .loop .inv .1 .size) (c .before .before .before .before .before .loop-test .taken) (c .before .before .before .before .write-at .ensures)) (c .before .before .put .ensures))
+uses-requires : tie.Need-uses-requires
+uses-requires c κs = (c .before .before .before .before .before .before .before .pre .0, known-at (c .before .before .before .before .before .before .before .pre .1) (c .before .cell-at3 .ensures) (c .wide .ensures))
 
-same-length : tie.Need-same-length Inv-loop μ-loop
-same-length c = c .before .loop .inv .1 .size
+put-slots-requires : tie.Need-put-slots-requires
+put-slots-requires c κs = let k = slots-at (c .before .before .before .before .before .before .before .before .before .pre .1) (c .before .before .before .cell-at3 .ensures) (c .before .before .wide .ensures) (c .before .uses .ensures) in (k .0, k .1, c .before .before .before .before .before .before .before .before .before .pre .2)
 
-returns : tie.Need-returns Inv-loop μ-loop
-returns c = stamping-end (c .before .loop .inv .1) (c .before .before .before .before .pre .2) (c .before .before .before .before .pre .1 .few) (writes-placed _ _ (c .before .before .before .before .pre .1 .within)) (c .before .loop .inv .0) (c .loop-test .left)
+same-length-2 : tie.Need-same-length-2
+same-length-2 c = search needs
+
+returns-2 : tie.Need-returns-2
+returns-2 c = slots-stamped (c .before .before .before .before .before .before .before .before .before .before .before .before .pre .1) (c .before .before .before .before .before .before .cell-at3 .ensures) (c .before .before .before .before .before .wide .ensures) (c .before .before .put-slots .ensures)
 
 pub put-writes-spec : {M : Type 1} → statement M
 put-writes-spec =
     tie.close
     (tie.spec
-    Inv-loop
-    μ-loop
-    loop-holds
-    write-at-requires
+    cell-at-requires
+    cell-at-requires-2
     put-requires
-    add-s
-    loop-less
-    loop-again
     same-length
-    returns)
+    returns
+    cell-at-requires-3
+    wide-requires
+    uses-requires
+    put-slots-requires
+    same-length-2
+    returns-2)

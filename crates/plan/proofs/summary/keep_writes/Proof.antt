@@ -15,10 +15,10 @@ abbrev μ-loop : tie.MeasureT-loop
 μ-loop t recs ops w marks st₀ n q₀ st q = n - q
 
 loop-holds : tie.Need-loop-holds Inv-loop μ-loop
-loop-holds c = (omega arith, summing-none _ _ _ (c .before .before .before .before .pre .3))
+loop-holds c = (omega arith, summing-none _ _ _ (c .before .before .before .before .pre .4))
 
 keep-one-requires : tie.Need-keep-one-requires Inv-loop μ-loop
-keep-one-requires c κs = (c .before .before .before .before .before .before .before .pre .0, safe-len (c .before .before .before .before .before .before .before .pre .1) (c .before .before .loop .inv .1 .size), c .before .before .before .before .before .before .before .pre .2, c .before .loop-test .taken)
+keep-one-requires c κs = (c .before .before .before .before .before .before .before .pre .0, safe-len (c .before .before .before .before .before .before .before .pre .1) (c .before .before .loop .inv .1 .size), c .before .before .before .before .before .before .before .pre .2, c .before .before .before .before .before .before .before .pre .3, c .before .loop-test .taken)
 
 add-q : tie.Need-add-q Inv-loop μ-loop
 add-q c = search needs

@@ -21,10 +21,10 @@ clear-requires : tie.Need-clear-requires Inv-loop μ-loop
 clear-requires c κs = search needs
 
 loop-holds : tie.Need-loop-holds Inv-loop μ-loop
-loop-holds c = let z = cleared (c .before .before .before .before .before .before .before .before .args .st .now) (c .before .before .clear .ensures) in (omega arith, reading-none _ _ _ refl (z .1) (c .before .before .before .before .before .before .before .before .pre .2) (c .before .before .before .before .before .before .before .before .pre .3))
+loop-holds c = let z = cleared (c .before .before .before .before .before .before .before .before .args .st .now) (c .before .before .clear .ensures) in (omega arith, reading-none _ _ _ refl (z .1) (c .before .before .before .before .before .before .before .before .pre .3) (c .before .before .before .before .before .before .before .before .pre .4))
 
 read-on-requires : tie.Need-read-on-requires Inv-loop μ-loop
-read-on-requires c κs = let i = c .before .before .before .loop .inv .1 in let z = cleared (c .before .before .before .before .before .before .before .before .before .before .before .before .args .st .now) (c .before .before .before .before .before .before .clear .ensures) in (c .before .before .before .before .before .before .before .before .before .before .before .before .pre .0, safe-len (c .before .before .before .before .before .before .before .before .before .before .before .before .pre .1) (i .size ∙ z .0), reading-low i (omega (arith, c .before .before .before .before .before .before .before .before .before .before .before .before .pre .1 .few, c .before .before .before .loop .inv .0)), i .readers .size, c .before .before .loop-test .taken)
+read-on-requires c κs = let i = c .before .before .before .loop .inv .1 in let z = cleared (c .before .before .before .before .before .before .before .before .before .before .before .before .args .st .now) (c .before .before .before .before .before .before .clear .ensures) in (c .before .before .before .before .before .before .before .before .before .before .before .before .pre .0, safe-len (c .before .before .before .before .before .before .before .before .before .before .before .before .pre .1) (i .size ∙ z .0), c .before .before .before .before .before .before .before .before .before .before .before .before .pre .2, reading-low i (omega (arith, c .before .before .before .before .before .before .before .before .before .before .before .before .pre .1 .few, c .before .before .before .loop .inv .0)), i .readers .size, c .before .before .loop-test .taken)
 
 add-q : tie.Need-add-q Inv-loop μ-loop
 add-q c = search needs

@@ -15,8 +15,8 @@ wide-requires c κs = search needs
 uses-requires : tie.Need-uses-requires
 uses-requires c κs = (c .before .before .before .before .before .before .before .pre .0, good-at (c .before .before .before .before .before .before .before .pre .1) (c .before .before .before .before .before .before .before .pre .2) (c .before .cell-at .ensures) (c .wide .ensures) .known)
 
-rule2-requires : tie.Need-rule2-requires
-rule2-requires c κs = let k = good-at (c .before .before .before .before .before .before .before .before .pre .1) (c .before .before .before .before .before .before .before .before .pre .2) (c .before .before .cell-at .ensures) (c .before .wide .ensures) in (used-at k (c .uses .ensures), k .fits, omega (arith, c .before .before .before .before .before .before .before .before .pre .1 .few, c .before .before .before .before .before .before .before .before .pre .2), c .before .before .before .before .before .before .before .before .pre .3)
+unneeded-slots-requires : tie.Need-unneeded-slots-requires
+unneeded-slots-requires c κs = let k = good-at (c .before .before .before .before .before .before .before .before .pre .1) (c .before .before .before .before .before .before .before .before .pre .2) (c .before .before .cell-at .ensures) (c .before .wide .ensures) in (used-at k (c .uses .ensures), k .fits, omega (arith, c .before .before .before .before .before .before .before .before .pre .1 .few, c .before .before .before .before .before .before .before .before .pre .2), c .before .before .before .before .before .before .before .before .pre .3)
 
 mul-result : tie.Need-mul-result
 mul-result c = search needs
@@ -25,13 +25,13 @@ element-copy-out-result : tie.Need-element-copy-out-result
 element-copy-out-result c = search needs
 
 returns : tie.Need-returns
-returns c = let a = c .before .before .before .before .before .before .before .before .before .before .before .args in use-inside (a .recs .now) (a .w .now) (a .regs .now) (a .bits .now) (a .o) (a .lasts .now) (a .p) (a .n) (c .before .before .before .before .before .cell-at .ensures) (c .before .before .before .before .wide .ensures) (c .before .before .rule2 .ensures) (c .before .if1 .taken)
+returns c = let a = c .before .before .before .before .before .before .before .before .before .before .before .args in use-inside (a .recs .now) (a .w .now) (a .regs .now) (a .bits .now) (a .o) (a .lasts .now) (a .p) (a .n) (c .before .before .before .before .before .cell-at .ensures) (c .before .before .before .before .wide .ensures) (c .before .before .unneeded-slots .ensures) (c .before .if1 .taken)
 
 cast-result : tie.Need-cast-result
 cast-result c = search needs
 
 returns-2 : tie.Need-returns-2
-returns-2 c = let a = c .before .before .before .before .before .before .before .before .before .before .args in use-past (a .recs .now) (a .w .now) (a .regs .now) (a .bits .now) (a .o) (a .lasts .now) (a .p) (a .n) (c .before .before .before .before .cell-at .ensures) (c .before .before .before .wide .ensures) (c .before .rule2 .ensures) (c .if1 .left)
+returns-2 c = let a = c .before .before .before .before .before .before .before .before .before .before .args in use-past (a .recs .now) (a .w .now) (a .regs .now) (a .bits .now) (a .o) (a .lasts .now) (a .p) (a .n) (c .before .before .before .before .cell-at .ensures) (c .before .before .before .wide .ensures) (c .before .unneeded-slots .ensures) (c .if1 .left)
 
 pub last-use-spec : {M : Type 1} → statement M
 last-use-spec =
@@ -40,7 +40,7 @@ last-use-spec =
     cell-at-requires
     wide-requires
     uses-requires
-    rule2-requires
+    unneeded-slots-requires
     mul-result
     element-copy-out-result
     returns

@@ -1,56 +1,68 @@
 -- `plan::uses::note_reads` meets its contract. Assumes nothing.
-use borrow.Author.Needs.{needs}
-use mathlib.Core.Path.{refl}
-use Prim.Native.Nat.{_≤_, _-_}
 use native.Mathlib.Omega.{arith}
-use Rattle.model.specs.Picture.{inst}
-use Rattle.plan.specs.Passes.{read-place}
-use Rattle.plan.proofs.Places.{reads-placed, place-low}
-use Rattle.plan.proofs.Using.{Noticing, noticing-none, noticing-more, noticing-end}
+use Rattle.plan.proofs.Summing.{good-of}
+use Rattle.plan.proofs.Wording.{places-at, places-noticed, words-low, words-noticed}
+use borrow.Author.Needs.{needs}
 use Rattle.plan.proofs.uses.note_reads.Statement.{statement}
 use Rattle.plan.proofs.uses.note_reads.Tie as tie
 
-abbrev Inv-loop : tie.InvT-loop
-Inv-loop ops recs g uses st lasts₀ q n k₀ lasts k = (k ≤ n) × Noticing (read-place ops (inst recs g)) st q k lasts₀ lasts
+cell-at-requires : tie.Need-cell-at-requires
+cell-at-requires c κs = search needs
 
-abbrev μ-loop : tie.MeasureT-loop
-μ-loop ops recs g uses st lasts₀ q n k₀ lasts k = n - k
+cell-at-requires-2 : tie.Need-cell-at-requires-2
+cell-at-requires-2 c κs = search needs
 
-places-requires : tie.Need-places-requires Inv-loop μ-loop
-places-requires c κs = search needs
+cast-note : tie.Need-cast-note
+cast-note c = search needs
 
-loop-holds : tie.Need-loop-holds Inv-loop μ-loop
-loop-holds c = (omega arith, noticing-none _ _ _ _ (c .before .before .before .before .pre .3))
+note-requires : tie.Need-note-requires
+note-requires c κs = (words-low (c .before .before .before .before .before .before .before .before .pre .1) (c .before .before .before .cell-at .ensures) (c .before .before .if1 .taken) 0 (omega arith) (c .cell-at2 .ensures), c .before .before .before .before .before .before .before .before .pre .2)
 
-read-place-requires : tie.Need-read-place-requires Inv-loop μ-loop
-read-place-requires c κs = (c .before .before .before .before .before .before .pre .0, c .before .before .before .before .before .before .pre .1 .listed, omega (arith, c .before .before .places .ensures))
+cell-at-requires-3 : tie.Need-cell-at-requires-3
+cell-at-requires-3 c κs = search needs
 
-note-requires : tie.Need-note-requires Inv-loop μ-loop
-note-requires c κs = (place-low (c .before .before .before .before .before .before .before .before .args .st .now) (c .before .before .before .before .before .before .before .before .pre .1) refl (c .before .before .before .before .places .ensures) (c .before .before .loop-test .taken) (c .before .read-place .ensures), c .before .before .before .before .before .before .before .before .pre .2)
+cast-note-2 : tie.Need-cast-note-2
+cast-note-2 c = search needs
 
-add-k : tie.Need-add-k Inv-loop μ-loop
-add-k c = search needs
+note-requires-2 : tie.Need-note-requires-2
+note-requires-2 c κs = (words-low (c .before .before .before .before .before .before .before .before .before .before .before .pre .1) (c .before .before .before .before .before .before .cell-at .ensures) (c .before .before .before .before .before .if1 .taken) 1 (omega arith) (c .cell-at3 .ensures), c .before .before .before .before .before .before .before .before .before .before .before .pre .2)
 
-loop-less : tie.Need-loop-less Inv-loop μ-loop
-loop-less c = search needs
+returns : tie.Need-returns
+returns c = words-noticed (c .before .before .before .before .before .before .before .before .before .before .before .before .pre .1) (c .before .before .before .before .before .before .before .cell-at .ensures) (c .before .before .before .before .before .before .if1 .taken) (c .before .before .before .before .before .before .before .before .before .before .before .before .pre .3) (c .before .before .before .before .cell-at2 .ensures) (c .before .before .before .note .ensures) (c .before .cell-at3 .ensures) (c .note2 .ensures)
 
-loop-again : tie.Need-loop-again Inv-loop μ-loop
-loop-again c = (omega arith, noticing-more (c .before .before .before .before .loop .inv .1) (c .before .before .read-place .ensures) (c .note .ensures))
+cell-at-requires-4 : tie.Need-cell-at-requires-4
+cell-at-requires-4 c κs = search needs
 
-returns : tie.Need-returns Inv-loop μ-loop
-returns c = noticing-end (c .before .loop .inv .1) (reads-placed _ _ _ _ (c .before .before .before .before .before .before .pre .1)) (omega (arith, c .before .before .places .ensures, c .before .loop .inv .0)) (omega (arith, c .before .before .places .ensures, c .loop-test .left))
+wide-requires : tie.Need-wide-requires
+wide-requires c κs = search needs
+
+uses-requires : tie.Need-uses-requires
+uses-requires c κs = (c .before .before .before .before .before .before .before .before .pre .0, good-of (c .before .before .before .before .before .before .before .before .pre .1 .good) (c .before .cell-at4 .ensures) (c .wide .ensures) .known)
+
+cast-note-places : tie.Need-cast-note-places
+cast-note-places c = search needs
+
+note-places-requires : tie.Need-note-places-requires
+note-places-requires c κs = let k = places-at (c .before .before .before .before .before .before .before .before .before .before .pre .1) (c .before .before .before .cell-at4 .ensures) (c .before .before .wide .ensures) (c .before .uses .ensures) in (k .0, k .1, c .before .before .before .before .before .before .before .before .before .before .pre .2, c .before .before .before .before .before .before .before .before .before .before .pre .3)
+
+returns-2 : tie.Need-returns-2
+returns-2 c = places-noticed (c .before .before .before .before .before .before .before .before .before .before .before .pre .1) (c .before .before .before .before .cell-at4 .ensures) (c .before .before .before .wide .ensures) (c .note-places .ensures)
 
 pub note-reads-spec : {M : Type 1} → statement M
 note-reads-spec =
     tie.close
     (tie.spec
-    Inv-loop
-    μ-loop
-    places-requires
-    loop-holds
-    read-place-requires
+    cell-at-requires
+    cell-at-requires-2
+    cast-note
     note-requires
-    add-k
-    loop-less
-    loop-again
-    returns)
+    cell-at-requires-3
+    cast-note-2
+    note-requires-2
+    returns
+    cell-at-requires-4
+    wide-requires
+    uses-requires
+    cast-note-places
+    note-places-requires
+    returns-2)
