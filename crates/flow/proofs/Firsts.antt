@@ -1,26 +1,23 @@
 -- Bit by bit, the rows that sets.rt makes are what `model` says of each block: `read-first` and `written`. Assumes nothing.
 use mathlib.Core.Path.{_≡_, refl, sym, ap, ap₂, _∙_, subst}
-use mathlib.Core.Logic.{_⊎_, inl, inr, ⊎-elim}
+use mathlib.Core.Logic.{inl, inr}
 use mathlib.Core.Bool.{Bool, true, false, not, _&&_, _||_, true≢false}
-use mathlib.Core.List.{List, [], _∷_, _++_}
-use Prim.Native.Nat.{ℕ, zero, suc, _+_, _-_, _*_, _/_, _%_, _≤_, _<_}
-use native.Mathlib.Nat.{add-mul}
+use mathlib.Core.List.{List, [], _∷_}
+use Prim.Native.Nat.{ℕ, _+_, _-_, _*_, _/_, _≤_, _<_}
 use native.Mathlib.Omega.{arith}
 use lib.Dec.{eqb}
-use lib.ListN.{length, getD, drop, replicate, length-replicate, List·getD-append, getD-replicate}
+use lib.ListN.{length, getD}
 use borrow.Author.Tests.{ne-eqb}
-use Rattle.words.specs.Bits.{digit, digit-in, is-in, set-bit, unset-bit}
+use Rattle.words.specs.Bits.{is-in, set-bit, unset-bit}
 use Rattle.words.specs.Lists.{In, range, mem}
 use Rattle.words.proofs.Bools.{eqb-self}
-use Rattle.words.proofs.Digits.{digit-zero}
 use Rattle.words.proofs.Members.{in-map, range-in}
-use Rattle.words.proofs.Parts.{row-fits}
-use Rattle.words.proofs.Rows.{in-set, in-unset, length-set-bit, length-unset-bit, row-eqb, row-word}
-use Rattle.model.specs.Picture.{Picture, Inst, inst, reads, writes, code}
+use Rattle.words.proofs.Rows.{in-set, in-unset, length-set-bit, length-unset-bit, row-eqb}
+use Rattle.model.specs.Picture.{Inst, inst, reads, writes, code}
 use Rattle.model.specs.Live.{read-first, written}
 use Rattle.flow.specs.Drawn.{drawn}
 use Rattle.flow.specs.Graph.{Blocks}
-use Rattle.flow.specs.Sets.{steps, put, wrote, before, run, blocks, Below, Room}
+use Rattle.flow.specs.Sets.{steps, put, wrote, before, run, Below}
 
 -- number q of row y
 abbrev pub at : ℕ → ℕ → ℕ → ℕ
@@ -126,10 +123,6 @@ kill-bool true false = refl
 kill-bool false true = refl
 kill-bool false false = refl
 
-else-bool : (a : Bool) → (((a && true) || false) || false) ≡ a
-else-bool true = refl
-else-bool false = refl
-
 module _ (ops : List ℕ) (w x z : ℕ) (apart : x ≡ z → ⊥) where
   length-before : (l : List ℕ) (i : Inst) → length (before ops (x * w) (z * w) l i) ≡ length l
   unfolding before
@@ -175,91 +168,16 @@ module _ (ops : List ℕ) (w x z : ℕ) (apart : x ≡ z → ⊥) where
         ∙ kill-bool (is-in (Run l is) (at w z q)) (mem q (writes i))
         ∙ ap (λ (b : Bool). mem q (writes i) || b) (run-kill e is (λ i′ k. s i′ (inr k)))
 
-    pub run-else : (y : ℕ) → (y ≡ x → ⊥) → (y ≡ z → ⊥) → (is : List Inst) → ((i : Inst) → In i is → Small ops w i) → is-in (Run l is) (at w y q) ≡ is-in l (at w y q)
-    unfolding run
-    run-else y nx nz [] s = refl
-    run-else y nx nz (i ∷ is) s =
-        step i is (s i (inl refl)) y
-        ∙ ap₂ (λ (a b : Bool). ((is-in (Run l is) (at w y q) && not (a && mem q (writes i))) || (b && mem q (writes i))) || (a && mem q (reads ops i))) (ne-eqb y x nx) (ne-eqb y z nz)
-        ∙ else-bool (is-in (Run l is) (at w y q))
-        ∙ run-else y nx nz is (λ i′ k. s i′ (inr k))
+-- ---- a block
 
--- ---- all blocks
-
-module _ (bounds recs ops : List ℕ) (w : ℕ) (l : List ℕ) (ok : Blocks bounds recs) (small : Below recs ops (64 * w)) (room : Room (length bounds / 2) w l) where
-  abbrev P : Picture
-  P = drawn bounds recs ops [] []
-
-  abbrev n : ℕ
-  n = length bounds / 2
-
-  -- the registers of a block's instructions
-  pub code-small : (b : ℕ) → b < n → (i : Inst) → In i (code P b) → Small ops w i
-  code-small b h i k =
-      let z = in-map (inst recs) i (range (getD bounds (2 * b) 0) (getD bounds (2 * b + 1) 0 - getD bounds (2 * b) 0)) k in
-      let p : ℕ = z .0 in
-      let y = range-in p (getD bounds (2 * b) 0) (getD bounds (2 * b + 1) 0 - getD bounds (2 * b) 0) (z .1) in
-      let y1 = y .1 in
-      let y0 = y .0 in
-      let whole : 16 * p + 16 ≤ length recs = omega (arith, ok .inside b h) in
-      subst (λ (i : Inst). Small ops w i) (sym (z .2)) (record { read = λ q m. small .read p q whole m; written = λ q m. small .written p q whole m })
-
-  pub blocks-step : (b : ℕ) → blocks P w l (suc b) ≡ run ops (b * w) ((n + b) * w) (blocks P w l b) (code P b)
-  unfolding blocks
-  blocks-step b = ap (λ (d : ℕ). run ops (b * w) d (blocks P w l b) (code P b)) (sym (add-mul n b w))
-
-  abbrev B : ℕ → List ℕ
-  B b = blocks P w l b
-
-  pub length-blocks : (b : ℕ) → b ≤ n → length (B b) ≡ length l
-  unfolding blocks
-  length-blocks zero h = refl
-  length-blocks (suc b) h = ap length (blocks-step b) ∙ length-run ops w b (n + b) (λ e. omega arith) (B b) (code P b) ∙ length-blocks b (omega arith)
-
-  module _ (b : ℕ) (h : b < n) where
-    apart : b ≡ n + b → ⊥
-    apart e = omega arith
-
-    first-fits : b * w + w ≤ length (B b)
-    first-fits = omega (arith, row-fits w h, room .fits, length-blocks b (omega arith))
-
-    second-fits : (n + b) * w + w ≤ length (B b)
-    second-fits = omega (arith, row-fits w h, add-mul n b w, room .fits, length-blocks b (omega arith))
-
-    own-next : (q : ℕ) → q < 64 * w → is-in (B b) (at w b q) ≡ false → is-in (B (suc b)) (at w b q) ≡ read-first ops q (code P b)
-    own-next q j e = ap (λ (t : List ℕ). is-in t (at w b q)) (blocks-step b) ∙ run-own ops w b (n + b) apart (B b) first-fits second-fits q j e (code P b) (code-small b h)
-
-    kill-next : (q : ℕ) → q < 64 * w → is-in (B b) (at w (n + b) q) ≡ false → is-in (B (suc b)) (at w (n + b) q) ≡ written q (code P b)
-    kill-next q j e = ap (λ (t : List ℕ). is-in t (at w (n + b) q)) (blocks-step b) ∙ run-kill ops w b (n + b) apart (B b) first-fits second-fits q j e (code P b) (code-small b h)
-
-    else-next : (y q : ℕ) → q < 64 * w → (y ≡ b → ⊥) → (y ≡ n + b → ⊥) → is-in (B (suc b)) (at w y q) ≡ is-in (B b) (at w y q)
-    else-next y q j u v = ap (λ (t : List ℕ). is-in t (at w y q)) (blocks-step b) ∙ run-else ops w b (n + b) apart (B b) first-fits second-fits q j y u v (code P b) (code-small b h)
-
-  -- rows of blocks not reached yet
-  left : (b : ℕ) → b ≤ n → (y q : ℕ) → q < 64 * w → ((b ≤ y) × (y < n)) ⊎ (n + b ≤ y) → is-in (B b) (at w y q) ≡ is-in l (at w y q)
-  unfolding blocks
-  left zero h y q j k = refl
-  left (suc b) h y q j (inl k) = let k0 = k .0 in let k1 = k .1 in else-next b h y q j (λ e. omega arith) (λ e. omega arith) ∙ left b (omega arith) y q j (inl (omega arith, omega arith))
-  left (suc b) h y q j (inr k) = else-next b h y q j (λ e. omega arith) (λ e. omega arith) ∙ left b (omega arith) y q j (inr (omega arith))
-
-  module _ (none : (y q : ℕ) → y < n + n → q < 64 * w → is-in l (at w y q) ≡ false) where
-    pub first-bits : (b : ℕ) → b ≤ n → (c q : ℕ) → c < b → q < 64 * w → is-in (B b) (at w c q) ≡ read-first ops q (code P c)
-    first-bits zero h c q k j = absurd (omega arith)
-    first-bits (suc b) h c q k j = ⊎-elim
-        (λ (e : c ≡ b). rw e (own-next b h q j (left b (omega arith) b q j (inl (omega arith, omega arith)) ∙ none b q (omega arith) j)))
-        (λ (e : c ≡ b → ⊥). else-next b h c q j e (λ u. omega arith) ∙ first-bits b (omega arith) c q (omega arith) j) (Rattle.words.proofs.Bools.eq? c b)
-
-    pub written-bits : (b : ℕ) → b ≤ n → (c q : ℕ) → c < b → q < 64 * w → is-in (B b) (at w (n + c) q) ≡ written q (code P c)
-    written-bits zero h c q k j = absurd (omega arith)
-    written-bits (suc b) h c q k j = ⊎-elim
-        (λ (e : c ≡ b). rw e (kill-next b h q j (left b (omega arith) (n + b) q j (inr (omega arith)) ∙ none (n + b) q (omega arith) j)))
-        (λ (e : c ≡ b → ⊥). else-next b h (n + c) q j (λ u. omega arith) (λ u. e (omega arith)) ∙ written-bits b (omega arith) c q (omega arith) j) (Rattle.words.proofs.Bools.eq? c b)
-
--- rows that were cleared
-pub cleared : (w k : ℕ) (l : List ℕ) → (y q : ℕ) → y < k + k → q < 64 * w → is-in (replicate (k * w + k * w) 0 ++ drop (k * w + k * w) l) (at w y q) ≡ false
-unfolding is-in digit-in
-cleared w k l y q h j =
-    let inner : y * w + q / 64 < k * w + k * w = omega (arith, row-fits w h, add-mul k k w) in
-    rw row-word (ap (λ (x : ℕ). eqb (digit x ((64 * (y * w) + q) % 64)) 1)
-    (List·getD-append (replicate (k * w + k * w) 0) (drop (k * w + k * w) l) 0 (y * w + q / 64) (rw (length-replicate {A = ℕ} (k * w + k * w) 0) inner) ∙ getD-replicate {A = ℕ} (k * w + k * w) (y * w + q / 64) 0 0 inner)
-    ∙ ap (λ (x : ℕ). eqb x 1) (digit-zero ((64 * (y * w) + q) % 64)))
+-- the registers of its instructions
+pub code-small : (bounds recs ops : List ℕ) (w : ℕ) → Blocks bounds recs → Below recs ops (64 * w) → (b : ℕ) → b < length bounds / 2
+    → (i : Inst) → In i (code (drawn bounds recs ops [] []) b) → Small ops w i
+code-small bounds recs ops w ok small b h i k =
+    let z = in-map (inst recs) i (range (getD bounds (2 * b) 0) (getD bounds (2 * b + 1) 0 - getD bounds (2 * b) 0)) k in
+    let p : ℕ = z .0 in
+    let y = range-in p (getD bounds (2 * b) 0) (getD bounds (2 * b + 1) 0 - getD bounds (2 * b) 0) (z .1) in
+    let y1 = y .1 in
+    let y0 = y .0 in
+    let whole : 16 * p + 16 ≤ length recs = omega (arith, ok .inside b h) in
+    subst (λ (i : Inst). Small ops w i) (sym (z .2)) (record { read = λ q m. small .read p q whole m; written = λ q m. small .written p q whole m })

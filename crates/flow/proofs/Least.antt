@@ -3,28 +3,26 @@
 use mathlib.Core.Path.{_≡_, sym, ap, ap₂, _∙_, subst}
 use mathlib.Core.Logic.{_⊎_, ⊎-elim}
 use mathlib.Core.Bool.{Bool, true, false, not, _&&_, _||_}
-use mathlib.Core.List.{List, [], _++_}
-use Prim.Native.Nat.{ℕ, zero, _+_, _-_, _*_, _/_, _%_, _≤_, _<_, min}
+use mathlib.Core.List.{List, []}
+use Prim.Native.Nat.{ℕ, _+_, _-_, _*_, _/_, _%_, _≤_, _<_, min}
 use native.Mathlib.Nat.{add-mul, add-assoc, le-refl}
 use native.Mathlib.Omega.{arith}
 use lib.Dec.{T}
-use lib.ListN.{length, getD, drop, replicate}
+use lib.ListN.{length, getD, drop}
 use lib.Seq.{getD-drop}
 use Rattle.words.specs.Bits.{digit, digit-in, is-in}
 use Rattle.words.specs.Lists.{In, any, hit}
-use Rattle.words.proofs.Bools.{T-true, bool-ext, or-cases, left, right, T-false, hit-inj}
+use Rattle.words.proofs.Bools.{T-true, bool-ext, or-cases, left, right, T-false}
 use Rattle.words.proofs.Members.{any-in, any-of, in-getD, in-index}
 use Rattle.words.proofs.Rows.{hit-in, row-word, row-place}
 use Rattle.model.specs.Picture.{Picture, code, succs}
 use Rattle.model.specs.Live.{read-first, written, live-in}
 use Rattle.laws.proofs.Liveness.{live-solves, live-least}
 use Rattle.flow.specs.Drawn.{drawn}
-use Rattle.flow.specs.Graph.{Blocks}
-use Rattle.flow.specs.Sets.{blocks, Below, Room}
 use Rattle.flow.specs.Progress.{cell, Among, Solved}
-use Rattle.flow.specs.Live.{Live, Wrote}
+use Rattle.flow.specs.Live.{Live}
 use Rattle.flow.proofs.Whole.{succs-ops}
-use Rattle.flow.proofs.Firsts.{at, first-bits, written-bits, cleared}
+use Rattle.flow.proofs.Firsts.{at}
 
 -- ---- bits as tests and as numbers
 
@@ -61,9 +59,10 @@ edge-le true false false a h = let z = T-hit a (h tt) in omega arith
 
 -- ---- the theorem
 
-module _ (bounds recs ops pairs targets : List ℕ) (w : ℕ) (lₛ l₀ l m : List ℕ) (ok : Blocks bounds recs) (small : Below recs ops (64 * w))
-    (room : Room (length bounds / 2) w l₀) (e₀ : l₀ ≡ replicate (length bounds / 2 * w + length bounds / 2 * w) 0 ++ drop (length bounds / 2 * w + length bounds / 2 * w) lₛ)
-    (e : l ≡ blocks (drawn bounds recs ops [] []) w l₀ (length bounds / 2))
+-- l has at its head what each block reads first, and m is the least that holds it
+module _ (bounds recs ops pairs targets : List ℕ) (w : ℕ) (l m : List ℕ)
+    (first : (b r : ℕ) → b < length bounds / 2 → r < 64 * w → is-in l (at w b r) ≡ read-first ops r (code (drawn bounds recs ops pairs targets) b))
+    (wrote : (b r : ℕ) → b < length bounds / 2 → r < 64 * w → is-in l (at w (length bounds / 2 + b) r) ≡ written r (code (drawn bounds recs ops pairs targets) b))
     (s : Solved (length bounds / 2) w (succs (drawn bounds recs [] pairs targets)) l m) where
   abbrev P : Picture
   P = drawn bounds recs ops pairs targets
@@ -71,16 +70,12 @@ module _ (bounds recs ops pairs targets : List ℕ) (w : ℕ) (lₛ l₀ l m : L
   abbrev n : ℕ
   n = length bounds / 2
 
-  none : (y q : ℕ) → y < n + n → q < 64 * w → is-in l₀ (at w y q) ≡ false
-  none y q h j = subst (λ (t : List ℕ). is-in t (at w y q) ≡ false) (sym e₀) (cleared w n lₛ y q h j)
-
   -- what the rows begin with, and what is written
   gen : (b q : ℕ) → b < n → q < 64 * w → cell l w b q ≡ hit (read-first ops q (code P b))
-  gen b q h j = cell-is l w b q ∙ ap hit (ap (λ (t : List ℕ). is-in t (at w b q)) e ∙ first-bits bounds recs ops w l₀ ok small room none n (le-refl n) b q h j)
+  gen b q h j = cell-is l w b q ∙ ap hit (first b q h j)
 
   kill : (b q : ℕ) → b < n → q < 64 * w → cell (drop (n * w) l) w b q ≡ hit (written q (code P b))
-  kill b q h j = cell-drop l w n b q ∙ cell-is l w (n + b) q
-      ∙ ap hit (ap (λ (t : List ℕ). is-in t (at w (n + b) q)) e ∙ written-bits bounds recs ops w l₀ ok small room none n (le-refl n) b q h j)
+  kill b q h j = cell-drop l w n b q ∙ cell-is l w (n + b) q ∙ ap hit (wrote b q h j)
 
   -- the two ways to say that x is a successor of b
   to-in : (b x : ℕ) → Among (succs (drawn bounds recs [] pairs targets) b) (length (succs (drawn bounds recs [] pairs targets) b)) x → In x (succs P b)
@@ -129,10 +124,3 @@ module _ (bounds recs ops pairs targets : List ℕ) (w : ℕ) (lₛ l₀ l m : L
 
   pub live-rows : Live P w m
   live-rows = record { row = λ b r h j. is-live r j b h }
-
-  -- the rows of what is written are as the sets were made
-  pub written-rows : Wrote P w m
-  written-rows = record {
-    row = λ b r h j. hit-inj (is-in m (at w (n + b) r)) (written r (code P b))
-        (sym (cell-is m w (n + b) r) ∙ sym (cell-drop m w n b r) ∙ ap (λ (t : List ℕ). cell t w b r) (s .rest) ∙ kill b r h j);
-  }

@@ -7,5 +7,6 @@ pub mod Firsts
 pub mod Least
 pub mod Noted
 pub mod Outs
-pub mod Kept
+pub mod Standing
+pub mod Renewed
 pub mod Accepted

@@ -1,8 +1,8 @@
--- The loops of sets.rt: one register, one instruction, one block after the other. Assumes nothing.
+-- The loops of sets.rt: one register, one instruction after the other. Assumes nothing.
 use mathlib.Core.Path.{_≡_, refl, sym, ap, _∙_}
 use mathlib.Core.Bool.{Bool, cond}
 use mathlib.Core.List.{List, [], _∷_, _++_, map}
-use Prim.Native.Nat.{ℕ, suc, _+_, _-_, _*_, _/_, _≤_, _<_}
+use Prim.Native.Nat.{ℕ, suc, _+_, _-_, _*_, _≤_, _<_}
 use native.Mathlib.Nat.{le-antisymm}
 use native.Mathlib.Numerals.{add-one}
 use native.Mathlib.Omega.{arith}
@@ -11,11 +11,9 @@ use lib.Seq.{drop-cons}
 use borrow.Author.Tests.{eq-eqb, ne-eqb}
 use Rattle.words.specs.Bits.{set-bit, unset-bit}
 use Rattle.words.specs.Lists.{range}
-use Rattle.words.proofs.Parts.{row-fits}
 use Rattle.model.specs.Picture.{Inst, inst, absent, reads, writes}
 use Rattle.inst.specs.Record.{present}
-use Rattle.flow.specs.Drawn.{drawn}
-use Rattle.flow.specs.Sets.{steps, put, wrote, before, run, blocks, Room}
+use Rattle.flow.specs.Sets.{steps, put, wrote, before, run}
 
 -- ---- steps over a list
 
@@ -85,29 +83,3 @@ module _ (recs ops : List ℕ) (u d : ℕ) (l₀ : List ℕ) where
 
   pub run-all : (lo hi p : ℕ) {l : List ℕ} → lo ≤ p → p ≤ lo → l ≡ from p (hi - p) → l ≡ from lo (hi - lo)
   run-all lo hi p a b e = e ∙ ap (λ (x : ℕ). from x (hi - x)) (le-antisymm b a)
-
--- ---- all blocks
-
-module _ (bounds recs ops : List ℕ) (w : ℕ) (l₀ : List ℕ) where
-  abbrev upto-block : ℕ → List ℕ
-  upto-block b = blocks (drawn bounds recs ops [] []) w l₀ b
-
-  pub blocks-none : l₀ ≡ upto-block 0
-  unfolding blocks
-  blocks-none = refl
-
-  pub blocks-more : (b lo hi : ℕ) {l m : List ℕ} → lo ≡ getD bounds (2 * b) 0 → hi ≡ getD bounds (2 * b + 1) 0 → l ≡ upto-block b
-      → m ≡ run ops (b * w) (length bounds / 2 * w + b * w) l (map (inst recs) (range lo (hi - lo))) → m ≡ upto-block (b + 1)
-  unfolding blocks
-  blocks-more b lo hi p q e h =
-      h ∙ ap (λ (t : List ℕ). run ops (b * w) (length bounds / 2 * w + b * w) t (map (inst recs) (range lo (hi - lo)))) e
-      ∙ ap (λ (x : ℕ). run ops (b * w) (length bounds / 2 * w + b * w) (upto-block b) (map (inst recs) (range x (hi - x)))) p
-      ∙ ap (λ (x : ℕ). run ops (b * w) (length bounds / 2 * w + b * w) (upto-block b) (map (inst recs) (range (getD bounds (2 * b) 0) (x - getD bounds (2 * b) 0)))) q
-      ∙ ap upto-block (sym (add-one b))
-
-  pub blocks-all : (b n : ℕ) {l : List ℕ} → b ≤ n → n ≤ b → l ≡ upto-block b → l ≡ upto-block n
-  blocks-all b n a h e = e ∙ ap upto-block (le-antisymm a h)
-
--- row b, and row n + b, lie within
-pub rows-fit : {n w b : ℕ} {l : List ℕ} (m : List ℕ) → b < n → length m ≡ length l → Room n w l → (b * w + w ≤ length m) × (n * w + b * w + w ≤ length m)
-rows-fit {n} {w} m h e r = (omega (arith, row-fits w h, r .fits), omega (arith, row-fits w h, r .fits))

@@ -2,15 +2,15 @@
 -- Assumes nothing.
 use mathlib.Core.Path.{_≡_, refl, ap, _∙_}
 use mathlib.Core.Bool.{false}
-use mathlib.Core.List.{List, map}
-use Prim.Native.Nat.{ℕ}
+use mathlib.Core.List.{List, [], map}
+use Prim.Native.Nat.{ℕ, _<_}
 use Rattle.words.specs.Lists.{upto, any, mem, iterate, member}
 use Rattle.words.proofs.Lists.{map-ext}
 use Rattle.words.proofs.Members.{any-on, filter-on}
 use Rattle.model.specs.Picture.{Picture, End, goes, parts, cases, stops, nblocks, code, ending, end-succs, succs, preds}
 use Rattle.model.specs.Live.{Node, node, live-at, live-in, live-out, read-first, written}
 use Rattle.flow.specs.Drawn.{drawn}
-use Rattle.flow.specs.Live.{Live, Wrote}
+use Rattle.flow.specs.Live.{Live, Wrote, Rows}
 
 -- the end of a block, seen from two pictures with the same tables
 pub end-same : (bounds bounds′ recs recs′ ops ops′ pairs targets : List ℕ) (e : End)
@@ -24,6 +24,11 @@ pub succs-ops : (bounds recs ops ops′ pairs targets : List ℕ) (b : ℕ)
     → succs (drawn bounds recs ops pairs targets) b ≡ succs (drawn bounds recs ops′ pairs targets) b
 succs-ops bounds recs ops ops′ pairs targets b =
     end-same bounds bounds recs recs ops ops′ pairs targets (ending (drawn bounds recs ops pairs targets) b)
+
+-- the rows of a block do not hang on the tables
+pub rows-tables : (bounds recs ops pairs targets : List ℕ) (w b : ℕ) (bits : List ℕ)
+    → Rows (drawn bounds recs ops [] []) w b bits → Rows (drawn bounds recs ops pairs targets) w b bits
+rows-tables bounds recs ops pairs targets w b bits l = record { first = l .first; wrote = l .wrote }
 
 module _ (P : Picture) where
   abbrev Q : List ℕ → Picture
@@ -58,6 +63,16 @@ module _ (P : Picture) where
   -- so rows of the one are rows of the other
   pub live-rows-whole : (w : ℕ) (bits : List ℕ) → Live (Q (P .ops)) w bits → Live P w bits
   live-rows-whole w bits l = record { row = λ b r h i. l .row b r h i ∙ live-in-whole b r }
+
+  pub rows-whole : (pairs targets : List ℕ) (w b : ℕ) (bits : List ℕ) → Rows (drawn (P .bounds) (P .recs) (P .ops) pairs targets) w b bits → Rows P w b bits
+  rows-whole pairs targets w b bits l = record { first = l .first; wrote = l .wrote }
+
+  pub rows-drawn : (pairs targets : List ℕ) (w b : ℕ) (bits : List ℕ) → Rows P w b bits → Rows (drawn (P .bounds) (P .recs) (P .ops) pairs targets) w b bits
+  rows-drawn pairs targets w b bits l = record { first = l .first; wrote = l .wrote }
+
+  -- the rows of all blocks
+  pub wrote-rows : (w : ℕ) (bits : List ℕ) → ((b : ℕ) → b < nblocks P → Rows P w b bits) → Wrote P w bits
+  wrote-rows w bits l = record { row = λ b r h i. l b h .wrote r i }
 
   pub wrote-whole : (ops : List ℕ) (w : ℕ) (bits : List ℕ) → Wrote (Q ops) w bits → Wrote P w bits
   wrote-whole ops w bits l = record { row = l .row }

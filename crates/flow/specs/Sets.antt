@@ -1,11 +1,11 @@
 -- The rows of bits that the instructions make (01, "A round": "read before written", "written"): of each block a row of what
 -- is read before it is written, from word u of the slice on, and a row of what is written, from word d on. Assumes nothing.
 use mathlib.Core.List.{List, [], _∷_}
-use Prim.Native.Nat.{ℕ, zero, suc, _+_, _*_, _<_, _≤_}
+use Prim.Native.Nat.{ℕ, _+_, _*_, _<_, _≤_}
 use lib.ListN.{length}
 use Rattle.words.specs.Bits.{set-bit, unset-bit}
 use Rattle.words.specs.Lists.{In}
-use Rattle.model.specs.Picture.{Picture, Inst, inst, reads, writes, nblocks, code}
+use Rattle.model.specs.Picture.{Inst, inst, reads, writes}
 use Rattle.inst.specs.Record.{Known, Listed}
 
 -- f with one number of the list after the other
@@ -30,11 +30,6 @@ unfoldable pub run : List ℕ → ℕ → ℕ → List ℕ → List Inst → Lis
 run ops u d ws [] = ws
 run ops u d ws (i ∷ is) = before ops u d (run ops u d ws is) i
 
--- blocks 0 to b - 1 of n, w words a row: block b's are rows b and n + b
-unfoldable pub blocks : Picture → ℕ → List ℕ → ℕ → List ℕ
-blocks P w ws zero = ws
-blocks P w ws (suc b) = run (P .ops) (b * w) (nblocks P * w + b * w) (blocks P w ws b) (code P b)
-
 -- what acceptance (01, "The call", causes 4 and 6) gives of the records: known kinds, lists within the operands
 pub record Code (recs ops : List ℕ) : Type 0 where
   pub known : (p : ℕ) → 16 * p + 16 ≤ length recs → Known recs p
@@ -45,6 +40,6 @@ pub record Below (recs ops : List ℕ) (R : ℕ) : Type 0 where
   pub read : (p q : ℕ) → 16 * p + 16 ≤ length recs → In q (reads ops (inst recs p)) → q < R
   pub written : (p q : ℕ) → 16 * p + 16 ≤ length recs → In q (writes (inst recs p)) → q < R
 
--- n blocks have their two rows of w words in the slice
+-- n blocks have their rows of live-in and of what they write, of w words each, in the slice
 pub record Room (n w : ℕ) (bits : List ℕ) : Type 0 where
   pub fits : n * w + n * w ≤ length bits

@@ -43,7 +43,7 @@ fn payload(recs: &[u32], p: usize, n: usize) -> &[u32]
 
 // Where record p goes if it ends a block.
 fn targets_of<'a>(
-    t: &[u32; 101],
+    t: &[u32; 202],
     recs: &'a [u32],
     pairs: &[u32],
     targets: &'a [u32],
@@ -61,7 +61,7 @@ fn targets_of<'a>(
 
 // The successors of block b.
 pub fn succs<'a>(
-    t: &[u32; 101],
+    t: &[u32; 202],
     bounds: &[u32],
     recs: &'a [u32],
     pairs: &[u32],
@@ -128,7 +128,7 @@ fn note_all(words: &mut [u32], list: &[u32], c: u32)
 // For each block how many predecessors it has, up to two, and the first: words 2 b and 2 b + 1.
 pub fn find_preds<'a>(
     words: &mut [u32],
-    t: &[u32; 101],
+    t: &[u32; 202],
     bounds: &[u32],
     recs: &'a [u32],
     pairs: &[u32],

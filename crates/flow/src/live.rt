@@ -3,8 +3,6 @@
 // live into each successor and not written, in sweeps from the last block to the first and from the first to the last by
 // turns, so that a chain of blocks settles in one sweep whichever way its numbers go, until nothing changes.
 use crate::graph::succs;
-use crate::sets::all_sets;
-use crate::sets::clear_first;
 use inst::record::wide;
 use words::bits::bit_in;
 ghost use mathlib.Core.Path.{_≡_};
@@ -12,7 +10,8 @@ ghost use mathlib.Core.Bool.{not};
 ghost use mathlib.Core.List.{List, [], map};
 ghost use Prim.Native.Nat.{ℕ, _+_, _*_, _/_, _^_, _≤_, _<_};
 ghost use lib.Dec.{eqb};
-ghost use lib.ListN.{length, getD, set, drop};
+ghost use lib.ListN.{length, getD, set, take, drop};
+ghost use lib.Seq.{sets};
 ghost use Rattle.words.specs.Bits.{is-in};
 ghost use Rattle.words.specs.Lists.{upto, any};
 ghost use Rattle.model.specs.Picture.{succs};
@@ -20,9 +19,9 @@ ghost use Rattle.model.specs.Live.{live-out};
 ghost use Rattle.inst.specs.Table.{rows};
 ghost use Rattle.flow.specs.Drawn.{drawn};
 ghost use Rattle.flow.specs.Graph.{Graph};
-ghost use Rattle.flow.specs.Sets.{Code, Below, Room};
+ghost use Rattle.flow.specs.Sets.{Room};
 ghost use Rattle.flow.specs.Progress.{raised, Among, Edges, Progress, Solved};
-ghost use Rattle.flow.specs.Live.{Live, Wrote, LiveOut, gathered};
+ghost use Rattle.flow.specs.Live.{RowRoom, Rows, Live, LiveOut, gathered};
 
 // One word: a takes what stands at c and not at d. Tells whether it changed.
 fn raise(bits: &mut [u64], a: usize, c: usize, d: usize) -> bool
@@ -73,7 +72,7 @@ fn settle(bits: &mut [u64], list: &[u32], n: usize, w: usize, b: usize) -> bool
 // Every block once, from the last to the first. Tells whether one changed.
 fn sweep<'a>(
     bits: &mut [u64],
-    t: &[u32; 101],
+    t: &[u32; 202],
     bounds: &[u32],
     recs: &'a [u32],
     pairs: &[u32],
@@ -100,7 +99,7 @@ fn sweep<'a>(
 // Every block once, from the first to the last. Tells whether one changed.
 fn sweep_up<'a>(
     bits: &mut [u64],
-    t: &[u32; 101],
+    t: &[u32; 202],
     bounds: &[u32],
     recs: &'a [u32],
     pairs: &[u32],
@@ -127,7 +126,7 @@ fn sweep_up<'a>(
 // Sweeps down and up until a sweep up changes nothing: then every edge holds, whatever the sweep down changed.
 fn solve<'a>(
     bits: &mut [u64],
-    t: &[u32; 101],
+    t: &[u32; 202],
     bounds: &[u32],
     recs: &'a [u32],
     pairs: &[u32],
@@ -145,11 +144,23 @@ fn solve<'a>(
     }
 }
 
-// Live-in of every block: row b, of w words, at the head of the slice. The n rows behind them are what each
-// block writes, and what lies behind those is left as it was.
+// n words from s on go to the head of the slice.
+fn to_head(bits: &mut [u64], s: usize, n: usize)
+    requires { ⌜ s + n ≤ length (now bits) ⌝ }
+    ensures { λ _. ⌜ now (bits .exit) ≡ sets (now (bits .entry)) 0 (take n (drop s (now (bits .entry)))) ⌝ }
+{
+    let mut i = 0usize;
+    while i < n {
+        bits[i] = bits[s + i];
+        i += 1;
+    }
+}
+
+// Live-in of every block: row b, of w words, at the head of the slice, from the rows that rows.rt makes. What
+// lies behind the n rows of live-in is left as it was.
 pub fn live_in<'a>(
     bits: &mut [u64],
-    t: &[u32; 101],
+    t: &[u32; 202],
     bounds: &[u32],
     recs: &'a [u32],
     ops: &[u32],
@@ -157,15 +168,13 @@ pub fn live_in<'a>(
     targets: &'a [u32],
     w: usize,
 )
-    requires { ⌜ (now t ≡ rows) × Graph (now bounds) (now recs) (now pairs) (now targets) × Code (now recs) (now ops) × Below (now recs) (now ops) (64 * w)
-        × Room (length (now bounds) / 2) w (now bits) ⌝ }
+    requires { ⌜ (now t ≡ rows) × Graph (now bounds) (now recs) (now pairs) (now targets) × RowRoom (length (now bounds) / 2) w (now bits)
+        × ((b : ℕ) → b < length (now bounds) / 2 → Rows (drawn (now bounds) (now recs) (now ops) (now pairs) (now targets)) w b (now bits)) ⌝ }
     ensures { λ _. ⌜ Live (drawn (now (bounds .entry)) (now (recs .entry)) (now (ops .entry)) (now (pairs .entry)) (now (targets .entry))) w (now (bits .exit)) ⌝ }
-    ensures { λ _. ⌜ drop (length (now (bounds .entry)) / 2 * w + length (now (bounds .entry)) / 2 * w) (now (bits .exit)) ≡ drop (length (now (bounds .entry)) / 2 * w + length (now (bounds .entry)) / 2 * w) (now (bits .entry)) ⌝ }
-    ensures { λ _. ⌜ Wrote (drawn (now (bounds .entry)) (now (recs .entry)) (now (ops .entry)) (now (pairs .entry)) (now (targets .entry))) w (now (bits .exit)) ⌝ }
+    ensures { λ _. ⌜ drop (length (now (bounds .entry)) / 2 * w) (now (bits .exit)) ≡ drop (length (now (bounds .entry)) / 2 * w) (now (bits .entry)) ⌝ }
 {
     let n = bounds.len() / 2;
-    clear_first(bits, n * w + n * w);
-    all_sets(t, bits, bounds, recs, ops, w);
+    to_head(bits, (2 * n + 1) * w, n * w);
     solve(bits, t, bounds, recs, pairs, targets, w);
 }
 
@@ -201,7 +210,7 @@ fn gather_all(out: &mut [u64], bits: &[u64], list: &[u32])
 pub fn live_out<'a>(
     out: &mut [u64],
     bits: &[u64],
-    t: &[u32; 101],
+    t: &[u32; 202],
     bounds: &[u32],
     recs: &'a [u32],
     pairs: &[u32],
@@ -234,7 +243,7 @@ fn in_one(bits: &[u64], list: &[u32], w: usize, r: usize) -> bool
 // Is register r live out of block b?
 pub fn lives_out<'a>(
     bits: &[u64],
-    t: &[u32; 101],
+    t: &[u32; 202],
     bounds: &[u32],
     recs: &'a [u32],
     pairs: &[u32],

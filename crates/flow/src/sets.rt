@@ -1,6 +1,6 @@
-// What each block reads before it writes it, and what it writes (01, "A round": "read before written"; in the Rust the first
-// part of `liveness`), in rows of bits, w words a row. A block's instructions are taken from the last to the first: what one
-// writes goes out of the row of reads, and what it reads goes in.
+// What a run of instructions reads before it writes it, and what it writes (01, "A round": "read before written"; in the Rust
+// the first part of `liveness`), in two rows of bits. The instructions are taken from the last to the first: what one writes
+// goes out of the row of reads, and what it reads goes in.
 use inst::access::list;
 use inst::access::read_at;
 use inst::access::uses;
@@ -9,28 +9,14 @@ use inst::record::wide;
 use words::bits::set_in;
 use words::bits::unset_in;
 ghost use mathlib.Core.Path.{_≡_};
-ghost use mathlib.Core.List.{[], _++_, map};
-ghost use Prim.Native.Nat.{_+_, _-_, _*_, _/_, _≤_, _<_};
-ghost use lib.ListN.{length, drop, replicate};
+ghost use mathlib.Core.List.{map};
+ghost use Prim.Native.Nat.{_-_, _*_, _≤_};
+ghost use lib.ListN.{length};
 ghost use Rattle.words.specs.Lists.{range};
 ghost use Rattle.model.specs.Picture.{inst, writes};
 ghost use Rattle.inst.specs.Table.{rows};
 ghost use Rattle.inst.specs.Record.{Known, Listed, Used, present, rest-reads};
-ghost use Rattle.flow.specs.Drawn.{drawn};
-ghost use Rattle.flow.specs.Graph.{Blocks};
-ghost use Rattle.flow.specs.Sets.{steps, put, wrote, before, run, blocks, Code, Room};
-
-// The first n words cleared.
-pub fn clear_first(bits: &mut [u64], n: usize)
-    requires { ⌜ n ≤ length (now bits) ⌝ }
-    ensures { λ _. ⌜ now (bits .exit) ≡ replicate n 0 ++ drop n (now (bits .entry)) ⌝ }
-{
-    let mut i = 0usize;
-    while i < n {
-        bits[i] = 0;
-        i += 1;
-    }
-}
+ghost use Rattle.flow.specs.Sets.{steps, put, wrote, before, run, Code};
 
 // Register r, if it is one, is written.
 fn write_one(bits: &mut [u64], u: usize, d: usize, r: u32)
@@ -96,7 +82,7 @@ fn read_list(bits: &mut [u64], xs: &[u32], u: usize)
 
 // Record p in front of those that the rows are of.
 fn add_front(
-    t: &[u32; 101],
+    t: &[u32; 202],
     bits: &mut [u64],
     recs: &[u32],
     ops: &[u32],
@@ -114,8 +100,8 @@ fn add_front(
 }
 
 // The rows of the records from lo up to hi.
-fn block_sets(
-    t: &[u32; 101],
+pub fn block_sets(
+    t: &[u32; 202],
     bits: &mut [u64],
     recs: &[u32],
     ops: &[u32],
@@ -131,27 +117,5 @@ fn block_sets(
     while lo < p {
         p -= 1;
         add_front(t, bits, recs, ops, p, u, d);
-    }
-}
-
-// The rows of every block: block b's row of reads is row b of n, and its row of writes row n + b.
-pub fn all_sets(
-    t: &[u32; 101],
-    bits: &mut [u64],
-    bounds: &[u32],
-    recs: &[u32],
-    ops: &[u32],
-    w: usize,
-)
-    requires { ⌜ (now t ≡ rows) × Blocks (now bounds) (now recs) × Code (now recs) (now ops) × Room (length (now bounds) / 2) w (now bits) ⌝ }
-    ensures { λ _. ⌜ now (bits .exit) ≡ blocks (drawn (now (bounds .entry)) (now (recs .entry)) (now (ops .entry)) [] []) w (now (bits .entry)) (length (now (bounds .entry)) / 2) ⌝ }
-{
-    let n = bounds.len() / 2;
-    let mut b = 0usize;
-    while b < n {
-        let lo = wide(bounds[2 * b]);
-        let hi = wide(bounds[2 * b + 1]);
-        block_sets(t, bits, recs, ops, lo, hi, b * w, n * w + b * w);
-        b += 1;
     }
 }

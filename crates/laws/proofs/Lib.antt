@@ -22,4 +22,5 @@ pub mod Ordered
 pub mod Applied
 pub mod Endings
 pub mod Unchanged
+pub mod Apart
 pub mod Keeps

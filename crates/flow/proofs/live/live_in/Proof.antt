@@ -1,50 +1,44 @@
 -- `flow::live::live_in` meets its contract. Assumes nothing.
-use Rattle.flow.proofs.Joins.{room-kept}
-use Rattle.flow.proofs.Least.{live-rows, written-rows}
-use Rattle.flow.proofs.Kept.{rest-kept}
 use borrow.Author.Needs.{needs}
+use mathlib.Core.Path.{_∙_}
+use native.Mathlib.Omega.{arith}
+use Rattle.flow.proofs.Standing.{live-room, head-fits, live-from, live-behind}
 use Rattle.flow.proofs.live.live_in.Statement.{statement}
 use Rattle.flow.proofs.live.live_in.Tie as tie
 
-mul-clear-first : tie.Need-mul-clear-first
-mul-clear-first c = search needs
+mul-to-head : tie.Need-mul-to-head
+mul-to-head c = search needs
 
-mul-clear-first-2 : tie.Need-mul-clear-first-2
-mul-clear-first-2 c = search needs
+add-to-head : tie.Need-add-to-head
+add-to-head c = search needs
 
-add-clear-first : tie.Need-add-clear-first
-add-clear-first c = search needs
+mul-to-head-2 : tie.Need-mul-to-head-2
+mul-to-head-2 c = let s = c .before .before .before .before .before .before .before in let h = head-fits (s .pre .2) in let g = s .good in omega arith
 
-clear-first-requires : tie.Need-clear-first-requires
-clear-first-requires c κs = search needs
+mul-to-head-3 : tie.Need-mul-to-head-3
+mul-to-head-3 c = let s = c .before .before .before .before .before .before .before in let h = head-fits (s .pre .2) in let g = s .good in omega arith
 
-all-sets-requires : tie.Need-all-sets-requires
-all-sets-requires c κs = search needs
+to-head-requires : tie.Need-to-head-requires
+to-head-requires c κs = head-fits (c .before .before .before .before .before .before .before .pre .2)
 
 solve-requires : tie.Need-solve-requires
-solve-requires c κs = search needs
+solve-requires c κs = let p = c .before .before .before .before .before .before .before .before .before .before .before .pre in (p .0, p .1, live-room _ (c .before .before .before .to-head .kept .0) (p .2))
 
 same-length : tie.Need-same-length
-same-length c = search needs
+same-length c = c .before .before .solve .ensures .size ∙ c .before .before .before .before .before .before .to-head .kept .0
 
 returns : tie.Need-returns
-returns c = let s = c .before .before .before .before .before .before .before .before .before .before .before .before .before .before .before .before .before .before in let a = s .args in let r = room-kept _ (c .before .before .before .before .before .before .before .before .before .before .clear-first .kept .0) (s .pre .4) in (
-  live-rows (a .bounds .now) (a .recs .now) (a .ops .now) (a .pairs .now) (a .targets .now) (a .w) (a .bits .now) _ _ _ (s .pre .1 .blocks) (s .pre .3) r (c .before .before .before .before .before .before .before .before .before .before .clear-first .ensures) (c .before .before .before .before .before .before .all-sets .ensures) (c .before .before .solve .ensures),
-  (
-    rest-kept (a .bounds .now) (a .recs .now) (a .ops .now) (a .w) _ (s .pre .1 .blocks) (s .pre .3) r (a .bits .now) _ _ _ (c .before .before .before .before .before .before .before .before .before .before .clear-first .ensures) (c .before .before .before .before .before .before .all-sets .ensures) (c .before .before .solve .ensures),
-    written-rows (a .bounds .now) (a .recs .now) (a .ops .now) (a .pairs .now) (a .targets .now) (a .w) (a .bits .now) _ _ _ (s .pre .1 .blocks) (s .pre .3) r (c .before .before .before .before .before .before .before .before .before .before .clear-first .ensures) (c .before .before .before .before .before .before .all-sets .ensures) (c .before .before .solve .ensures),
-  ),
-)
+returns c = let s = c .before .before .before .before .before .before .before .before .before .before .before .before .before .before in let a = s .args in (live-from (a .bounds .now) (a .recs .now) (a .ops .now) (a .pairs .now) (a .targets .now) (a .w) (a .bits .now) _ _ (s .pre .2) (c .before .before .before .before .before .before .to-head .ensures) (c .before .before .solve .ensures) (s .pre .3), live-behind (a .bounds .now) (a .recs .now) (a .ops .now) (a .pairs .now) (a .targets .now) (a .w) (a .bits .now) _ _ (s .pre .2) (c .before .before .before .before .before .before .to-head .ensures) (c .before .before .solve .ensures))
 
 pub live-in-spec : {M : Type 1} → statement M
 live-in-spec =
     tie.close
     (tie.spec
-    mul-clear-first
-    mul-clear-first-2
-    add-clear-first
-    clear-first-requires
-    all-sets-requires
+    mul-to-head
+    add-to-head
+    mul-to-head-2
+    mul-to-head-3
+    to-head-requires
     solve-requires
     same-length
     returns)

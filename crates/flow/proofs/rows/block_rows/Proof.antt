@@ -1,0 +1,93 @@
+-- `flow::rows::block_rows` meets its contract. Assumes nothing.
+use borrow.Author.Needs.{needs}
+use mathlib.Core.Path.{_∙_}
+use native.Mathlib.Omega.{arith}
+use Rattle.flow.proofs.Standing.{first-fits, wrote-fits}
+use Rattle.flow.proofs.Renewed.{rows-made, only-made}
+use Rattle.flow.proofs.rows.block_rows.Statement.{statement}
+use Rattle.flow.proofs.rows.block_rows.Tie as tie
+
+mul-u : tie.Need-mul-u
+mul-u c = search needs
+
+add-u : tie.Need-add-u
+add-u c = search needs
+
+add-u-2 : tie.Need-add-u-2
+add-u-2 c = search needs
+
+mul-u-2 : tie.Need-mul-u-2
+mul-u-2 c = let s = c .before .before .before .before in let u = first-fits (s .pre .4) (s .pre .5) in let g = s .good in omega arith
+
+add-d : tie.Need-add-d
+add-d c = search needs
+
+mul-d : tie.Need-mul-d
+mul-d c = let s = c .before .before .before .before in let d = wrote-fits (s .pre .4) (s .pre .5) in let g = s .good in omega arith
+
+clear-at-requires : tie.Need-clear-at-requires
+clear-at-requires c κs = let s = c .before .before .before .before .before in first-fits (s .pre .4) (s .pre .5)
+
+clear-at-requires-2 : tie.Need-clear-at-requires-2
+clear-at-requires-2 c κs = let s = c .before .before .before .before .before .before .before .before .before in rw (c .before .before .before .clear-at .kept .0) (wrote-fits (s .pre .4) (s .pre .5))
+
+mul-wide : tie.Need-mul-wide
+mul-wide c = search needs
+
+mul-wide-2 : tie.Need-mul-wide-2
+mul-wide-2 c = search needs
+
+shared-slice-read-wide : tie.Need-shared-slice-read-wide
+shared-slice-read-wide c = search needs
+
+wide-requires : tie.Need-wide-requires
+wide-requires c κs = search needs
+
+mul-wide-3 : tie.Need-mul-wide-3
+mul-wide-3 c = search needs
+
+add-wide : tie.Need-add-wide
+add-wide c = search needs
+
+mul-wide-4 : tie.Need-mul-wide-4
+mul-wide-4 c = search needs
+
+shared-slice-read-wide-2 : tie.Need-shared-slice-read-wide-2
+shared-slice-read-wide-2 c = search needs
+
+wide-requires-2 : tie.Need-wide-requires-2
+wide-requires-2 c κs = search needs
+
+block-sets-requires : tie.Need-block-sets-requires
+block-sets-requires c κs = let s = c .before .before .before .before .before .before .before .before .before .before .before .before .before .before .before .before .before in let u = first-fits (s .pre .4) (s .pre .5) in let d = wrote-fits (s .pre .4) (s .pre .5) in let e₁ = c .before .before .before .before .before .before .before .before .before .before .before .clear-at .kept .0 in let e₂ = c .before .before .before .before .before .before .before .clear-at2 .kept .0 in let lo = c .before .before .before .wide .ensures in let hi = c .before .wide2 .ensures in let o = s .pre .1 .order _ (s .pre .5) in let i = s .pre .1 .inside _ (s .pre .5) in (s .pre .0, omega arith, omega arith, omega arith, omega arith, s .pre .2)
+
+same-length : tie.Need-same-length
+same-length c = c .before .before .block-sets .kept .1 .0 ∙ c .before .before .before .before .before .before .before .before .before .before .clear-at2 .kept .0 ∙ c .before .before .before .before .before .before .before .before .before .before .before .before .before .before .clear-at .kept .0
+
+returns : tie.Need-returns
+returns c = let s = c .before .before .before .before .before .before .before .before .before .before .before .before .before .before .before .before .before .before .before .before in let a = s .args in (rows-made (a .bounds .now) (a .recs .now) (a .ops .now) (a .w) (a .b) (a .bits .now) (s .pre .1) (s .pre .3) (s .pre .4) (s .pre .5) (c .before .before .before .before .before .before .before .before .before .before .before .before .before .before .clear-at .ensures) (c .before .before .before .before .before .before .before .before .before .before .clear-at2 .ensures) (c .before .before .before .before .before .before .wide .ensures) (c .before .before .before .before .wide2 .ensures) (c .before .before .block-sets .ensures), only-made (a .bounds .now) (a .recs .now) (a .ops .now) (a .w) (a .b) (a .bits .now) (s .pre .1) (s .pre .3) (s .pre .4) (s .pre .5) (c .before .before .before .before .before .before .before .before .before .before .before .before .before .before .clear-at .ensures) (c .before .before .before .before .before .before .before .before .before .before .clear-at2 .ensures) (c .before .before .before .before .before .before .wide .ensures) (c .before .before .before .before .wide2 .ensures) (c .before .before .block-sets .ensures))
+
+pub block-rows-spec : {M : Type 1} → statement M
+block-rows-spec =
+    tie.close
+    (tie.spec
+    mul-u
+    add-u
+    add-u-2
+    mul-u-2
+    add-d
+    mul-d
+    clear-at-requires
+    clear-at-requires-2
+    mul-wide
+    mul-wide-2
+    shared-slice-read-wide
+    wide-requires
+    mul-wide-3
+    add-wide
+    mul-wide-4
+    shared-slice-read-wide-2
+    wide-requires-2
+    block-sets-requires
+    same-length
+    returns)
