@@ -19,7 +19,7 @@ ghost use Rattle.apply.specs.Apply.{Rest, picture, plan, Stands, Given, 
 
 // From block x into block `into`. The chain has n positions, the first m of them in x; r registers and u operands are in use.
 pub fn apply(
-    t: &[u32; 101],
+    t: &[u32; 202],
     bounds: &mut [u32],
     recs: &mut [u32],
     locs: &mut [u32],

@@ -23,8 +23,8 @@ module _ (P : Picture) (work64 work32 : List ℕ) (ok : refusal P (length work64
   pub blocks-few : nblocks P ≤ 4096
   blocks-few = rooms-of P (length work64) (length work32) ok .few-blocks
 
-  pub beginning : Beginning (P .bounds) (P .recs) (P .pairs) (P .targets) work64 work32 (length (P .types)) (length (P .locs))
-  beginning = record { P = P; accepted = ok; bounds-are = refl; recs-are = refl; pairs-are = refl; targets-are = refl; lent-are = refl; insts-are = refl }
+  pub beginning : Beginning (P .bounds) (P .recs) (P .ops) (P .pairs) (P .targets) work64 work32 (length (P .types)) (length (P .locs)) (P .regs)
+  beginning = record { P = P; accepted = ok; bounds-are = refl; recs-are = refl; ops-are = refl; pairs-are = refl; targets-are = refl; lent-are = refl; insts-are = refl; regs-are = refl }
 
   shown : Shown P (P .bounds) (P .recs) (P .ops) (P .pairs) (P .targets) (P .replay) (sizes-of P) (length work64) (length work32)
   shown = record {
@@ -33,9 +33,9 @@ module _ (P : Picture) (work64 work32 : List ℕ) (ok : refusal P (length work64
     replay-are = refl;
   }
 
-  module _ {work64′ work32′ : List ℕ} (b : Began (P .bounds) (P .recs) (P .pairs) (P .targets) work64 work32 (length (P .types)) (length (P .locs)) work64′ work32′) where
+  module _ {work64′ work32′ : List ℕ} (b : Began (P .bounds) (P .recs) (P .ops) (P .pairs) (P .targets) work64 work32 (length (P .types)) (length (P .locs)) (P .regs) work64′ work32′) where
     begun : Begun P (facts P) work64′ work32′
-    begun = b .begun P ok refl refl refl refl refl refl
+    begun = b .begun P ok refl refl refl refl refl refl refl refl
 
     shown-after : Shown P (P .bounds) (P .recs) (P .ops) (P .pairs) (P .targets) (P .replay) (sizes-of P) (length work64′) (length work32′)
     shown-after = shown-at (b .size64) (b .size32) shown

@@ -46,7 +46,7 @@ fn put_move(out: &mut [usize], r: MaybeMove) -> u32
 
 // The move from block x of an accepted picture, facts, predecessors and live-in made for this one search.
 fn seek<'a>(
-    t: &[u32; 101],
+    t: &[u32; 202],
     bounds: &[u32],
     recs: &'a [u32],
     locs: &[u32],
@@ -75,12 +75,14 @@ fn seek<'a>(
         t,
         bounds,
         recs,
+        ops,
         pairs,
         targets,
         work64,
         work32,
         types.len(),
         locs.len(),
+        registers,
     );
     let w = width(wide(registers));
     live_in(work64, t, bounds, recs, ops, pairs, targets, w);

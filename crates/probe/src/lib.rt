@@ -5,6 +5,7 @@ pub mod attempt; // attempt.rt: the search from one block
 
 use flow::graph::find_preds;
 use flow::live::live_in;
+use flow::rows::all_rows;
 use inst::table::table;
 use picture::refusal;
 ghost use mathlib.Core.Path.{_≡_};
@@ -144,6 +145,7 @@ pub extern "C" fn virdzeba_live<'a>(
         return r;
     }
     let w = row_words(registers);
+    all_rows(bits, &t, bounds, recs, ops, w);
     live_in(bits, &t, bounds, recs, ops, pairs, targets, w);
     0
 }

@@ -16,7 +16,7 @@ ghost use Rattle.rename.specs.All.{AskAll, all-places, all-jobs};
 // How many operands the move would append. The chain has n positions, the first m of them in x, whose records start at lo; the
 // target's records are a to e; u operands are in use.
 pub fn count_all(
-    t: &[u32; 101],
+    t: &[u32; 202],
     recs: &[u32],
     lo: usize,
     m: usize,
@@ -39,7 +39,7 @@ pub fn count_all(
 
 // The members and the target's own records made anew where they lie. Returns the operands in use then.
 pub fn rename_all(
-    t: &[u32; 101],
+    t: &[u32; 202],
     recs: &mut [u32],
     lo: usize,
     m: usize,

@@ -31,7 +31,7 @@ fn count_list(recs: &[u32], q: usize, ops: &[u32], names: &[u64], u: usize) -> u
 
 // Record q of x.
 fn count_pass(
-    t: &[u32; 101],
+    t: &[u32; 202],
     recs: &[u32],
     q: usize,
     ops: &[u32],
@@ -56,7 +56,7 @@ fn count_pass(
 
 // The m positions of x, whose records start at lo.
 pub fn count_x(
-    t: &[u32; 101],
+    t: &[u32; 202],
     recs: &[u32],
     lo: usize,
     m: usize,
@@ -90,7 +90,7 @@ pub fn count_x(
 
 // Record q of the target.
 fn count_own(
-    t: &[u32; 101],
+    t: &[u32; 202],
     recs: &[u32],
     q: usize,
     ops: &[u32],
@@ -108,7 +108,7 @@ fn count_own(
 
 // The target's records a to e, behind n operands that were counted before.
 pub fn count_target(
-    t: &[u32; 101],
+    t: &[u32; 202],
     recs: &[u32],
     a: usize,
     e: usize,

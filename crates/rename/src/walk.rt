@@ -15,7 +15,7 @@ ghost use Rattle.rename.specs.Runs.{Run, Pass, Passed, AskX, PassedX, As
 
 // Record q of x: a kept one's writes keep their names; a member is made anew, and the register d that it wrote is named nw.
 fn pass(
-    t: &[u32; 101],
+    t: &[u32; 202],
     recs: &mut [u32],
     q: usize,
     ops: &mut [u32],
@@ -41,7 +41,7 @@ fn pass(
 
 // The m positions of x, whose records start at lo, where u operands are in use. Returns how many are then.
 pub fn pass_all(
-    t: &[u32; 101],
+    t: &[u32; 202],
     recs: &mut [u32],
     lo: usize,
     m: usize,
@@ -75,7 +75,7 @@ pub fn pass_all(
 
 // Positions a to e of the chain, all kept.
 pub fn skip_all(
-    t: &[u32; 101],
+    t: &[u32; 202],
     recs: &[u32],
     w: &[u32],
     a: usize,
@@ -96,7 +96,7 @@ pub fn skip_all(
 
 // Record q of the target: its reads are renamed, and then what it writes keeps its name.
 fn own(
-    t: &[u32; 101],
+    t: &[u32; 202],
     recs: &mut [u32],
     q: usize,
     ops: &mut [u32],
@@ -115,7 +115,7 @@ fn own(
 
 // The target's records a to e, where o operands are in use. Returns how many are then.
 pub fn own_all(
-    t: &[u32; 101],
+    t: &[u32; 202],
     recs: &mut [u32],
     a: usize,
     e: usize,

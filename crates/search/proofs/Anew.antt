@@ -1,34 +1,25 @@
 -- A round starts with live-in anew (01, "A round"): it is found in the first words, and what the call began with stays. Assumes nothing.
-use mathlib.Core.Path.{_≡_, refl, sym, ap, ap₂, _∙_, subst}
+use mathlib.Core.Path.{_≡_, refl, ap, ap₂, _∙_, subst}
 use mathlib.Core.List.{List}
-use Prim.Native.Nat.{ℕ, _+_, _-_, _*_, _/_, _≤_}
-use native.Mathlib.Nat.{mul-le-mul, mul-assoc, le-refl}
+use Prim.Native.Nat.{ℕ, _*_, _/_, _≤_, _<_}
+use native.Mathlib.Nat.{le-of-eq}
 use native.Mathlib.Omega.{arith}
-use lib.ListN.{length, take, drop}
-use lib.Seq.{drop-drop}
+use lib.ListN.{length, drop}
 use Rattle.model.specs.Picture.{Picture, nblocks}
 use Rattle.model.specs.Analyse.{Facts}
 use Rattle.laws.proofs.Accepted.{Accepted, accepted}
 use Rattle.laws.proofs.Sizes as S
 use Rattle.flow.specs.Drawn.{drawn}
 use Rattle.flow.specs.Graph.{Graph}
-use Rattle.flow.specs.Sets.{Code, Below, Room}
-use Rattle.flow.specs.Live.{Live, Wrote}
-use Rattle.flow.proofs.Accepted.{code-given, below-given}
-use Rattle.flow.proofs.Whole.{live-rows-whole, wrote-whole}
-use Rattle.analyse.specs.Flags.{Seen}
+use Rattle.flow.specs.Live.{RowRoom, Rows, Live}
+use Rattle.flow.proofs.Whole.{live-rows-whole}
 use Rattle.trial.specs.declared.sizes.Sizes.{Sizes}
 use Rattle.trial.specs.declared.block.MaybeMove.{MaybeMove}
-use Rattle.trial.specs.Work.{width, at-regs, Shown, Begun, Held, Given}
+use Rattle.trial.specs.Work.{width, Shown, Begun, Held, Given}
+use Rattle.trial.proofs.Standing.{begun-kept, firm-back, rows-for}
 use Rattle.search.specs.Search.{Looking, FirstFound, Searched}
-use Rattle.search.proofs.Start.{rooms-of, graph-at}
+use Rattle.search.proofs.Start.{graph-at, rows-asked}
 use Rattle.search.proofs.Looked.{shown-at}
-
--- what lies behind stays if more does
-pub drop-more : {A : Type 0} (n m : ℕ) (xs ys : List A) → n ≤ m → drop n xs ≡ drop n ys → drop m xs ≡ drop m ys
-drop-more {A} n m xs ys h e =
-    let z : m ≡ n + (m - n) = omega arith in
-    ap (λ (k : ℕ). drop k xs) z ∙ sym (drop-drop (m - n) n xs) ∙ ap (drop (m - n)) e ∙ drop-drop (m - n) n ys ∙ ap (λ (k : ℕ). drop k ys) (sym z)
 
 drawn-is : (P : Picture) {bounds recs ops pairs targets : List ℕ} → bounds ≡ P .bounds → recs ≡ P .recs → ops ≡ P .ops → pairs ≡ P .pairs → targets ≡ P .targets
     → drawn bounds recs ops pairs targets ≡ drawn (P .bounds) (P .recs) (P .ops) (P .pairs) (P .targets)
@@ -36,44 +27,23 @@ drawn-is P {bounds} {recs} {ops} {pairs} {targets} a b c d e =
     ap (λ (l : List ℕ). drawn l recs ops pairs targets) a ∙ ap (λ (l : List ℕ). drawn (P .bounds) l ops pairs targets) b ∙ ap (λ (l : List ℕ). drawn (P .bounds) (P .recs) l pairs targets) c
     ∙ ap (λ (l : List ℕ). drawn (P .bounds) (P .recs) (P .ops) l targets) d ∙ ap (λ (l : List ℕ). drawn (P .bounds) (P .recs) (P .ops) (P .pairs) l) e
 
--- two rows a block lie before the words of the registers
-rows-fit : (P : Picture) → Accepted P → nblocks P * width (P .regs) + nblocks P * width (P .regs) ≤ at-regs P
-rows-fit P ok =
-    let r = S.regs-lent P ok in
-    let z = mul-le-mul (le-refl (nblocks P)) (narrow (P .regs) (length (P .types)) r) in
-    let y = mul-assoc 4 (nblocks P) (width (length (P .types))) in
-    omega arith
-  where
-    narrow : (a b : ℕ) → a ≤ b → width a ≤ width b
-    narrow a b h = omega arith
-
 -- what finding live-in leaves
 pub record Anew (bounds recs ops pairs targets work64 bits : List ℕ) (w : ℕ) : Type 0 where
   pub size : length bits ≡ length work64
   pub live : Live (drawn bounds recs ops pairs targets) w bits
-  pub behind : drop (length bounds / 2 * w + length bounds / 2 * w) bits ≡ drop (length bounds / 2 * w + length bounds / 2 * w) work64
-  pub wrote : Wrote (drawn bounds recs ops pairs targets) w bits
+  pub behind : drop (length bounds / 2 * w) bits ≡ drop (length bounds / 2 * w) work64
 
 module _ {bounds recs ops pairs targets replay : List ℕ} {s : Sizes} {work64 work32 bits : List ℕ} {r w : ℕ}
     (er : r ≡ s .regs) (ew : w ≡ width r) (n : Anew bounds recs ops pairs targets work64 bits w) where
   pub held-anew : (P : Picture) (G : Facts) → Shown P bounds recs ops pairs targets replay s (length work64) (length work32) → Begun P G work64 work32 → Held P G bits work32
   held-anew P G sh b =
       let l = sh .lists in
-      let ok = accepted P (length work64) (length work32) (l .accepted) in
       let d = drawn-is P (l .bounds-are) (l .recs-are) (l .ops-are) (sh .tabled .pairs-are) (sh .tabled .targets-are) in
       let wide : w ≡ width (P .regs) = ew ∙ ap width (er ∙ l .regs-are) in
-      let rows : length bounds / 2 * w + length bounds / 2 * w ≡ nblocks P * width (P .regs) + nblocks P * width (P .regs) =
-      ap₂ (λ (k : List ℕ) (v : ℕ). length k / 2 * v + length k / 2 * v) (l .bounds-are) wide in
-      let f = rows-fit P ok in
-      let same : drop (at-regs P) bits ≡ drop (at-regs P) work64 = drop-more (length bounds / 2 * w + length bounds / 2 * w) (at-regs P) bits work64 (omega arith) (n .behind) in
+      let rows : length bounds / 2 * w ≡ nblocks P * width (P .regs) = ap₂ (λ (k : List ℕ) (v : ℕ). length k / 2 * v) (l .bounds-are) wide in
       record {
-        begun = record {
-          seen = subst (λ (ws : List ℕ). Seen G (length (P .types)) (take (length (P .types)) ws)) (sym same) (b .seen);
-          known = b .known;
-          preds = b .preds;
-        };
+        begun = begun-kept (firm-back P (accepted P (length work64) (length work32) (l .accepted)) (length bounds / 2 * w) work64 bits (le-of-eq rows) (n .behind)) refl b;
         live = subst (λ (v : ℕ). Live P v bits) wide (live-rows-whole P w bits (subst (λ (Q : Picture). Live Q w bits) d (n .live)));
-        wrote = subst (λ (v : ℕ). Wrote P v bits) wide (wrote-whole P (P .ops) w bits (subst (λ (Q : Picture). Wrote Q w bits) d (n .wrote)));
       }
 
   pub given-anew : Looking bounds recs ops pairs targets replay s work64 work32 → Given bounds recs ops pairs targets replay s bits work32
@@ -94,18 +64,14 @@ module _ {bounds recs ops pairs targets replay : List ℕ} {s : Sizes} {work64 w
   pub regs-few : s .regs ≤ 65536
   regs-few = let e = k .shown .lists .regs-are in let a = S.regs-lent (k .P) good in let b = S.few-types (k .P) good in omega arith
 
-  pub live-ask : (r w : ℕ) → r ≡ s .regs → w ≡ width r → Graph bounds recs pairs targets × Code recs ops × Below recs ops (64 * w) × Room (length bounds / 2) w work64
+  pub live-ask : (r w : ℕ) → r ≡ s .regs → w ≡ width r
+      → Graph bounds recs pairs targets × RowRoom (length bounds / 2) w work64 × ((b : ℕ) → b < length bounds / 2 → Rows (drawn bounds recs ops pairs targets) w b work64)
   live-ask r w er ew =
       let l = k .shown .lists in
       let t = k .shown .tabled in
       let P = k .P in
-      let f = rows-fit P good in
-      let m = rooms-of P (length work64) (length work32) (l .accepted) .room64 in
-      let wide : w ≡ width (P .regs) = ew ∙ ap width (er ∙ l .regs-are) in
-      let rows : length bounds / 2 * w + length bounds / 2 * w ≡ nblocks P * width (P .regs) + nblocks P * width (P .regs) =
-      ap₂ (λ (q : List ℕ) (v : ℕ). length q / 2 * v + length q / 2 * v) (l .bounds-are) wide in (
+      let wide : w ≡ width (P .regs) = ew ∙ ap width (er ∙ l .regs-are) in (
         graph-at P good (l .bounds-are) (l .recs-are) (t .pairs-are) (t .targets-are),
-        subst (λ (z : List ℕ). Code z ops) (sym (l .recs-are)) (subst (λ (z : List ℕ). Code (P .recs) z) (sym (l .ops-are)) (code-given P good)),
-        subst (λ (z : List ℕ). Below z ops (64 * w)) (sym (l .recs-are)) (subst (λ (z : List ℕ). Below (P .recs) z (64 * w)) (sym (l .ops-are)) (below-given P good w (omega arith))),
-        record { fits = omega arith },
+        rows-asked P (length work32) work64 (l .accepted) (l .bounds-are) (l .recs-are) (l .ops-are) wide .3,
+        λ b h. rows-for P (l .bounds-are) (l .recs-are) (l .ops-are) wide work64 pairs targets (k .begun .rows b (subst (λ (z : List ℕ). b < length z / 2) (l .bounds-are) h)),
       )

@@ -1,12 +1,12 @@
--- What the call begins with (01, "A round"): acceptance gives what the search for facts and predecessors asks, and the words that it
--- leaves stand for them. Assumes nothing.
+-- What the call begins with (01, "A round"): acceptance gives what the search for facts, predecessors and rows asks, and the words
+-- that it leaves stand for them. Assumes nothing.
 use mathlib.Core.Path.{_≡_, sym, ap, ap₂, _∙_, subst}
 use mathlib.Core.List.{List, [], _∷_, _++_}
 use Prim.Native.Nat.{ℕ, _+_, _-_, _*_, _/_, _≤_, _<_}
 use native.Mathlib.Nat.{mul-le-mul, le-refl, le-of-eq}
 use native.Mathlib.Omega.{arith}
 use borrow.Author.Tests.{ne-eqb}
-use borrow.Rule.Slice.PartMut.{putMid, postOf, mid-len, same-len-mid}
+use borrow.Rule.Slice.PartMut.{putMid, postOf, mid-len, same-len-mid, take-put}
 use lib.Dec.{eqb}
 use lib.ListN.{length, take, drop, length-map}
 use lib.Seq.{take-at, drop-at, length-take-le}
@@ -18,16 +18,20 @@ use Rattle.model.specs.Analyse.{facts}
 use Rattle.laws.proofs.Accepted.{Accepted, accepted, work-room}
 use Rattle.laws.proofs.Sizes as S
 use Rattle.flow.specs.Drawn.{drawn}
-use Rattle.flow.specs.Graph.{Graph}
+use Rattle.flow.specs.Graph.{Blocks, Graph}
+use Rattle.flow.specs.Sets.{Code, Below}
+use Rattle.flow.specs.Live.{RowRoom, Rows}
 use Rattle.flow.specs.Preds as F
 use Rattle.flow.specs.Preds.{many, first}
-use Rattle.flow.proofs.Accepted.{graph-given}
+use Rattle.flow.proofs.Accepted.{blocks-given, graph-given, code-given, below-given}
+use Rattle.flow.proofs.Standing.{rows-same}
 use Rattle.flow.proofs.Whole.{preds-whole}
 use Rattle.chains.specs.Chain as C
 use Rattle.analyse.specs.Written.{Fits}
 use Rattle.analyse.specs.Flags.{Found, Seen}
 use Rattle.analyse.proofs.Accepted.{fits-given, seen-given}
-use Rattle.trial.specs.Work.{width}
+use Rattle.trial.specs.Work.{width, at-regs}
+use Rattle.trial.proofs.Standing.{front-same, SameRows, same-rows, firsts-before, rows-room, rows-of}
 use Rattle.search.specs.Search.{Beginning, Began}
 
 -- a part that came back as ys
@@ -103,12 +107,35 @@ preds-at P {bounds} {recs} {pairs} {targets} {words} e f g h z =
     (subst (λ (l : List ℕ). F.Preds (drawn bounds recs [] pairs l) words) (sym h) z))) in
     record { told = λ b u. subst (F.Told words b) (preds-whole P [] b) (y .told b u) }
 
+-- ---- the rows
+
+-- what `flow` asks to make rows of w words
+abbrev pub RowsAsk : List ℕ → List ℕ → List ℕ → ℕ → List ℕ → Type 0
+RowsAsk bounds recs ops w bits = Blocks bounds recs × Code recs ops × Below recs ops (64 * w) × RowRoom (length bounds / 2) w bits
+
+pub rows-asked : (P : Picture) (w32 : ℕ) {bounds recs ops : List ℕ} {w : ℕ} (bits : List ℕ) → refusal P (length bits) w32 ≡ 0 → bounds ≡ P .bounds → recs ≡ P .recs → ops ≡ P .ops → w ≡ width (P .regs)
+    → RowsAsk bounds recs ops w bits
+rows-asked P w32 {bounds} {recs} {ops} {w} bits r eb er eo ew =
+    let ok = accepted P (length bits) w32 r in
+    subst (λ (l : List ℕ). RowsAsk l recs ops w bits) (sym eb)
+    (subst (λ (l : List ℕ). RowsAsk (P .bounds) l ops w bits) (sym er)
+    (subst (λ (l : List ℕ). RowsAsk (P .bounds) (P .recs) l w bits) (sym eo)
+    (subst (λ (v : ℕ). RowsAsk (P .bounds) (P .recs) (P .ops) v bits) (sym ew)
+    (blocks-given P ok, code-given P ok, below-given P ok (width (P .regs)) (omega arith), record { fits = rows-room P (length bits) w32 r }))))
+
+-- rows stay where words from at-regs on are written
+rows-stay : (P : Picture) → Accepted P → (xs ys : List ℕ) → take (at-regs P) ys ≡ take (at-regs P) xs → (b : ℕ) → b < nblocks P → Rows P (width (P .regs)) b xs → Rows P (width (P .regs)) b ys
+rows-stay P ok xs ys e b h =
+    let f = firsts-before P ok h in
+    let s : SameRows (nblocks P) (width (P .regs)) b xs ys = same-rows xs ys h (λ i p q. front-same (at-regs P) xs ys e i (omega arith)) (λ i p q. front-same (at-regs P) xs ys e i (omega arith)) in
+    rows-same P (width (P .regs)) b xs ys (s .first) (s .wrote)
+
 -- ---- the start
 
 facts-few : (P : Picture) → length (facts P) ≤ P .regs
 facts-few P = le-of-eq (length-map (upto (P .regs)) _ ∙ length-range 0 (P .regs))
 
-module _ {bounds recs pairs targets work64 work32 : List ℕ} {lent insts : ℕ} (k : Beginning bounds recs pairs targets work64 work32 lent insts) where
+module _ {bounds recs ops pairs targets work64 work32 : List ℕ} {lent insts regs : ℕ} (k : Beginning bounds recs ops pairs targets work64 work32 lent insts regs) where
   pub rooms : Rooms (length bounds / 2) lent insts (length work64) (length work32)
   rooms = rooms-at (k .P) (length work64) (length work32) (k .accepted) (ap (λ (l : List ℕ). length l / 2) (k .bounds-are)) (k .lent-are) (k .insts-are)
 
@@ -122,16 +149,12 @@ module _ {bounds recs pairs targets work64 work32 : List ℕ} {lent insts : ℕ}
   good : Accepted (k .P)
   good = accepted (k .P) (length work64) (length work32) (k .accepted)
 
-  part-long : (a : ℕ) → a ≡ 4 * (length bounds / 2) * width lent → length (take (a + lent - a) (drop a work64)) ≡ lent
-  part-long a e = let r = rooms .room64 in mid-len a (a + lent) work64 (omega arith) ∙ omega arith
+  pub regs-few : regs ≤ 65536
+  regs-few = let e = k .regs-are in let a = S.regs-lent (k .P) good in let b = S.few-types (k .P) good in omega arith
 
-  pub facts-ask : (a : ℕ) → a ≡ 4 * (length bounds / 2) * width lent → (insts ≤ 32768) × ((p : ℕ) → p < insts → Fits recs (length (take (a + lent - a) (drop a work64))) p)
-  facts-ask a e = (
-    rooms .few-insts,
-    λ p h.
-        subst (λ (n : ℕ). Fits recs n p) (sym (part-long a e ∙ k .lent-are))
-        (subst (λ (l : List ℕ). Fits l (length (k .P .types)) p) (sym (k .recs-are)) (fits-given (k .P) good p (omega (arith, k .insts-are)))),
-  )
+  -- `all_rows`
+  pub rows-ask : (r w : ℕ) → r ≡ regs → w ≡ width r → RowsAsk bounds recs ops w work64
+  rows-ask r w er ew = rows-asked (k .P) (length work32) work64 (k .accepted) (k .bounds-are) (k .recs-are) (k .ops-are) (ew ∙ ap width (er ∙ k .regs-are))
 
   pub preds-ask : (p : ℕ) → p ≡ 8000 + lent → Graph bounds recs pairs targets × (2 * (length bounds / 2) ≤ length (take (p + 2 * (length bounds / 2) - p) (drop p work32)))
   preds-ask p e = (
@@ -139,32 +162,51 @@ module _ {bounds recs pairs targets work64 work32 : List ℕ} {lent insts : ℕ}
     let r = rooms .room32 in let z = mid-len p (p + 2 * (length bounds / 2)) work32 (omega arith) in omega arith,
   )
 
-  pub began : (a p : ℕ) (ys zs : List ℕ) → a ≡ 4 * (length bounds / 2) * width lent → p ≡ 8000 + lent → Found recs insts (length (take (a + lent - a) (drop a work64))) ys
-      → length zs ≡ length (take (p + 2 * (length bounds / 2) - p) (drop p work32)) → F.Preds (drawn bounds recs [] pairs targets) zs
-      → Began bounds recs pairs targets work64 work32 lent insts (putMid a (a + lent - a) work64 ys) (putMid p (p + 2 * (length bounds / 2) - p) work32 zs)
-  began a p ys zs e f found long told = record {
-    size64 = same-len-mid a (a + lent - a) work64 ys (found .size);
-    size32 = same-len-mid p (p + 2 * (length bounds / 2) - p) work32 zs long;
-    begun = λ P r eb er ep et el ei.
-        let ok = accepted P (length work64) (length work32) r in
-        let n64 = rooms .room64 in
-        let n32 = rooms .room32 in
-        let size : length ys ≡ length (P .types) = found .size ∙ part-long a e ∙ sym el in
-        let blocks : nblocks P ≡ length bounds / 2 = ap (λ (l : List ℕ). length l / 2) eb in
-        let at : 4 * nblocks P * width (length (P .types)) ≡ a = ap₂ (λ (b n : ℕ). 4 * b * width n) blocks el ∙ sym e in
-        let y : take (length (P .types)) (drop (4 * nblocks P * width (length (P .types))) (putMid a (a + lent - a) work64 ys)) ≡ ys =
-        ap (λ (m : ℕ). take (length (P .types)) (drop m (putMid a (a + lent - a) work64 ys))) at ∙ mid-back a (a + lent - a) work64 ys (length (P .types)) (omega arith) size in
-        let size2 : length zs ≡ 2 * nblocks P = long ∙ mid-len p (p + 2 * (length bounds / 2)) work32 (omega arith) ∙ omega arith in
-        let at2 : 8000 + length (P .types) ≡ p = omega arith in
-        let z : take (2 * nblocks P) (drop (8000 + length (P .types)) (putMid p (p + 2 * (length bounds / 2) - p) work32 zs)) ≡ zs =
-        ap (λ (m : ℕ). take (2 * nblocks P) (drop m (putMid p (p + 2 * (length bounds / 2) - p) work32 zs))) at2
-        ∙ mid-back p (p + 2 * (length bounds / 2) - p) work32 zs (2 * nblocks P) (omega arith) size2 in
-        let found2 : Found (P .recs) (length (P .locs)) (length (P .types)) ys =
-        subst (λ (l : List ℕ). Found l (length (P .locs)) (length (P .types)) ys) (sym er)
-        (subst (λ (n : ℕ). Found recs n (length (P .types)) ys) (sym ei) (subst (λ (n : ℕ). Found recs insts n ys) (part-long a e ∙ sym el) found)) in
-        record {
-          known = facts-few P;
-          seen = subst (λ (ws : List ℕ). Seen (facts P) (length (P .types)) ws) (sym y) (seen-given P ok found2 (S.regs-lent P ok) (le-refl (length (P .types))));
-          preds = subst (λ (ws : List ℕ). C.Preds P ws (nblocks P)) (sym z) (preds-from P (preds-at P eb er ep et told));
-        };
-  }
+  -- with the rows made, as mid
+  module _ (mid : List ℕ) (same : length mid ≡ length work64) where
+    part-long : (a : ℕ) → a ≡ 4 * (length bounds / 2) * width lent → length (take (a + lent - a) (drop a mid)) ≡ lent
+    part-long a e = let r = rooms .room64 in mid-len a (a + lent) mid (omega arith) ∙ omega arith
+
+    pub facts-ask : (a : ℕ) → a ≡ 4 * (length bounds / 2) * width lent → (insts ≤ 32768) × ((p : ℕ) → p < insts → Fits recs (length (take (a + lent - a) (drop a mid))) p)
+    facts-ask a e = (
+      rooms .few-insts,
+      λ p h.
+          subst (λ (n : ℕ). Fits recs n p) (sym (part-long a e ∙ k .lent-are))
+          (subst (λ (l : List ℕ). Fits l (length (k .P .types)) p) (sym (k .recs-are)) (fits-given (k .P) good p (omega (arith, k .insts-are)))),
+    )
+
+    pub began : (a p r w : ℕ) (ys zs : List ℕ) → a ≡ 4 * (length bounds / 2) * width lent → p ≡ 8000 + lent → r ≡ regs → w ≡ width r
+        → ((b : ℕ) → b < length bounds / 2 → Rows (drawn bounds recs ops [] []) w b mid) → Found recs insts (length (take (a + lent - a) (drop a mid))) ys
+        → length zs ≡ length (take (p + 2 * (length bounds / 2) - p) (drop p work32)) → F.Preds (drawn bounds recs [] pairs targets) zs
+        → Began bounds recs ops pairs targets work64 work32 lent insts regs (putMid a (a + lent - a) mid ys) (putMid p (p + 2 * (length bounds / 2) - p) work32 zs)
+    began a p r w ys zs e f er ew each found long told = record {
+      size64 = same-len-mid a (a + lent - a) mid ys (found .size) ∙ same;
+      size32 = same-len-mid p (p + 2 * (length bounds / 2) - p) work32 zs long;
+      begun = λ P z eb ec eo ep et el ei eg.
+          let ok = accepted P (length work64) (length work32) z in
+          let n64 = rooms .room64 in
+          let n32 = rooms .room32 in
+          let size : length ys ≡ length (P .types) = found .size ∙ part-long a e ∙ sym el in
+          let blocks : nblocks P ≡ length bounds / 2 = ap (λ (l : List ℕ). length l / 2) eb in
+          let at : 4 * nblocks P * width (length (P .types)) ≡ a = ap₂ (λ (b n : ℕ). 4 * b * width n) blocks el ∙ sym e in
+          let y : take (length (P .types)) (drop (4 * nblocks P * width (length (P .types))) (putMid a (a + lent - a) mid ys)) ≡ ys =
+          ap (λ (m : ℕ). take (length (P .types)) (drop m (putMid a (a + lent - a) mid ys))) at ∙ mid-back a (a + lent - a) mid ys (length (P .types)) (omega arith) size in
+          let size2 : length zs ≡ 2 * nblocks P = long ∙ mid-len p (p + 2 * (length bounds / 2)) work32 (omega arith) ∙ omega arith in
+          let at2 : 8000 + length (P .types) ≡ p = omega arith in
+          let x : take (2 * nblocks P) (drop (8000 + length (P .types)) (putMid p (p + 2 * (length bounds / 2) - p) work32 zs)) ≡ zs =
+          ap (λ (m : ℕ). take (2 * nblocks P) (drop m (putMid p (p + 2 * (length bounds / 2) - p) work32 zs))) at2
+          ∙ mid-back p (p + 2 * (length bounds / 2) - p) work32 zs (2 * nblocks P) (omega arith) size2 in
+          let found2 : Found (P .recs) (length (P .locs)) (length (P .types)) ys =
+          subst (λ (l : List ℕ). Found l (length (P .locs)) (length (P .types)) ys) (sym ec)
+          (subst (λ (n : ℕ). Found recs n (length (P .types)) ys) (sym ei) (subst (λ (n : ℕ). Found recs insts n ys) (part-long a e ∙ sym el) found)) in
+          let before : take (at-regs P) (putMid a (a + lent - a) mid ys) ≡ take (at-regs P) mid =
+          subst (λ (m : ℕ). take m (putMid a (a + lent - a) mid ys) ≡ take m mid) (sym at) (take-put a (a + lent - a) mid ys (omega arith)) in
+          record {
+            known = facts-few P;
+            seen = subst (λ (ws : List ℕ). Seen (facts P) (length (P .types)) ws) (sym y) (seen-given P ok found2 (S.regs-lent P ok) (le-refl (length (P .types))));
+            preds = subst (λ (ws : List ℕ). C.Preds P ws (nblocks P)) (sym x) (preds-from P (preds-at P eb ec ep et told));
+            rows = λ b h.
+                rows-stay P ok mid (putMid a (a + lent - a) mid ys) before b h
+                (rows-of P (sym eb) (sym ec) (sym eo) (ew ∙ ap width (er ∙ sym eg)) mid (each b (subst (λ (n : ℕ). b < n) blocks h)));
+          };
+    }

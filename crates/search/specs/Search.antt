@@ -1,41 +1,43 @@
 -- 01, "A round": the search of a round, `model`'s `first-plan` and `round`; and what the call begins with. Assumes nothing.
 use mathlib.Core.Path.{_≡_}
-use mathlib.Core.Bool.{true, false}
+use mathlib.Core.Bool.{true}
 use mathlib.Core.List.{List}
-use mathlib.Core.Option.{Option, none, some}
-use Prim.Native.Nat.{ℕ, _+_, _*_}
+use mathlib.Core.Option.{none, some}
+use Prim.Native.Nat.{ℕ}
 use lib.Dec.{ltb}
 use lib.ListN.{length}
 use Rattle.model.specs.Picture.{Picture, size}
 use Rattle.model.specs.Refusal.{refusal}
 use Rattle.model.specs.Analyse.{Facts, facts}
-use Rattle.model.specs.Move.{Plan, min-replay, try-block}
+use Rattle.model.specs.Move.{min-replay, try-block}
 use Rattle.model.specs.Pass.{round}
 use Rattle.trial.specs.declared.sizes.Sizes.{Sizes}
 use Rattle.trial.specs.declared.block.MaybeMove.{MaybeMove}
 use Rattle.trial.specs.declared.block.MaybeMove.the-variants.{Is, Not}
 use Rattle.trial.specs.Work.{Shown, Begun, Held, chain-words}
-use Rattle.trial.specs.Trial.{Found, tried}
+use Rattle.trial.specs.Trial.{Found}
 
 -- ---- the start of the call
 
--- there is an accepted picture whose lists these are, of so many registers lent and instructions
-pub record Beginning (bounds recs pairs targets work64 work32 : List ℕ) (lent insts : ℕ) : Type 0 where
+-- there is an accepted picture whose lists these are, of so many registers lent, instructions and registers in use
+pub record Beginning (bounds recs ops pairs targets work64 work32 : List ℕ) (lent insts regs : ℕ) : Type 0 where
   pub P : Picture
   pub accepted : refusal P (length work64) (length work32) ≡ 0
   pub bounds-are : bounds ≡ P .bounds
   pub recs-are : recs ≡ P .recs
+  pub ops-are : ops ≡ P .ops
   pub pairs-are : pairs ≡ P .pairs
   pub targets-are : targets ≡ P .targets
   pub lent-are : lent ≡ length (P .types)
   pub insts-are : insts ≡ length (P .locs)
+  pub regs-are : regs ≡ P .regs
 
--- the work slices hold facts and predecessors of every such picture
-pub record Began (bounds recs pairs targets work64 work32 : List ℕ) (lent insts : ℕ) (work64′ work32′ : List ℕ) : Type 0 where
+-- the work slices hold facts, predecessors and rows of every such picture
+pub record Began (bounds recs ops pairs targets work64 work32 : List ℕ) (lent insts regs : ℕ) (work64′ work32′ : List ℕ) : Type 0 where
   pub size64 : length work64′ ≡ length work64
   pub size32 : length work32′ ≡ length work32
-  pub begun : (P : Picture) → refusal P (length work64) (length work32) ≡ 0 → P .bounds ≡ bounds → P .recs ≡ recs → P .pairs ≡ pairs → P .targets ≡ targets
-      → length (P .types) ≡ lent → length (P .locs) ≡ insts → Begun P (facts P) work64′ work32′
+  pub begun : (P : Picture) → refusal P (length work64) (length work32) ≡ 0 → P .bounds ≡ bounds → P .recs ≡ recs → P .ops ≡ ops → P .pairs ≡ pairs
+      → P .targets ≡ targets → length (P .types) ≡ lent → length (P .locs) ≡ insts → P .regs ≡ regs → Begun P (facts P) work64′ work32′
 
 -- ---- the search
 

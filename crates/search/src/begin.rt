@@ -1,29 +1,35 @@
 // Before the first round (01, "A round"): facts on registers, of all that are lent, and the predecessors of each block. Both stand
-// for the whole call: a new register has no facts, and a round changes no block's successors.
+// for the whole call: a new register has no facts, and a round changes no block's successors. The rows of what each block reads
+// first and writes stand until a round changes its code.
 use analyse::facts::find_facts;
 use flow::graph::find_preds;
+use flow::rows::all_rows;
+use inst::record::wide;
 use trial::sizes::width;
 ghost use mathlib.Core.Path.{_≡_};
 ghost use Rattle.inst.specs.Table.{rows};
 ghost use Rattle.search.specs.Search.{Beginning, Began};
 
 pub fn begin<'a>(
-    t: &[u32; 101],
+    t: &[u32; 202],
     bounds: &[u32],
     recs: &'a [u32],
+    ops: &[u32],
     pairs: &[u32],
     targets: &'a [u32],
     work64: &mut [u64],
     work32: &mut [u32],
     lent: usize,
     insts: usize,
+    regs: u32,
 )
-    requires { ⌜ (now t ≡ rows) × Beginning (now bounds) (now recs) (now pairs) (now targets) (now work64) (now work32) lent insts ⌝ }
-    ensures { λ _. ⌜ Began (now (bounds .entry)) (now (recs .entry)) (now (pairs .entry)) (now (targets .entry)) (now (work64 .entry)) (now (work32 .entry)) lent insts (now (work64 .exit)) (now (work32 .exit)) ⌝ }
+    requires { ⌜ (now t ≡ rows) × Beginning (now bounds) (now recs) (now ops) (now pairs) (now targets) (now work64) (now work32) lent insts regs ⌝ }
+    ensures { λ _. ⌜ Began (now (bounds .entry)) (now (recs .entry)) (now (ops .entry)) (now (pairs .entry)) (now (targets .entry)) (now (work64 .entry)) (now (work32 .entry)) lent insts regs (now (work64 .exit)) (now (work32 .exit)) ⌝ }
 {
     let b = bounds.len() / 2;
     let a = 4 * b * width(lent);
     let p = 8000 + lent;
+    all_rows(work64, t, bounds, recs, ops, width(wide(regs)));
     find_facts(t, recs, &mut work64[a..a + lent], insts);
     find_preds(&mut work32[p..p + 2 * b], t, bounds, recs, pairs, targets);
 }

@@ -16,7 +16,7 @@ ghost use Rattle.search.specs.Search.{Looking, LongTried, FirstFound, Se
 
 // The move from block x, if it has more than 3 instructions.
 fn try_long<'a>(
-    t: &[u32; 101],
+    t: &[u32; 202],
     bounds: &[u32],
     recs: &'a [u32],
     ops: &[u32],
@@ -52,7 +52,7 @@ fn try_long<'a>(
 
 // The first move in number order.
 pub fn first_plan<'a>(
-    t: &[u32; 101],
+    t: &[u32; 202],
     bounds: &[u32],
     recs: &'a [u32],
     ops: &[u32],
@@ -95,7 +95,7 @@ pub fn first_plan<'a>(
 
 // The round's move: live-in anew, then the search.
 pub fn find_move<'a>(
-    t: &[u32; 101],
+    t: &[u32; 202],
     bounds: &[u32],
     recs: &'a [u32],
     ops: &[u32],

@@ -114,12 +114,12 @@ module _ (P : Picture) where
   -- ---- an accepted picture
 
   module _ (work64 work32 : List ℕ) (ok : cause (P .bounds) (P .recs) (P .locs) (P .vias) (P .types) (P .regs) (P .ops) (P .opers) (P .pairs) (P .targets) (P .replay) (length work64) (length work32) ≡ 0) where
-    pub beginning : Beginning (P .bounds) (P .recs) (P .pairs) (P .targets) work64 work32 (length (P .types)) (length (P .locs))
-    beginning = record { P = P; accepted = not-refused (length work64) (length work32) ok; bounds-are = refl; recs-are = refl; pairs-are = refl; targets-are = refl; lent-are = refl; insts-are = refl }
+    pub beginning : Beginning (P .bounds) (P .recs) (P .ops) (P .pairs) (P .targets) work64 work32 (length (P .types)) (length (P .locs)) (P .regs)
+    beginning = record { P = P; accepted = not-refused (length work64) (length work32) ok; bounds-are = refl; recs-are = refl; ops-are = refl; pairs-are = refl; targets-are = refl; lent-are = refl; insts-are = refl; regs-are = refl }
 
-    module _ {work64′ work32′ : List ℕ} (b : Began (P .bounds) (P .recs) (P .pairs) (P .targets) work64 work32 (length (P .types)) (length (P .locs)) work64′ work32′) where
+    module _ {work64′ work32′ : List ℕ} (b : Began (P .bounds) (P .recs) (P .ops) (P .pairs) (P .targets) work64 work32 (length (P .types)) (length (P .locs)) (P .regs) work64′ work32′) where
       begun : Begun P (facts P) work64′ work32′
-      begun = b .begun P (not-refused (length work64) (length work32) ok) refl refl refl refl refl refl
+      begun = b .begun P (not-refused (length work64) (length work32) ok) refl refl refl refl refl refl refl refl
 
       pub ready : Ready P work64′ work32′
       ready = record {

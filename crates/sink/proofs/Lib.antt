@@ -1,6 +1,7 @@
 pub mod Asked
 pub mod Counted
 pub mod Prepared
+pub mod Renewal
 pub mod Step
 pub mod Going
 pub mod Call

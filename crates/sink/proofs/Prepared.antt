@@ -4,14 +4,14 @@ use mathlib.Core.Logic.{⊎-elim}
 use mathlib.Core.Bool.{Bool, true, false, _&&_}
 use mathlib.Core.List.{List}
 use mathlib.Core.Option.{some}
-use Prim.Native.Nat.{ℕ, _+_, _-_, _*_, _≤_, _<_}
+use Prim.Native.Nat.{ℕ, _+_, _*_, _≤_, _<_}
+use native.Mathlib.Nat.{le-refl}
 use native.Mathlib.Omega.{arith}
 use borrow.Author.Tests.{le-leb, lt-leb}
 use lib.Dec.{leb}
-use lib.ListN.{length, take, drop}
+use lib.ListN.{length, take}
 use lib.Seq.{length-take-le}
 use Rattle.words.proofs.Bools.{both-true, lt?}
-use Rattle.words.proofs.Parts.{part-first}
 use Rattle.model.specs.Picture.{Picture, nblocks}
 use Rattle.model.specs.Analyse.{Facts}
 use Rattle.model.specs.Move.{apply}
@@ -19,8 +19,6 @@ use Rattle.model.specs.Pass as Pass
 use Rattle.model.specs.Pass.{fits}
 use Rattle.laws.proofs.Accepted.{Accepted, accepted}
 use Rattle.laws.proofs.Sizes as S
-use Rattle.chains.specs.Chain as C
-use Rattle.analyse.specs.Flags.{Seen}
 use Rattle.apply.specs.declared.needs.Counts.{Counts}
 use Rattle.apply.specs.Apply.{Asks, Counted, Stands, Given}
 use Rattle.apply.proofs.Done.{asks-kept}
@@ -28,7 +26,7 @@ use Rattle.trial.specs.declared.sizes.Sizes.{Sizes}
 use Rattle.trial.specs.declared.block.Move.{Move}
 use Rattle.trial.specs.declared.block.MaybeMove.{MaybeMove}
 use Rattle.trial.specs.declared.block.MaybeMove.the-variants.{Is, Not}
-use Rattle.trial.specs.Work.{at-regs, Shown, Begun, chain-words}
+use Rattle.trial.specs.Work.{at-stamps, Shown, Begun, chain-words}
 use Rattle.trial.specs.Trial.{Found}
 use Rattle.sink.specs.declared.round.Line.{Line}
 use Rattle.sink.specs.declared.round.Step.{Step}
@@ -36,12 +34,8 @@ use Rattle.sink.specs.declared.round.Step.the-variants.{Goes, Short, Sta
 use Rattle.search.specs.Search.{Looking, Searched, first-found}
 use Rattle.sink.specs.Sink.{Ready, Needing, Needed, stepped, prepared, Decided}
 use Rattle.search.proofs.Start.{rooms-of}
-use Rattle.search.proofs.Anew.{drop-more}
+use Rattle.trial.proofs.Standing.{drop-more, begun-kept, firm-front}
 use Rattle.sink.proofs.Asked.{x-is, asked}
-
--- a part of what stays at the start
-part-before : {A : Type 0} (s n m : ℕ) (xs ys : List A) → s + n ≤ m → take m xs ≡ take m ys → take n (drop s xs) ≡ take n (drop s ys)
-part-before {A} s n m xs ys h e = sym (part-first s n m xs h) ∙ ap (λ (l : List A). take n (drop s l)) e ∙ part-first s n m ys h
 
 -- ---- a move that was counted
 
@@ -161,10 +155,7 @@ module _ {P : Picture} {work64 work32 : List ℕ} (k : Ready P work64 work32) wh
         size32 = n .size32 ∙ s .size32;
         begun = λ G b.
             let z = s .begun P G shown b in
-            record {
-              seen = subst (λ (ws : List ℕ). Seen G (length (P .types)) ws) (sym (part-before (at-regs P) (length (P .types)) (at-regs P + length (P .types)) work64″ work64′ (omega arith) (n .before))) (z .seen);
-              known = z .known;
-              preds = subst (λ (ws : List ℕ). C.Preds P (take (2 * nblocks P) ws) (nblocks P)) (sym (drop-more 8000 (8000 + length (P .types)) work32″ work32′ (omega arith) (n .behind))) (z .preds);
-            };
+            begun-kept (firm-front P good (at-stamps P) work64′ work64″ (le-refl (at-stamps P)) (n .before))
+            (ap (take (2 * nblocks P)) (drop-more 8000 (8000 + length (P .types)) work32″ work32′ (omega arith) (n .behind))) z;
         is = λ G b. let m = move-found G b in comes-to good c (m .1) words-long (n .counted) (m .2) r h;
       }

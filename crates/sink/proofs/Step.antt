@@ -5,38 +5,34 @@ use mathlib.Core.Bool.{Bool, true}
 use mathlib.Core.List.{List}
 use mathlib.Core.Logic.{⊎-elim}
 use mathlib.Core.Option.{some}
-use Prim.Native.Nat.{ℕ, _+_, _*_, _-_, _≤_}
-use native.Mathlib.Nat.{le-trans, mul-le-mul}
+use Prim.Native.Nat.{ℕ, _+_, _*_, _-_, _/_, _≤_, _<_}
+use native.Mathlib.Nat.{mul-le-mul}
 use native.Mathlib.Numerals.{add-one}
 use native.Mathlib.Omega.{arith}
-use lib.Dec.{eqb}
-use lib.ListN.{length, take, drop}
+use lib.ListN.{length, take}
 use borrow.Rule.Slice.PartMut.{midOf, putMid, mid-len, same-len-mid, take-put}
-use Rattle.words.proofs.Parts.{part-first}
-use Rattle.model.specs.Picture.{Picture, nblocks, preds}
+use Rattle.model.specs.Picture.{Picture, nblocks}
 use Rattle.model.specs.Refusal.{refusal}
 use Rattle.model.specs.Analyse.{Facts, facts, Fact}
 use Rattle.model.specs.Move.{Plan, apply}
 use Rattle.model.specs.Pass as Pass
 use Rattle.model.specs.Pass.{fits}
 use Rattle.laws.proofs.Accepted.{Accepted, accepted, work-room}
-use Rattle.laws.proofs.Sizes.{few-blocks, few-types, vias-length}
-use Rattle.laws.proofs.Moving.{Moving}
-use Rattle.laws.proofs.Endings.{preds-kept}
-use Rattle.laws.proofs.Unchanged.{same-blocks, same-types, regs-more}
-use Rattle.laws.proofs.Keeps.{moving}
+use Rattle.laws.proofs.Sizes.{few-blocks, few-types, regs-lent, vias-length}
+use Rattle.laws.proofs.Moving.{Moving, x-block, into-block}
+use Rattle.laws.proofs.Unchanged.{same-blocks}
+use Rattle.laws.proofs.Keeps.{moving, round-not-refused}
 use Rattle.picture.specs.Causes.{picture-of}
 use Rattle.apply.specs.Apply.{Rest, picture, plan, Stands, Given, Asks, Fits, Holds, Vias}
-use Rattle.chains.specs.Chain.{Preds}
-use Rattle.analyse.specs.Flags.{Seen}
 use Rattle.kept.specs.Walk.{after, Keeps}
 use Rattle.kept.proofs.Stages.{last-round}
 use Rattle.kept.proofs.Answer.{kept-after}
-use Rattle.trial.specs.Work.{width, at-regs, at-stamps, reg-words, pred-words, chain-words, Begun}
+use Rattle.trial.specs.Work.{width, at-stamps, chain-words, Begun}
 use Rattle.sink.specs.declared.round.Step.{Step}
 use Rattle.sink.specs.declared.round.Step.the-variants.{Goes, Short, Stays}
 use Rattle.sink.specs.declared.round.Line.{Line}
-use Rattle.sink.specs.Sink.{Ready, Says, prepared, Decided, next, Stepped}
+use Rattle.sink.specs.Sink.{Ready, Says, prepared, Decided, Renewing, Renewed, next, Stepped}
+use Rattle.sink.proofs.Renewal.{begun-after}
 use Rattle.sink.specs.Kept.{Kept, rounds-then, registers-then, operands-then, StepKept}
 
 -- ---- where the new names lie in the work slices
@@ -70,35 +66,6 @@ module _ {P : Picture} {work64 work32 : List ℕ} (h : Ready P work64 work32) wh
 -- the part that is lent for them
 pub names-long : (a k : ℕ) (xs : List ℕ) → a + k ≤ length xs → length (midOf a (a + k - a) xs) ≡ k
 names-long a k xs h = let e : a + k - a ≡ k = omega arith in mid-len a (a + k) xs h ∙ e
-
--- a part before the one that was lent
-pub part-before : {A : Type 0} (s n a k : ℕ) (xs ys : List A) → s + n ≤ a → a ≤ length xs → take n (drop s (putMid a k xs ys)) ≡ take n (drop s xs)
-part-before s n a k xs ys h l =
-    sym (part-first s n a (putMid a k xs ys) h) ∙ ap (λ (z : List _). take n (drop s z)) (take-put a k xs ys l) ∙ part-first s n a xs h
-
--- ---- what the call began with, after a move
-
-module _ (P : Picture) (G : Facts) (a : Plan) (mv : Moving P G a) where
-  abbrev Q : Picture
-  Q = apply P a
-
-  pub begun-after : (work64 work64′ work32 : List ℕ) → reg-words P work64′ ≡ reg-words P work64 → Begun P G work64 work32 → Begun Q G work64′ work32
-  begun-after work64 work64′ work32 e b = record {
-    seen = subst (λ (n : ℕ). Seen G (length (Q .types)) (take (length (Q .types)) (drop (4 * n * width (length (Q .types))) work64′))) (sym (same-blocks P G a mv))
-        (subst (λ (k : ℕ). Seen G k (take k (drop (4 * nblocks P * width k) work64′))) (sym (same-types P G a mv)) (subst (Seen G (length (P .types))) (sym e) (b .seen)));
-    known = le-trans (b .known) (regs-more P G a mv .0);
-    preds = subst (λ (n : ℕ). Preds Q (take (2 * n) (drop (8000 + length (Q .types)) work32)) n) (sym (same-blocks P G a mv))
-        (subst (λ (k : ℕ). Preds Q (take (2 * nblocks P) (drop (8000 + k) work32)) (nblocks P)) (sym (same-types P G a mv)) here);
-  }
-    where
-      kept : (c : ℕ) → preds Q c ≡ preds P c
-      kept = preds-kept P G a mv
-
-      here : Preds Q (pred-words P work32) (nblocks P)
-      here = record {
-        count = λ c h. b .preds .count c h ∙ ap (λ (l : List ℕ). eqb (length l) 1) (sym (kept c));
-        sole = λ c h e. kept c ∙ b .preds .sole c h (ap length (sym (kept c)) ∙ e);
-      }
 
 -- ---- what `apply` asks, of the numbers that the code has
 
@@ -172,37 +139,75 @@ module _ {P : Picture} {work64 work32 work64′ work32′ : List ℕ} {r : Step}
   pub part-back : (q : ℕ) (names : List ℕ) → length names ≡ length (lent-part q) → length (put-back q names) ≡ length work64
   part-back q names e = same-len-mid (start q) (start q + length (P .types) - start q) work64′ names e ∙ d .size64
 
-  -- and what is then
-  pub stepped-goes : (l : Line) → r ≡ Goes l → {R U : ℕ} → R ≡ P .regs → U ≡ P .opers → (q : ℕ) → q ≡ width (length (P .types)) → (names : List ℕ) → length names ≡ length (lent-part q)
-      → (bounds recs locs vias types ops : List ℕ) → Applies P (l .moved .from) (l .moved .into) (l .moved .inside) (l .moved .places) R U (chain-words work32′) bounds recs locs vias types ops
-      → Stepped P work64 work32 (Goes l) bounds recs locs vias types ops (put-back q names) work32′
-  stepped-goes l e eR eU q eq names same bounds recs locs vias types ops f = record {
-    size64 = part-back q names same;
-    size32 = d .size32;
-    is = then;
-  }
-    where
-      at-start : start q ≡ at-stamps P
-      at-start = ap (λ (z : ℕ). 4 * nblocks P * z + length (P .types)) eq
+  -- and what is then, before and after the rows are made anew
+  module _ (l : Line) (e : r ≡ Goes l) {R U : ℕ} (eR : R ≡ P .regs) (eU : U ≡ P .opers) (q : ℕ) (eq : q ≡ width (length (P .types))) (names : List ℕ) (same : length names ≡ length (lent-part q))
+      (bounds recs locs vias types ops : List ℕ) (f : Applies P (l .moved .from) (l .moved .into) (l .moved .inside) (l .moved .places) R U (chain-words work32′) bounds recs locs vias types ops) where
+    at-start : start q ≡ at-stamps P
+    at-start = ap (λ (z : ℕ). 4 * nblocks P * z + length (P .types)) eq
 
-      then : (G : Facts) → Begun P G work64 work32 → next P (Goes l) (λ Q. Holds Q bounds recs locs vias types ops × Begun Q G (put-back q names) work32′) G
-      then G b =
-          let z = goes-with l e G b in
-          let a = z .0 in
-          let s : Says P a l = z .3 in
-          let mv = moving P G a (accepted P (length work64) (length work32) (h .accepted)) (z .1) (z .2) in (
-            a,
-            z .1,
-            z .2,
-            s,
-            (
-              applies-to P (l .moved .inside) (l .moved .places) (chain-words work32′) bounds recs locs vias types ops (s .from-is) (s .into-is) eR eU f
-                  (record { pairs = P .pairs; targets = P .targets; replay = P .replay }) (a .run) (a .set) (z .6) (z .7),
-              begun-after P G a mv work64′ (put-back q names) work32′
-                  (part-before (at-regs P) (length (P .types)) (start q) (start q + length (P .types) - start q) work64′ names (let f = at-start in omega arith) (let f = stamps-fit′ in let g = at-start in omega arith))
-                  (d .begun G b),
-            ),
-          )
+    names-behind : take (at-stamps P) (put-back q names) ≡ take (at-stamps P) work64′
+    names-behind = subst (λ (z : ℕ). take z (put-back q names) ≡ take z work64′) at-start
+        (take-put (start q) (start q + length (P .types) - start q) work64′ names (let g = stamps-fit′ in let k = at-start in omega arith))
+
+    module _ (G : Facts) (b : Begun P G work64 work32) where
+      abbrev ready : prepared P G (Goes l) (chain-words work32′)
+      ready = goes-with l e G b
+
+      abbrev Q : Picture
+      Q = apply P (ready .0)
+
+      moves : Moving P G (ready .0)
+      moves = moving P G (ready .0) (accepted P (length work64) (length work32) (h .accepted)) (ready .1) (ready .2)
+
+      says : Says P (ready .0) l
+      says = ready .3
+
+      holds : Holds Q bounds recs locs vias types ops
+      holds =
+          applies-to P (l .moved .inside) (l .moved .places) (chain-words work32′) bounds recs locs vias types ops (says .from-is) (says .into-is) eR eU f
+          (record { pairs = P .pairs; targets = P .targets; replay = P .replay }) (ready .0 .run) (ready .0 .set) (ready .6) (ready .7)
+
+      not-refused : refusal Q (length work64) (length work32) ≡ 0
+      not-refused = round-not-refused P G (ready .0) (length work64) (length work32) (h .accepted) (ready .1) (ready .2)
+
+      block-low : {c d : ℕ} → d ≡ c → c < nblocks P → d < length bounds / 2
+      block-low {c} {d} ec i =
+          let k : length bounds / 2 ≡ nblocks P = ap (λ (x : List ℕ). length x / 2) (holds .bounds-are) ∙ same-blocks P G (ready .0) moves in
+          omega arith
+
+      renewing-for : Renewing bounds recs ops (put-back q names) (P .regs) (l .registers) (l .moved .from) (l .moved .into)
+      renewing-for = record {
+        Q = Q;
+        w32 = length work32;
+        accepted = ap (λ (n : ℕ). refusal Q n (length work32)) (part-back q names same) ∙ not-refused;
+        bounds-are = holds .bounds-are;
+        recs-are = holds .recs-are;
+        ops-are = holds .ops-are;
+        regs-are = says .registers-are;
+        was-few = let i = regs-lent P (accept h) in let j = types-few h in omega arith;
+        from-block = block-low (says .from-is) (x-block P G (ready .0) moves);
+        into-block = block-low (says .into-is) (into-block P G (ready .0) moves);
+      }
+
+      begun-then : {work64″ : List ℕ} → Renewed bounds recs ops (put-back q names) (width (P .regs)) (width (l .registers)) (l .moved .from) (l .moved .into) work64″ → Begun Q G work64″ work32′
+      begun-then {work64″} n =
+          begun-after P G (ready .0) moves work64′ (put-back q names) work64″ work32′ (accepted Q (length work64) (length work32) not-refused)
+          (holds .bounds-are) (holds .recs-are) (holds .ops-are) names-behind
+          (subst (λ (x : ℕ). Renewed bounds recs ops (put-back q names) (width (P .regs)) (width (Q .regs)) x (ready .0 .into) work64″) (says .from-is)
+          (subst (λ (x : ℕ). Renewed bounds recs ops (put-back q names) (width (P .regs)) (width (Q .regs)) (l .moved .from) x work64″) (says .into-is)
+          (subst (λ (x : ℕ). Renewed bounds recs ops (put-back q names) (width (P .regs)) (width x) (l .moved .from) (l .moved .into) work64″) (says .registers-are) n)))
+          (d .begun G b)
+
+    pub renewing : Renewing bounds recs ops (put-back q names) (P .regs) (l .registers) (l .moved .from) (l .moved .into)
+    renewing = renewing-for (h .G) (h .begun)
+
+    pub stepped-goes : {work64″ : List ℕ} → Renewed bounds recs ops (put-back q names) (width (P .regs)) (width (l .registers)) (l .moved .from) (l .moved .into) work64″
+        → Stepped P work64 work32 (Goes l) bounds recs locs vias types ops work64″ work32′
+    stepped-goes n = record {
+      size64 = n .size ∙ part-back q names same;
+      size32 = d .size32;
+      is = λ G b. let z = goes-with l e G b in (z .0, z .1, z .2, z .3, (holds G b, begun-then G b n));
+    }
 
   -- no move, or no room for it: work words alone are written
   pub stepped-short : r ≡ Short → Stepped P work64 work32 r (P .bounds) (P .recs) (P .locs) (P .vias) (P .types) (P .ops) work64′ work32′

@@ -2,10 +2,10 @@
 -- nothing.
 use mathlib.Core.Path.{_≡_}
 use mathlib.Core.Bool.{true, false}
-use mathlib.Core.List.{List}
+use mathlib.Core.List.{List, []}
 use mathlib.Core.Option.{none, some}
 use Prim.Native.Nat.{ℕ, _+_, _*_, _/_, _≤_, _<_}
-use lib.ListN.{length, take, drop}
+use lib.ListN.{getD, length, take, drop}
 use Rattle.words.specs.Lists.{concat, count}
 use Rattle.model.specs.declared.Answer.{Answer}
 use Rattle.model.specs.Picture.{Picture}
@@ -17,6 +17,8 @@ use Rattle.model.specs.Pass.{Outcome, rounds, fits, sink-all}
 use Rattle.picture.specs.Causes.{picture-of}
 use Rattle.apply.specs.declared.needs.Counts.{Counts}
 use Rattle.apply.specs.Apply.{Holds, Stands, Given, Asks, Counted, Fits}
+use Rattle.flow.specs.Drawn.{drawn}
+use Rattle.flow.specs.Live.{Rows}
 use Rattle.trial.specs.declared.block.Move.{Move}
 use Rattle.trial.specs.Work.{width, Begun, chain-words}
 use Rattle.sink.specs.declared.round.Step.{Step}
@@ -97,6 +99,27 @@ pub record Decided (P : Picture) (work64 work32 : List ℕ) (r : Step) (work64�
   pub size32 : length work32′ ≡ length work32
   pub begun : (G : Facts) → Begun P G work64 work32 → Begun P G work64′ work32′
   pub is : (G : Facts) → Begun P G work64 work32 → prepared P G r (chain-words work32′)
+
+-- the rows of blocks from and into can be made anew: these are the lists of an accepted picture of so many registers in use
+pub record Renewing (bounds recs ops work64 : List ℕ) (was regs from into : ℕ) : Type 0 where
+  pub Q : Picture
+  pub w32 : ℕ
+  pub accepted : refusal Q (length work64) w32 ≡ 0
+  pub bounds-are : bounds ≡ Q .bounds
+  pub recs-are : recs ≡ Q .recs
+  pub ops-are : ops ≡ Q .ops
+  pub regs-are : regs ≡ Q .regs
+  pub was-few : was ≤ 65536
+  pub from-block : from < length bounds / 2
+  pub into-block : into < length bounds / 2
+
+-- they were, with rows of w words, which were of v: each block's stand, if those of the other blocks stood where rows are as wide as
+-- before; and nothing behind the rows changed
+pub record Renewed (bounds recs ops work64 : List ℕ) (v w from into : ℕ) (work64′ : List ℕ) : Type 0 where
+  pub size : length work64′ ≡ length work64
+  pub behind : (i : ℕ) → 3 * (length bounds / 2) * w + w ≤ i → getD work64′ i 0 ≡ getD work64 i 0
+  pub rows : (b : ℕ) → b < length bounds / 2 → (w ≡ v → (b ≡ from → ⊥) → (b ≡ into → ⊥) → Rows (drawn bounds recs ops [] []) w b work64)
+      → Rows (drawn bounds recs ops [] []) w b work64′
 
 -- the picture after it, by what it was to do
 abbrev pub next : Picture → Step → (Picture → Type 0) → Facts → Type 0

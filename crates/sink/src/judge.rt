@@ -14,7 +14,7 @@ pub enum Verdict {
 }
 
 pub fn judge(
-    t: &[u32; 101],
+    t: &[u32; 202],
     bounds: &[u32],
     recs: &[u32],
     locs: &[u32],

@@ -20,7 +20,7 @@ ghost use Rattle.sink.specs.Kept.{registers, operands, Kept};
 
 // An accepted picture that no gate stops.
 fn run(
-    t: &[u32; 101],
+    t: &[u32; 202],
     bounds: &mut [u32],
     recs: &mut [u32],
     locs: &mut [u32],
@@ -42,12 +42,14 @@ fn run(
         t,
         bounds,
         recs,
+        ops,
         pairs,
         targets,
         work64,
         work32,
         types.len(),
         locs.len(),
+        regs,
     );
     rounds(
         t,

@@ -2,6 +2,8 @@
 use apply::apply;
 use apply::needs::Counts;
 use apply::needs::needs;
+use flow::rows::all_rows;
+use flow::rows::block_rows;
 use inst::record::wide;
 use search::find::find_move;
 use trial::block::MaybeMove;
@@ -14,7 +16,8 @@ ghost use lib.ListN.{length};
 ghost use Rattle.model.specs.Analyse.{Facts};
 ghost use Rattle.inst.specs.Table.{rows};
 ghost use Rattle.picture.specs.Causes.{picture-of};
-ghost use Rattle.sink.specs.Sink.{Ready, Needing, Needed, stepped, Decided, Stepped};
+ghost use Rattle.trial.specs.Work.{width};
+ghost use Rattle.sink.specs.Sink.{Ready, Needing, Needed, stepped, Decided, Renewing, Renewed, Stepped};
 ghost use Rattle.sink.specs.Kept.{registers-then, operands-then, StepKept};
 
 // The move of a round, with the registers and operands in use after it.
@@ -33,7 +36,7 @@ pub enum Step {
 
 // What move mv needs: the registers and operands in use after it. Its new registers are then in the words of its positions.
 fn count_needs(
-    t: &[u32; 101],
+    t: &[u32; 202],
     bounds: &[u32],
     recs: &[u32],
     locs: &[u32],
@@ -92,7 +95,7 @@ fn step_of(mv: Move, c: Counts, lent: usize, room: usize) -> Step
 
 // What the round is to do. Of what is lent, only work words are written.
 fn prepare<'a>(
-    t: &[u32; 101],
+    t: &[u32; 202],
     bounds: &[u32],
     recs: &'a [u32],
     locs: &[u32],
@@ -147,9 +150,33 @@ fn prepare<'a>(
     step_of(mv, c, types.len(), ops.len())
 }
 
+// After a move: the rows of the two blocks that it changed, anew; all rows, where those of the registers in use are wider than before.
+fn renew(
+    t: &[u32; 202],
+    bounds: &[u32],
+    recs: &[u32],
+    ops: &[u32],
+    work64: &mut [u64],
+    was: u32,
+    regs: u32,
+    from: usize,
+    into: usize,
+)
+    requires { ⌜ (now t ≡ rows) × Renewing (now bounds) (now recs) (now ops) (now work64) was regs from into ⌝ }
+    ensures { λ _. ⌜ Renewed (now (bounds .entry)) (now (recs .entry)) (now (ops .entry)) (now (work64 .entry)) (width was) (width regs) from into (now (work64 .exit)) ⌝ }
+{
+    let w = width(wide(regs));
+    if w != width(wide(was)) {
+        all_rows(work64, t, bounds, recs, ops, w);
+        return;
+    }
+    block_rows(work64, t, bounds, recs, ops, w, from);
+    block_rows(work64, t, bounds, recs, ops, w, into);
+}
+
 // The round.
 pub fn round(
-    t: &[u32; 101],
+    t: &[u32; 202],
     bounds: &mut [u32],
     recs: &mut [u32],
     locs: &mut [u32],
@@ -204,6 +231,17 @@ pub fn round(
             mv.into,
             mv.inside,
             mv.places,
+        );
+        renew(
+            t,
+            bounds,
+            recs,
+            ops,
+            work64,
+            regs,
+            l.registers,
+            mv.from,
+            mv.into,
         );
     }
     r

@@ -92,7 +92,7 @@ fn answer_of(m: At) -> Answer
 
 // The rounds.
 pub fn rounds(
-    t: &[u32; 101],
+    t: &[u32; 202],
     bounds: &mut [u32],
     recs: &mut [u32],
     locs: &mut [u32],

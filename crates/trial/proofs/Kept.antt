@@ -1,32 +1,28 @@
 -- Parts that are lent leave the rest as it was: rows of bits below them, words behind them; so what is held stays. Assumes nothing.
-use mathlib.Core.Path.{_≡_, refl, sym, ap, _∙_, subst}
+use mathlib.Core.Path.{_≡_, refl, sym, ap, _∙_}
 use mathlib.Core.List.{List, _++_}
-use Prim.Native.Nat.{ℕ, _+_, _*_, _-_, _/_, _%_, _≤_, _<_}
+use Prim.Native.Nat.{ℕ, _+_, _*_, _/_, _%_, _≤_, _<_}
 use native.Mathlib.Nat.{le-trans, mul-le-mul-left, mul-le-mul-right}
 use native.Mathlib.Omega.{arith}
 use borrow.Rule.Slice.PartMut.{putMid, postOf}
 use lib.Dec.{eqb}
 use lib.ListN.{getD, length, take, drop}
-use lib.Seq.{length-take-le, take-at, drop-at, drop-drop, take-take, getD-take}
+use lib.Seq.{length-take-le, take-at, drop-at, take-take, getD-take}
 use Rattle.words.specs.Bits.{digit, digit-in, is-in}
 use Rattle.words.proofs.Parts.{row-fits}
 use Rattle.model.specs.Picture.{Picture, nblocks}
 use Rattle.model.specs.Analyse.{Facts}
 use Rattle.laws.proofs.Accepted as laws
-use Rattle.laws.proofs.Sizes.{few-blocks, few-types, regs-lent}
+use Rattle.laws.proofs.Sizes.{regs-lent}
 use Rattle.trial.specs.declared.sizes.Sizes.{Sizes}
 use Rattle.trial.specs.Work.{width, at-regs, reg-words, Held, Lists}
+use Rattle.trial.proofs.Standing.{front-same, same-rows, Firm, firsts-before, begun-kept}
 
 -- ---- lists
 
 -- a part that was put back
 pub part-put : {A : Type 0} (a k : ℕ) (xs ys : List A) → a ≤ length xs → length ys ≡ k → take k (drop a (putMid a k xs ys)) ≡ ys
 part-put a k xs ys h e = ap (take k) (drop-at (take a xs) (ys ++ postOf a k xs) a (length-take-le a xs h)) ∙ take-at ys (postOf a k xs) k e
-
-pub drop-more : {A : Type 0} (a b : ℕ) (xs ys : List A) → a ≤ b → drop a xs ≡ drop a ys → drop b xs ≡ drop b ys
-drop-more a b xs ys h e =
-    let z : a + (b - a) ≡ b = omega arith in
-    subst (λ (n : ℕ). drop n xs ≡ drop n ys) z (sym (drop-drop (b - a) a xs) ∙ ap (drop (b - a)) e ∙ drop-drop (b - a) a ys)
 
 pub take-less : {A : Type 0} (a b : ℕ) (xs ys : List A) → a ≤ b → take b xs ≡ take b ys → take a xs ≡ take a ys
 take-less a b xs ys h e = sym (take-take a b xs h) ∙ ap (take a) e ∙ take-take a b ys h
@@ -47,30 +43,9 @@ row-low {b} {w} {v} B h k = le-trans (row-fits w h) (mul-le-mul-left (4 * B) k)
 pub size-low : {x y : ℕ} → x ≤ 4096 → y ≤ 1024 → 4 * x * y ≤ 16777216
 size-low {x} {y} h k = let z : 4 * x ≤ 16384 = omega arith in le-trans (mul-le-mul-left (4 * x) k) (mul-le-mul-right 1024 z)
 
-pub record Room (s : Sizes) (w64 w32 : ℕ) : Type 0 where
-  pub blocks : s .blocks ≤ 4096
-  pub lent : s .lent ≤ 65536
-  pub regs : s .regs ≤ s .lent
-  pub words64 : 4 * s .blocks * width (s .lent) + 2 * s .lent ≤ w64
-  pub words32 : 8 * s .lent + 16 * s .blocks + 8000 ≤ w32
-
 module _ {P : Picture} {bounds recs ops : List ℕ} {s : Sizes} {w64 w32 : ℕ} (l : Lists P bounds recs ops s w64 w32) where
   pub ok : laws.Accepted P
   ok = laws.accepted P w64 w32 (l .accepted)
-
-  pub room : Room s w64 w32
-  room =
-      let a = few-blocks P ok in
-      let b = few-types P ok in
-      let c = regs-lent P ok in
-      let d = laws.work-room P w64 w32 (l .accepted) in
-      record {
-        blocks = rw (l .blocks-are) a;
-        lent = rw (l .lent-are) b;
-        regs = rw (l .regs-are, l .lent-are) c;
-        words64 = rw (l .blocks-are, l .lent-are) (d .0);
-        words32 = rw (l .blocks-are, l .lent-are) (d .1);
-      }
 
   pub at-is : 4 * s .blocks * width (s .lent) ≡ at-regs P
   at-is = rw (l .blocks-are, l .lent-are) refl
@@ -86,13 +61,15 @@ module _ {P : Picture} {bounds recs ops : List ℕ} {s : Sizes} {w64 w32 : ℕ} 
     same-row : (b r : ℕ) → b < 4 * nblocks P → r < 64 * width (P .regs) → is-in work64′ (64 * (b * width (P .regs)) + r) ≡ is-in work64 (64 * (b * width (P .regs)) + r)
     same-row b r i j = let z = row-low (nblocks P) i width-less in in-below (at-regs P) work64′ work64 rows (64 * (b * width (P .regs)) + r) (omega (arith, z))
 
+    firm : Firm P work64 work64′
+    firm = record {
+      rows = λ b i. let f = firsts-before P ok i in
+          same-rows work64 work64′ i (λ q u v. front-same (at-regs P) work64 work64′ rows q (omega arith)) (λ q u v. front-same (at-regs P) work64 work64′ rows q (omega arith));
+      flags = flags;
+    }
+
     pub held-kept : Held P G work64′ work32′
     held-kept = record {
-      begun = record {
-        seen = record { size = h .begun .seen .size; flags = λ r i. flags r i ∙ h .begun .seen .flags r i };
-        known = h .begun .known;
-        preds = rw behind (h .begun .preds);
-      };
+      begun = begun-kept firm (ap (take (2 * nblocks P)) behind) (h .begun);
       live = record { row = λ b r i j. same-row b r (omega arith) j ∙ h .live .row b r i j };
-      wrote = record { row = λ b r i j. same-row (nblocks P + b) r (omega arith) j ∙ h .wrote .row b r i j };
     }

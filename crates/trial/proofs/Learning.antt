@@ -20,14 +20,16 @@ use Rattle.analyse.specs.Flags.{Seen}
 use Rattle.analyse.specs.State as A
 use Rattle.analyse.specs.Step.{Ready, Analysed}
 use Rattle.analyse.proofs.Accepted.{good-given, pairs-given, ends-given}
-use Rattle.legalset.specs.Chain.{cell, Told, Safe}
+use Rattle.legalset.specs.Chain.{cell, Told, Safe, Brief}
 use Rattle.plan.specs.Passes.{Ended}
 use Rattle.plan.proofs.Heard as heard
 use Rattle.trial.specs.declared.sizes.Sizes.{Sizes}
 use Rattle.trial.specs.Work.{width, at-regs, reg-words, chain-words, copied-words, Lists, Held}
 use Rattle.trial.specs.Puts.{Copying, Copied}
 use Rattle.trial.specs.Along.{chain-in, Along, Learning, Learnt}
-use Rattle.trial.proofs.Kept.{part-put, drop-more, ok, Room, room, at-is, held-kept}
+use Rattle.trial.proofs.Standing.{drop-more}
+use Rattle.trial.proofs.Kept.{part-put, ok, at-is, held-kept}
+use Rattle.trial.proofs.Rooms.{Room, room}
 
 -- the positions of a chain are told by the bounds alone
 pub places-same : (P Q : Picture) → P .bounds ≡ Q .bounds → (bs : List ℕ) → chain-places P bs ≡ chain-places Q bs
@@ -42,7 +44,7 @@ unfolding cell A.cell
 cell-is w p j = let e : 10 * p + j ≡ p * 10 + j = omega arith in ap (λ (n : ℕ). getD w n 0) e
 
 module _ {bounds recs ops work64 work32 : List ℕ} {s : Sizes} {c : Chain} (g : Learning bounds recs ops s c work64 work32) where
-  pub fits : Room s (length work64) (length work32)
+  pub fits : Room (s .blocks) (s .regs) (s .lent) (length work64) (length work32)
   fits = room (g .lists)
 
   module _ {a e r : ℕ} (ea : a ≡ 4 * s .blocks * width (s .lent)) (ee : e ≡ a + s .lent) (er : r ≡ s .regs) where
@@ -63,8 +65,8 @@ module _ {bounds recs ops work64 work32 : List ℕ} {s : Sizes} {c : Chain} (g :
         rw (et, l .recs-are, l .ops-are, l .bounds-are, l .blocks-are, er, l .regs-are, l .insts-are)
         (record {
           table = refl;
-          in-use = let z = fits .regs in omega (arith, part-long, l .regs-are);
-          lent = let z = fits .lent in omega (arith, part-long);
+          in-use = let z = fits .lent in omega (arith, part-long, l .regs-are);
+          lent = let z = fits .few in omega (arith, part-long);
           room = omega (arith, chain-long);
           good = good-given P k;
           sound = g .chained .sound;
@@ -93,12 +95,12 @@ module _ {bounds recs ops work64 work32 : List ℕ} {s : Sizes} {c : Chain} (g :
       size32 = let z = fits .words32 in let y = length-append w′ (drop 8000 work32) in let x = length-drop 8000 work32 in omega (arith, w-long)
 
       few : r ≤ e - a
-      few = let z = fits .regs in omega arith
+      few = let z = fits .lent in omega arith
 
       pub copying : Copying after64 a r after32
       copying = record {
         there = omega (arith, size64, inside, few);
-        room = let z = fits .words32 in let y = fits .regs in omega (arith, size32);
+        room = let z = fits .words32 in let y = fits .lent in omega (arith, size32);
         small = λ i h.
             let z = put-inner a (e - a) work64 regs′ i 0 (omega (arith, inside)) (omega (arith, regs-long, few)) in
             let y = an .safe .within i h in
@@ -157,6 +159,7 @@ module _ {bounds recs ops work64 work32 : List ℕ} {s : Sizes} {c : Chain} (g :
             told = subst (λ (w : List ℕ). Told (P .recs) (P .ops) w (copied-words P copied) n run) (sym words-are) told;
             ended = subst (λ (w : List ℕ). Ended (P .recs) w n (copied-words P copied)) (sym words-are) (heard.ended of-picture P refl G seen (copied-words P copied) copy-is);
             safe = subst (λ (w : List ℕ). Safe (P .recs) (P .ops) w n (P .regs)) (sym words-are) (heard.safe of-picture);
+            brief = subst (λ (w : List ℕ). Brief (P .recs) (P .ops) w n) (sym words-are) (heard.brief of-picture);
             written = λ p i.
                 ap (λ (w : List ℕ). cell w p 6) words-are ∙ cell-is w′ p 6
                 ∙ of-picture .state P refl G seen .each p (let z = told .stands .long in omega arith) .written;

@@ -1,9 +1,10 @@
+pub mod Standing
+pub mod Rooms
 pub mod Copying
 pub mod Kept
 pub mod Learning
 pub mod Putting
 pub mod Planned
-pub mod Rooms
 pub mod Sets
 pub mod Plans
 pub mod Moves

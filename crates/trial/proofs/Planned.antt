@@ -31,7 +31,7 @@ use Rattle.laws.proofs.Chains.{lead}
 use Rattle.chains.specs.declared.chain.Chain.{Chain}
 use Rattle.chains.specs.Chain.{blocks-of}
 use Rattle.chains.proofs.Struct.{blocks-long}
-use Rattle.legalset.specs.Chain.{cell, view, defs-of, reads-of, Safe, Told}
+use Rattle.legalset.specs.Chain.{cell, view, defs-of, reads-of, Safe, Brief, Told}
 use Rattle.legalset.specs.Marks.{in-set}
 use Rattle.plan.specs.Passes.{result-test, Around}
 use Rattle.plan.specs.Uses.{or-own, reads-value, last-reader, Readers}
@@ -43,7 +43,9 @@ use Rattle.trial.specs.declared.sizes.Sizes.{Sizes}
 use Rattle.trial.specs.Work.{width, at-regs, reg-words, chain-words, copied-words, Lists, Held}
 use Rattle.trial.specs.Puts.{use-of, UseAsked, Put, ReadersAsked}
 use Rattle.trial.specs.Along.{chain-in, Along, Marked, Planning, FromX, PutPlan}
-use Rattle.trial.proofs.Kept.{drop-more, take-less, in-below, row-low, ok, Room, room, at-is, held-kept}
+use Rattle.trial.proofs.Standing.{drop-more}
+use Rattle.trial.proofs.Kept.{take-less, in-below, row-low, ok, at-is, held-kept}
+use Rattle.trial.proofs.Rooms.{Room, room}
 use Rattle.trial.proofs.Putting.{cell-first, put-behind}
 
 -- ---- small facts
@@ -82,7 +84,7 @@ first-places P (b ∷ bs) h p i = lead P b bs p i .1
 -- ---- what is asked on the way
 
 module _ {bounds recs ops work64 work32 : List ℕ} {s : Sizes} {c : Chain} {into m n : ℕ} (g : Planning bounds recs ops s c work64 work32 into m n) where
-  pub plan-room : Room s (length work64) (length work32)
+  pub plan-room : Room (s .blocks) (s .regs) (s .lent) (length work64) (length work32)
   plan-room = room (g .lists)
 
   into-low : into < s .blocks
@@ -95,16 +97,19 @@ module _ {bounds recs ops work64 work32 : List ℕ} {s : Sizes} {c : Chain} {int
     chain-safe : Safe recs ops (chain-words work32) n r
     chain-safe = let l = g .lists in rw (l .recs-are, l .ops-are, er, l .regs-are) (g .along .safe)
 
+    chain-brief : Brief recs ops (chain-words work32) n
+    chain-brief = let l = g .lists in rw (l .recs-are, l .ops-are) (g .along .brief)
+
     pub readers-asked : ReadersAsked recs ops work64 work32 (a + s .lent) r n
-    readers-asked = let z = plan-room in record { safe = chain-safe; chain = omega (arith, z .words32); room = omega (arith, z .words64, z .regs, ea, er) }
+    readers-asked = let z = plan-room in record { safe = chain-safe; brief = chain-brief; chain = omega (arith, z .words32); room = omega (arith, z .words64, z .lent, ea, er) }
 
     module _ {v : ℕ} (ev : v ≡ width r) where
       pub row-inside : into * v + v ≤ a
-      row-inside = let z = plan-room in let y = into-low in rw ea (row-low (s .blocks) (omega arith) (omega (arith, z .regs, er, ev)))
+      row-inside = let z = plan-room in let y = into-low in rw ea (row-low (s .blocks) (omega arith) (omega (arith, z .lent, er, ev)))
 
       module _ {work64′ : List ℕ} (ar : Around (a + s .lent) r work64 work64′) where
         pub use-asked : UseAsked recs ops work64′ work32 r (into * v) n
-        use-asked = let z = plan-room in record { safe = chain-safe; room = omega (arith, z .words32, z .regs, er); row = omega (arith, row-inside, z .words64, ea, ar .size) }
+        use-asked = let z = plan-room in record { safe = chain-safe; room = omega (arith, z .words32, z .lent, er); row = omega (arith, row-inside, z .words64, ea, ar .size) }
 
         module _ {marks lasts work32′ : List ℕ} (rd : Readers (defs-of recs (chain-words work32)) (reads-of recs ops (chain-words work32)) n lasts) (pt : Put recs marks lasts work64′ work32 work32′ r (into * v) n m) where
           module _ (P : Picture) (l : Lists P bounds recs ops s (length work64) (length work32)) where
@@ -151,7 +156,7 @@ module _ {bounds recs ops work64 work32 : List ℕ} {s : Sizes} {c : Chain} {int
               told = subst (Told (P .recs) (P .ops) W regs n) (sym eb) (al .told)
 
               regs-long : length regs ≡ P .regs
-              regs-long = length-take-le (P .regs) (drop 8000 work32) (let z = room l in let e = length-drop 8000 work32 in omega (arith, z .words32, z .regs, l .regs-are))
+              regs-long = length-take-le (P .regs) (drop 8000 work32) (let z = room l in let e = length-drop 8000 work32 in omega (arith, z .words32, z .lent, l .regs-are))
 
               in-chain : (p : ℕ) → p < m → p < n
               in-chain p i = let z = g .in-x in omega arith
@@ -178,7 +183,7 @@ module _ {bounds recs ops work64 work32 : List ℕ} {s : Sizes} {c : Chain} {int
                   let e = l .blocks-are in
                   let y = into-low in
                   let z = room l in
-                  let q = row-low {b = into} {w = width (P .regs)} {v = width (length (P .types))} (nblocks P) (omega arith) (omega (arith, z .regs, l .regs-are, l .lent-are)) in
+                  let q = row-low {b = into} {w = width (P .regs)} {v = width (length (P .types))} (nblocks P) (omega arith) (omega (arith, z .lent, l .regs-are, l .lent-are)) in
                   in-below (at-regs P) work64′ work64 rows-same (64 * o + r) (omega (arith, q))
                   ∙ h .live .row into r (omega arith) (omega arith)
                   ∙ sym (getD-made (live-in P (b .into)) false 0 (P .regs) r i ∙ ap₂ (live-in P) ei (zero-add r))
@@ -221,7 +226,7 @@ module _ {bounds recs ops work64 work32 : List ℕ} {s : Sizes} {c : Chain} {int
                     lasts = λ p i e. last-is p i;
                     wrotes = λ p i e.
                         ap regs-of (wrote-is p i)
-                        ∙ one-reg (P .regs) (let z = room l in omega (arith, z .regs, z .lent, l .regs-are)) (fact-at (b .run) p .defs) (few-defs p i e) (defs-low p (in-chain p i));
+                        ∙ one-reg (P .regs) (let z = room l in omega (arith, z .lent, z .few, l .regs-are)) (fact-at (b .run) p .defs) (few-defs p i e) (defs-low p (in-chain p i));
                     outside = eo;
                   };
                   defs = λ p i. told .stands .defs p i ∙ ap (λ (x : ℕ). writes (inst (P .recs) x)) (sym (number p));

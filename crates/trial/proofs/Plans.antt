@@ -49,9 +49,9 @@ module _ {bounds recs ops pairs targets : List ℕ} {s : Sizes} {c : Chain} {wor
   trying-at {i} {j} t e f =
       subst (λ (y : ℕ). Trying bounds recs ops pairs targets s c work64 work32 y j m n) (sym e) (subst (λ (y : ℕ). Trying bounds recs ops pairs targets s c work64 work32 into y m n) (sym f) t)
 
-  pub planning-after : {i j k : ℕ} {work64′ marks′ : List ℕ} {r : ℕ} → Trying bounds recs ops pairs targets s c work64 work32 into other m n
-      → SetFound bounds recs ops pairs targets s c work64 work32 i j m n work64′ marks′ r → k ≡ into → Planning bounds recs ops s c work64′ work32 k m n
-  planning-after {i} {j} {k} {work64′} t f e =
+  pub planning-after : {least i j k : ℕ} {work64′ marks′ : List ℕ} {r : ℕ} → Trying bounds recs ops pairs targets s c work64 work32 into other m n
+      → SetFound bounds recs ops pairs targets s c work64 work32 least i j m n work64′ marks′ r → k ≡ into → Planning bounds recs ops s c work64′ work32 k m n
+  planning-after {work64′ = work64′} t f e =
       let p = t .planning in
       record {
         P = p .P;
@@ -77,30 +77,29 @@ module _ {bounds recs ops pairs targets : List ℕ} {s : Sizes} {c : Chain} {wor
     }
 
     -- too few members
-    pub too-few : {i j k : ℕ} {work64′ marks′ : List ℕ} {r : Bool} → Aimed s c work32 into r → r ≡ true → SetFound bounds recs ops pairs targets s c work64 work32 i j m n work64′ marks′ k
+    pub too-few : {i j k : ℕ} {work64′ marks′ : List ℕ} {r : Bool} → Aimed s c work32 into r → r ≡ true → SetFound bounds recs ops pairs targets s c work64 work32 least i j m n work64′ marks′ k
         → i ≡ into → j ≡ other → k < least → PlanTried bounds recs ops pairs targets s c work64 work32 least into other m n work64′ work32 0
     too-few {i} {j} {k} {work64′} {marks′} f e d ei ej few =
-        let g : SetFound bounds recs ops pairs targets s c work64 work32 into other m n work64′ marks′ k =
-        subst (λ (y : ℕ). SetFound bounds recs ops pairs targets s c work64 work32 y other m n work64′ marks′ k) ei (subst (λ (y : ℕ). SetFound bounds recs ops pairs targets s c work64 work32 i y m n work64′ marks′ k) ej d) in
+        let g : SetFound bounds recs ops pairs targets s c work64 work32 least into other m n work64′ marks′ k =
+        subst (λ (y : ℕ). SetFound bounds recs ops pairs targets s c work64 work32 least y other m n work64′ marks′ k) ei (subst (λ (y : ℕ). SetFound bounds recs ops pairs targets s c work64 work32 least i y m n work64′ marks′ k) ej d) in
         record {
           size64 = g .size64;
           size32 = refl;
           held = g .held;
           still = λ z. refl;
           none-is = λ P G x l u h a q z.
-              let many : k ≡ count (set-for P (run-of P G (chain-in c)) x into other) =
-              g .count P G l u h a ∙ ap (λ (y : ℕ). count (greatest (run-of P G (chain-in c)) (member (needed-of P into other)) y)) (q .inside) in
-              plan-few P (run-of P G (chain-in c)) x (chain-in c) least into other (sym (f .is P (preds-lent work32 l (h .begun .preds))) ∙ e) (subst (λ (y : ℕ). y < least) many few);
+              plan-few P (run-of P G (chain-in c)) x (chain-in c) least into other (sym (f .is P (preds-lent work32 l (h .begun .preds))) ∙ e)
+              (subst (λ (y : ℕ). count (greatest (run-of P G (chain-in c)) (member (needed-of P into other)) y) < least) (q .inside) (g .few few P G l u h a));
           some-is = λ P G x l u h a q z. absurd (z refl);
         }
 
     -- the plan
-    pub enough : {i j o k : ℕ} {work64′ marks′ work64″ work32″ : List ℕ} {r : Bool} → Aimed s c work32 into r → r ≡ true → SetFound bounds recs ops pairs targets s c work64 work32 i j m n work64′ marks′ k
+    pub enough : {i j o k : ℕ} {work64′ marks′ work64″ work32″ : List ℕ} {r : Bool} → Aimed s c work32 into r → r ≡ true → SetFound bounds recs ops pairs targets s c work64 work32 least i j m n work64′ marks′ k
         → PutPlan bounds recs ops s c marks′ work64′ work32 o m n work64″ work32″
         → i ≡ into → j ≡ other → o ≡ into → 0 < least → least ≤ k → PlanTried bounds recs ops pairs targets s c work64 work32 least into other m n work64″ work32″ k
     enough {i} {j} {o} {k} {work64′} {marks′} {work64″} {work32″} f e d p ei ej eo some? many =
-        let g : SetFound bounds recs ops pairs targets s c work64 work32 into other m n work64′ marks′ k =
-        subst (λ (y : ℕ). SetFound bounds recs ops pairs targets s c work64 work32 y other m n work64′ marks′ k) ei (subst (λ (y : ℕ). SetFound bounds recs ops pairs targets s c work64 work32 i y m n work64′ marks′ k) ej d) in
+        let g : SetFound bounds recs ops pairs targets s c work64 work32 least into other m n work64′ marks′ k =
+        subst (λ (y : ℕ). SetFound bounds recs ops pairs targets s c work64 work32 least y other m n work64′ marks′ k) ei (subst (λ (y : ℕ). SetFound bounds recs ops pairs targets s c work64 work32 least i y m n work64′ marks′ k) ej d) in
         let lists : (P : Picture) → Lists P bounds recs ops s (length work64) (length work32) → Lists P bounds recs ops s (length work64′) (length work32) =
         λ P l. subst (λ (w : ℕ). Lists P bounds recs ops s w (length work32)) (sym (g .size64)) l in
         record {
@@ -113,13 +112,13 @@ module _ {bounds recs ops pairs targets : List ℕ} {s : Sizes} {c : Chain} {wor
               let run : List Fact = run-of P G (chain-in c) in
               let need : ℕ → Bool = member (needed-of P into other) in
               let same-set : greatest run need m ≡ greatest run need (size P x - 1) = ap (greatest run need) (q .inside) in
-              let total : k ≡ count (set-for P run x into other) = g .count P G l u h a ∙ ap count same-set in
+              let total : k ≡ count (set-for P run x into other) = g .count many P G l u h a ∙ ap count same-set in
               let low : m ≡ size P x - 1 = q .inside in (
                 made P run x (chain-in c) least into other,
                 plan-on P run x (chain-in c) least into other (sym (f .is P (preds-lent work32 l (h .begun .preds))) ∙ e) (subst (λ (y : ℕ). least ≤ y) total many),
                 total,
                 p .marked P G (made P run x (chain-in c) least into other) (lists P l) (g .held P G l u h) a q (sym eo) refl
-                    (λ y. g .set P G l u h a y ∙ ap (λ (S : List Bool). member S y) same-set)
+                    (λ y. g .set many P G l u h a y ∙ ap (λ (S : List Bool). member S y) same-set)
                     (λ y b. not-true-is-false (member (set-for P run x into other) y)
                     (λ t. let z = greatest-movable run need (size P x - 1) y (true-T (member (set-for P run x into other) y) t) .0 in omega arith))
                     (λ y t. T-true (movable (fact-at run y .does .class)) (greatest-movable run need (size P x - 1) y (true-T (member (set-for P run x into other) y) t) .1)),

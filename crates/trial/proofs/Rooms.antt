@@ -1,23 +1,24 @@
 -- Where the parts of the two work slices lie in an accepted picture, and that what they hold stays where words elsewhere are written.
 -- Assumes nothing.
-use mathlib.Core.Path.{_≡_, sym, ap, _∙_, subst}
+use mathlib.Core.Path.{_≡_, refl, sym, ap, _∙_, subst}
 use mathlib.Core.List.{List, [], _∷_}
-use Prim.Native.Nat.{ℕ, _+_, _-_, _*_, _/_, _%_, _≤_, _<_}
-use native.Mathlib.Nat.{add-mul, mul-assoc, mul-le-mul-left, mul-le-mul-right, le-trans}
+use Prim.Native.Nat.{ℕ, _+_, _-_, _*_, _≤_, _<_}
+use native.Mathlib.Nat.{mul-assoc, mul-le-mul-left, mul-le-mul-right, le-trans}
 use native.Mathlib.Omega.{arith}
 use lib.Dec.{eqb}
 use lib.ListN.{getD, length, take, drop, length-drop}
-use lib.Seq.{getD-take, getD-drop, length-take-le}
-use Rattle.words.specs.Bits.{digit, digit-in, is-in}
+use lib.Seq.{length-take-le}
 use Rattle.words.proofs.Parts.{getD-part, row-fits}
 use Rattle.model.specs.Picture.{Picture, nblocks}
 use Rattle.model.specs.Refusal.{refusal}
 use Rattle.model.specs.Analyse.{Facts}
-use Rattle.laws.proofs.Accepted.{accepted, work-room}
+use Rattle.laws.proofs.Accepted.{Accepted, accepted, work-room}
 use Rattle.laws.proofs.Sizes.{few-blocks, few-types, regs-lent}
+use Rattle.flow.proofs.Standing.{row-as}
 use Rattle.chains.specs.Chain.{Preds}
 use Rattle.trial.specs.declared.sizes.Sizes.{Sizes}
 use Rattle.trial.specs.Work.{width, at-needed, at-regs, pred-words, Held, Lists}
+use Rattle.trial.proofs.Standing.{same-rows, flags-same, firsts-before, begun-kept}
 
 -- ---- sizes: B blocks, R registers in use, K lent
 
@@ -77,54 +78,29 @@ stamps-small {b = b} {v = v} h eb ev =
     let z = h .few in
     small (4 * b) v 16384 1024 (omega arith) (omega arith)
 
--- ---- the same words
+-- ---- what is held stays
 
-pub front-same : (k : ℕ) (xs ys : List ℕ) → take k ys ≡ take k xs → (i : ℕ) → i < k → getD ys i 0 ≡ getD xs i 0
-front-same k xs ys e i h = sym (getD-take k ys i 0 h) ∙ ap (λ (l : List ℕ). getD l i 0) e ∙ getD-take k xs i 0 h
-
-pub back-same : (k : ℕ) (xs ys : List ℕ) → drop k ys ≡ drop k xs → (i : ℕ) → k ≤ i → getD ys i 0 ≡ getD xs i 0
-back-same k xs ys e i h =
-    let z : k + (i - k) ≡ i = omega arith in
-    subst (λ (j : ℕ). getD ys j 0 ≡ getD xs j 0) z (sym (getD-drop k ys (i - k) 0) ∙ ap (λ (l : List ℕ). getD l (i - k) 0) e ∙ getD-drop k xs (i - k) 0)
-
--- the rows, and the words of registers, are the same
+-- the rows but that of registers needed, and the words of registers, are the same
 pub record Same (P : Picture) (xs ys : List ℕ) : Type 0 where
   pub rows : (i : ℕ) → i < at-needed P → getD ys i 0 ≡ getD xs i 0
+  pub firsts : (i : ℕ) → at-needed P + width (P .regs) ≤ i → i < at-regs P → getD ys i 0 ≡ getD xs i 0
   pub regs : (i : ℕ) → i < length (P .types) → getD ys (at-regs P + i) 0 ≡ getD xs (at-regs P + i) 0
 
 pub same-on : {P : Picture} {xs ys zs : List ℕ} → Same P xs ys → Same P ys zs → Same P xs zs
-same-on a b = record { rows = λ i h. b .rows i h ∙ a .rows i h; regs = λ i h. b .regs i h ∙ a .regs i h }
+same-on a b = record { rows = λ i h. b .rows i h ∙ a .rows i h; firsts = λ i h j. b .firsts i h j ∙ a .firsts i h j; regs = λ i h. b .regs i h ∙ a .regs i h }
 
-in-same : (xs ys : List ℕ) (q : ℕ) → getD ys (q / 64) 0 ≡ getD xs (q / 64) 0 → is-in ys q ≡ is-in xs q
-unfolding is-in digit-in
-in-same xs ys q e = ap (λ (v : ℕ). eqb (digit v (q % 64)) 1) e
-
-pub held-same : {P : Picture} {G : Facts} {xs ys work32 : List ℕ} → Same P xs ys → Held P G xs work32 → Held P G ys work32
-held-same {P} {G} {xs} {ys} {work32} s h =
-    let w = width (P .regs) in
-    record {
-      begun = record {
-        seen = record {
-          size = h .begun .seen .size;
-          flags = λ r l.
-              ap (λ (v : ℕ). v % 16) (getD-part ys (at-regs P) (length (P .types)) r 0 l ∙ s .regs r l ∙ sym (getD-part xs (at-regs P) (length (P .types)) r 0 l))
-              ∙ h .begun .seen .flags r l;
-        };
-        known = h .begun .known;
-        preds = h .begun .preds;
-      };
-      live = record { row = λ b r l k. in-same xs ys (64 * (b * w) + r) (s .rows ((64 * (b * w) + r) / 64) (first b r l k)) ∙ h .live .row b r l k };
-      wrote = record { row = λ b r l k. in-same xs ys (64 * ((nblocks P + b) * w) + r) (s .rows ((64 * ((nblocks P + b) * w) + r) / 64) (second b r l k)) ∙ h .wrote .row b r l k };
-    }
-  where
-    first : (b r : ℕ) → b < nblocks P → r < 64 * width (P .regs) → (64 * (b * width (P .regs)) + r) / 64 < at-needed P
-    first b r l k = let f = row-fits (width (P .regs)) l in omega arith
-
-    second : (b r : ℕ) → b < nblocks P → r < 64 * width (P .regs) → (64 * ((nblocks P + b) * width (P .regs)) + r) / 64 < at-needed P
-    second b r l k =
+pub held-same : {P : Picture} {G : Facts} {xs ys work32 : List ℕ} → Accepted P → Same P xs ys → Held P G xs work32 → Held P G ys work32
+held-same {P} {G} {xs} {ys} {work32} ok s h = record {
+  begun = begun-kept (record {
+    rows = λ b l. let f = firsts-before P ok l in same-rows xs ys l (λ i p q. s .rows i q) (λ i p q. s .firsts i p (omega arith));
+    flags = flags-same P xs ys (s .regs);
+  }) refl (h .begun);
+  live = record {
+    row = λ b r l k.
         let f = row-fits (width (P .regs)) l in
-        let g = add-mul (nblocks P) b (width (P .regs)) in
-        omega arith
+        row-as (width (P .regs)) b b xs ys (λ i u. s .rows (b * width (P .regs) + i) (omega arith)) r k ∙ h .live .row b r l k;
+  };
+}
 
 -- ---- the predecessors, as the part from word 8,000 + K on
 

@@ -1,11 +1,12 @@
--- `find_set`: what it asks of its callees, and that the marks are the greatest legal set for the target. Assumes nothing.
+-- `find_set`: what it asks of its callees, and that the marks are the greatest legal set for the target, or it has too few members.
+-- Assumes nothing.
 use mathlib.Core.Path.{_≡_, sym, ap, ap₂, _∙_, subst}
 use mathlib.Core.Bool.{false}
 use mathlib.Core.List.{List}
 use Prim.Native.Nat.{ℕ, _+_, _-_, _*_, _/_, _≤_, _<_}
 use native.Mathlib.Nat.{zero-add}
 use native.Mathlib.Omega.{arith}
-use lib.ListN.{length, take, drop, length-drop}
+use lib.ListN.{length, take, drop, replicate, length-drop}
 use lib.Seq.{length-take-le}
 use Rattle.words.specs.Bits.{is-in}
 use Rattle.words.specs.Lists.{member}
@@ -17,14 +18,15 @@ use Rattle.laws.proofs.Accepted.{accepted}
 use Rattle.flow.specs.Graph.{Graph}
 use Rattle.flow.specs.Live.{Live, Wrote}
 use Rattle.flow.proofs.Accepted.{graph-given}
-use Rattle.legalset.specs.Chain.{Safe, Told}
+use Rattle.legalset.specs.Chain.{Safe, Brief, Told}
 use Rattle.plan.specs.Passes.{Ended, Row, Lent, Around, Greatest}
 use Rattle.chains.specs.declared.chain.Chain.{Chain}
 use Rattle.trial.specs.declared.sizes.Sizes.{Sizes}
 use Rattle.trial.specs.Work.{width, at-needed, at-regs, at-stamps, copied-words, Held, Lists, Tabled}
 use Rattle.worth.specs.Needed.{Shows, Needed}
 use Rattle.trial.specs.Along.{chain-in, Along, Trying, SetFound}
-use Rattle.trial.proofs.Rooms.{room, room-of, row-before, front-same, back-same, Same, same-on, held-same}
+use Rattle.trial.proofs.Standing.{front-same, back-same, wrote-held}
+use Rattle.trial.proofs.Rooms.{room, room-of, row-before, Same, same-on, held-same}
 
 -- ---- the graph
 
@@ -72,7 +74,7 @@ row-here : {bounds recs ops pairs targets : List ℕ} {s : Sizes} {work64 work32
 row-here {bounds} {recs} {ops} {pairs} {targets} {s} {work64} {work32} {mid} {into} {other} {w} {o} {R} P G l t h d ew eo eR =
     let k : w ≡ width (P .regs) = ew ∙ ap width (l .regs-are) in
     let live : Live P w work64 = subst (λ (y : ℕ). Live P y work64) (sym k) (h .live) in
-    let wrote : Wrote P w work64 = subst (λ (y : ℕ). Wrote P y work64) (sym k) (h .wrote) in
+    let wrote : Wrote P w work64 = subst (λ (y : ℕ). Wrote P y work64) (sym k) (wrote-held h) in
     let at : o ≡ length bounds / 2 * w + length bounds / 2 * w = eo ∙ ap (λ (x : ℕ). x * w + x * w) (l .blocks-are ∙ ap (λ (bs : List ℕ). length bs / 2) (sym (l .bounds-are))) in
     let shows : Shows P bounds recs pairs targets = record { bounds-are = sym (l .bounds-are); recs-are = sym (l .recs-are); pairs-are = sym (t .pairs-are); targets-are = sym (t .targets-are) } in
     record {
@@ -91,6 +93,7 @@ same-needed {bounds} {s = s} {w64 = w64} {w32 = w32} {work64 = work64} {mid = mi
     let a = row-before (room-of P w64 w32 (l .accepted)) h in
     record {
       rows = λ i j. front-same (length bounds / 2 * w + length bounds / 2 * w) work64 mid (d .front) i (omega arith);
+      firsts = λ i u v. back-same (length bounds / 2 * w + length bounds / 2 * w + w) work64 mid (d .back) i (omega arith);
       regs = λ i j. back-same (length bounds / 2 * w + length bounds / 2 * w + w) work64 mid (d .back) (at-regs P + i) (omega arith);
     }
 
@@ -103,6 +106,7 @@ same-around {s = s} {w64 = w64} {w32 = w32} {mid = mid} {work64′ = work64′} 
     let b = r .four in
     record {
       rows = λ i j. front-same st mid work64′ (d .below) i (omega arith);
+      firsts = λ i u v. front-same st mid work64′ (d .below) i (omega arith);
       regs = λ i j. front-same st mid work64′ (d .below) (at-regs P + i) (omega arith);
     }
 
@@ -110,7 +114,7 @@ same-around {s = s} {w64 = w64} {w32 = w32} {mid = mid} {work64′ = work64′} 
 
 module _ {bounds recs ops pairs targets : List ℕ} {s : Sizes} {c : Chain} {work64 work32 : List ℕ} {into other m n : ℕ} where
   pub set-asks : {mid marks : List ℕ} {r b w v : ℕ} → Trying bounds recs ops pairs targets s c work64 work32 into other m n → r ≡ s .regs → b ≡ s .blocks → w ≡ width r → v ≡ width (s .lent)
-      → length mid ≡ length work64 → length marks ≡ 800
+      → length mid ≡ length work64 → marks ≡ replicate 800 0
       → Lent recs ops (take 8000 work32) (take (8000 + r - 8000) (drop 8000 work32)) mid marks (b * w + b * w) (4 * b * v + s .lent) m n
       × Ended recs (take 8000 work32) n (take (8000 + r - 8000) (drop 8000 work32))
   set-asks {mid} {marks} {r} {b} {w} {v} t er eb ew ev size marked =
@@ -120,6 +124,8 @@ module _ {bounds recs ops pairs targets : List ℕ} {s : Sizes} {c : Chain} {wor
       let long = regs-long work32 l er in
       let safe : Safe recs ops (take 8000 work32) n (P .regs) =
       subst (λ (x : List ℕ). Safe x ops (take 8000 work32) n (P .regs)) (sym (l .recs-are)) (subst (λ (x : List ℕ). Safe (P .recs) x (take 8000 work32) n (P .regs)) (sym (l .ops-are)) (p .along .safe)) in
+      let brief : Brief recs ops (take 8000 work32) n =
+      subst (λ (x : List ℕ). Brief x ops (take 8000 work32) n) (sym (l .recs-are)) (subst (λ (x : List ℕ). Brief (P .recs) x (take 8000 work32) n) (sym (l .ops-are)) (p .along .brief)) in
       let a = room l in
       let stamps : 4 * b * v + s .lent ≡ 4 * s .blocks * width (s .lent) + s .lent = ap₂ (λ (x y : ℕ). 4 * x * y + s .lent) eb ev in
       let rows : b * w + b * w ≡ s .blocks * width (s .regs) + s .blocks * width (s .regs) = ap₂ (λ (x y : ℕ). x * y + x * y) eb (ew ∙ ap width er) in
@@ -130,8 +136,9 @@ module _ {bounds recs ops pairs targets : List ℕ} {s : Sizes} {c : Chain} {wor
       let e = l .regs-are in (
         record {
           safe = subst (λ (k : ℕ). Safe recs ops (take 8000 work32) n k) (sym long) safe;
+          brief = brief;
           in-x = p .in-x;
-          marks-size = marked;
+          zero = marked;
           row-room = omega arith;
           room = omega arith;
         },
@@ -139,20 +146,21 @@ module _ {bounds recs ops pairs targets : List ℕ} {s : Sizes} {c : Chain} {wor
             (subst (λ (x : List ℕ). Ended (P .recs) (take 8000 work32) n x) (sym (regs-are P s work32 e er)) (p .along .ended)),
       )
 
-  pub set-found : {mid work64′ marks′ : List ℕ} {r b w v k : ℕ} → Trying bounds recs ops pairs targets s c work64 work32 into other m n → r ≡ s .regs → b ≡ s .blocks → w ≡ width r → v ≡ width (s .lent)
+  pub set-found : {mid work64′ marks′ : List ℕ} {r b w v least k : ℕ} → Trying bounds recs ops pairs targets s c work64 work32 into other m n → r ≡ s .regs → b ≡ s .blocks → w ≡ width r → v ≡ width (s .lent)
       → Needed bounds recs pairs targets w into other work64 mid
-      → Greatest recs ops (take 8000 work32) (take (8000 + r - 8000) (drop 8000 work32)) mid (b * w + b * w) marks′ m n k
+      → Greatest recs ops (take 8000 work32) (take (8000 + r - 8000) (drop 8000 work32)) mid (b * w + b * w) marks′ m n least k
       → Around (4 * b * v + s .lent) (length (take (8000 + r - 8000) (drop 8000 work32))) mid work64′
-      → SetFound bounds recs ops pairs targets s c work64 work32 into other m n work64′ marks′ k
-  set-found {mid} {work64′} {marks′} {r} {b} {w} {v} {k} t er eb ew ev d g a =
+      → SetFound bounds recs ops pairs targets s c work64 work32 least into other m n work64′ marks′ k
+  set-found {mid} {work64′} {marks′} {r} {b} {w} {v} t er eb ew ev d g a =
       record {
         size64 = a .size ∙ d .size;
         marks-size = g .size;
         held = λ P G l u h.
             let low : into < nblocks P = subst (λ (x : ℕ). into < x) (sym (t .planning .lists .blocks-are) ∙ l .blocks-are) (t .planning .into-block) in
-            held-same (same-on (same-needed P l low d wide) (same-around P l a stamps)) h;
-        set = λ P G l u h z p. g .set (run-of P G (chain-in c)) (member (needed-of P into other)) (told P G l z) (row P G l u h) p;
-        count = λ P G l u h z. g .count (run-of P G (chain-in c)) (member (needed-of P into other)) (told P G l z) (row P G l u h);
+            held-same (accepted P (length work64) (length work32) (l .accepted)) (same-on (same-needed P l low d wide) (same-around P l a stamps)) h;
+        set = λ y P G l u h z. g .set y (run-of P G (chain-in c)) (member (needed-of P into other)) (told P G l z) (row P G l u h);
+        few = λ y P G l u h z. g .few y (run-of P G (chain-in c)) (member (needed-of P into other)) (told P G l z) (row P G l u h);
+        count = λ y P G l u h z. g .count y (run-of P G (chain-in c)) (member (needed-of P into other)) (told P G l z) (row P G l u h);
       }
     where
       wide : w ≡ width (s .regs)

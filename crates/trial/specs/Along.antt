@@ -15,7 +15,7 @@ use Rattle.pool.specs.Pool.{last-at, wrote-at}
 use Rattle.apply.specs.Apply.{Stands}
 use Rattle.chains.specs.declared.chain.Chain.{Chain}
 use Rattle.chains.specs.Chain.{blocks-of, last-of, Sound}
-use Rattle.legalset.specs.Chain.{cell, Safe, Told}
+use Rattle.legalset.specs.Chain.{cell, Safe, Brief, Told}
 use Rattle.legalset.specs.Marks.{in-set}
 use Rattle.plan.specs.Passes.{Ended}
 use Rattle.trial.specs.declared.sizes.Sizes.{Sizes}
@@ -33,6 +33,7 @@ pub record Along (P : Picture) (G : Facts) (c : Chain) (work32 : List ℕ) (n : 
   pub told : Told (P .recs) (P .ops) (chain-words work32) (copied-words P work32) n (run-of P G (chain-in c))
   pub ended : Ended (P .recs) (chain-words work32) n (copied-words P work32)
   pub safe : Safe (P .recs) (P .ops) (chain-words work32) n (P .regs)
+  pub brief : Brief (P .recs) (P .ops) (chain-words work32) n
   pub written : (p : ℕ) → p < n → cell (chain-words work32) p 6 ≡ getD (fact-at (run-of P G (chain-in c)) p .defs) 0 absent
 
 -- chain c is one of blocks, and short enough
@@ -100,14 +101,16 @@ pub record Trying (bounds recs ops pairs targets : List ℕ) (s : Sizes) (c : Ch
   pub tabled : Tabled (planning .P) pairs targets
   pub other-block : other < nblocks (planning .P)
 
--- the marks are the greatest legal set for the target, of r members
-pub record SetFound (bounds recs ops pairs targets : List ℕ) (s : Sizes) (c : Chain) (work64 work32 : List ℕ) (into other m n : ℕ) (work64′ marks′ : List ℕ) (r : ℕ) : Type 0 where
+-- the marks are the greatest legal set for the target, of r members; or that has fewer than `least`, as has what is marked
+pub record SetFound (bounds recs ops pairs targets : List ℕ) (s : Sizes) (c : Chain) (work64 work32 : List ℕ) (least into other m n : ℕ) (work64′ marks′ : List ℕ) (r : ℕ) : Type 0 where
   pub size64 : length work64′ ≡ length work64
   pub marks-size : length marks′ ≡ 800
   pub held : (P : Picture) (G : Facts) → Lists P bounds recs ops s (length work64) (length work32) → Tabled P pairs targets → Held P G work64 work32 → Held P G work64′ work32
-  pub set : (P : Picture) (G : Facts) → Lists P bounds recs ops s (length work64) (length work32) → Tabled P pairs targets → Held P G work64 work32
+  pub set : least ≤ r → (P : Picture) (G : Facts) → Lists P bounds recs ops s (length work64) (length work32) → Tabled P pairs targets → Held P G work64 work32
       → Along P G c work32 n → (p : ℕ) → in-set marks′ p ≡ member (greatest (run-of P G (chain-in c)) (member (needed-of P into other)) m) p
-  pub count : (P : Picture) (G : Facts) → Lists P bounds recs ops s (length work64) (length work32) → Tabled P pairs targets → Held P G work64 work32
+  pub few : r < least → (P : Picture) (G : Facts) → Lists P bounds recs ops s (length work64) (length work32) → Tabled P pairs targets → Held P G work64 work32
+      → Along P G c work32 n → count (greatest (run-of P G (chain-in c)) (member (needed-of P into other)) m) < least
+  pub count : least ≤ r → (P : Picture) (G : Facts) → Lists P bounds recs ops s (length work64) (length work32) → Tabled P pairs targets → Held P G work64 work32
       → Along P G c work32 n → r ≡ count (greatest (run-of P G (chain-in c)) (member (needed-of P into other)) m)
 
 -- r members move, or none

@@ -6,7 +6,7 @@ use mathlib.Core.List.{List}
 use Prim.Native.Nat.{ℕ, _+_, _*_, _≤_, _<_}
 use lib.ListN.{getD, length, take, drop, set}
 use Rattle.words.specs.Lists.{all}
-use Rattle.legalset.specs.Chain.{defs-of, Safe}
+use Rattle.legalset.specs.Chain.{defs-of, Safe, Brief}
 use Rattle.plan.specs.Passes.{result-test}
 use Rattle.trial.specs.Work.{chain-words}
 
@@ -54,5 +54,6 @@ pub record Put (recs marks lasts bits before after : List ℕ) (r o n p : ℕ) :
 -- r words of the 64-bit slice from s on are free to use for the last readers among n positions
 pub record ReadersAsked (recs ops work64 work32 : List ℕ) (s r n : ℕ) : Type 0 where
   pub safe : Safe recs ops (chain-words work32) n r
+  pub brief : Brief recs ops (chain-words work32) n
   pub chain : 8000 ≤ length work32
   pub room : s + r ≤ length work64

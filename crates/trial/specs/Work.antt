@@ -2,12 +2,12 @@
 -- there. Assumes nothing.
 use mathlib.Core.Path.{_≡_}
 use mathlib.Core.List.{List}
-use Prim.Native.Nat.{ℕ, _+_, _*_, _/_, _≤_}
+use Prim.Native.Nat.{ℕ, _+_, _*_, _/_, _≤_, _<_}
 use lib.ListN.{length, take, drop}
 use Rattle.model.specs.Picture.{Picture, nblocks}
 use Rattle.model.specs.Refusal.{refusal}
 use Rattle.model.specs.Analyse.{Facts}
-use Rattle.flow.specs.Live.{Live, Wrote}
+use Rattle.flow.specs.Live.{Live, Rows}
 use Rattle.chains.specs.Chain.{Preds}
 use Rattle.analyse.specs.Flags.{Seen}
 use Rattle.trial.specs.declared.sizes.Sizes.{Sizes}
@@ -18,8 +18,8 @@ width n = (n + 63) / 64
 
 -- ---- where the parts lie
 
--- 64-bit: live-in and writes of each block, a row each; the row of registers needed elsewhere; from at-regs on a word a register lent
--- (facts and last writer), then another (stamps, or new names)
+-- 64-bit: live-in and writes of each block, a row each; the row of registers needed elsewhere; what each block reads first, a row each;
+-- from at-regs on a word a register lent (facts and last writer), then another (stamps, or new names)
 abbrev pub at-needed : Picture → ℕ
 at-needed P = nblocks P * width (P .regs) + nblocks P * width (P .regs)
 
@@ -44,17 +44,17 @@ pred-words P work32 = take (2 * nblocks P) (drop (8000 + length (P .types)) work
 
 -- ---- what stands there
 
--- from the start of the call on: the facts on registers, and the predecessors
+-- from the start of the call on: the facts on registers, the predecessors, and of each block what it reads first and what it writes
 pub record Begun (P : Picture) (G : Facts) (work64 work32 : List ℕ) : Type 0 where
   pub seen : Seen G (length (P .types)) (reg-words P work64)
   pub known : length G ≤ P .regs
   pub preds : Preds P (pred-words P work32) (nblocks P)
+  pub rows : (b : ℕ) → b < nblocks P → Rows P (width (P .regs)) b work64
 
--- in a round as well: live-in, and what each block writes
+-- in a round as well: live-in
 pub record Held (P : Picture) (G : Facts) (work64 work32 : List ℕ) : Type 0 where
   pub begun : Begun P G work64 work32
   pub live : Live P (width (P .regs)) work64
-  pub wrote : Wrote P (width (P .regs)) work64
 
 -- ---- the picture that is lent
 

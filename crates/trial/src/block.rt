@@ -33,7 +33,7 @@ pub enum MaybeMove {
 
 // The move from block x along chain c, into t or else into f, of at least `least` members. The chain has n positions, m of them in x.
 fn try_targets<'a>(
-    t: &[u32; 101],
+    t: &[u32; 202],
     bounds: &[u32],
     recs: &'a [u32],
     ops: &[u32],
@@ -110,7 +110,7 @@ fn try_targets<'a>(
 
 // The move from block x along chain c.
 fn try_chain<'a>(
-    t: &[u32; 101],
+    t: &[u32; 202],
     bounds: &[u32],
     recs: &'a [u32],
     ops: &[u32],
@@ -154,7 +154,7 @@ fn try_chain<'a>(
 
 // The move from block x.
 pub fn try_block<'a>(
-    t: &[u32; 101],
+    t: &[u32; 202],
     bounds: &[u32],
     recs: &'a [u32],
     ops: &[u32],

@@ -26,7 +26,7 @@ fn copy_regs(work64: &[u64], work32: &mut [u32], a: usize, r: usize)
 
 // The facts of chain c. The answer is the number of its positions.
 pub fn learn(
-    t: &[u32; 101],
+    t: &[u32; 202],
     bounds: &[u32],
     recs: &[u32],
     ops: &[u32],

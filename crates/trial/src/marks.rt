@@ -18,21 +18,20 @@ ghost use Rattle.trial.specs.Puts.{Own, use-of, UseAsked, put-words, Put
 ghost use Rattle.trial.specs.Along.{Planning, PutPlan};
 
 // Each position itself.
-fn own_places() -> [u32; 800]
-    ensures { λ ls. ⌜ Own ls ⌝ }
+fn own_places(lasts: &mut [u32; 800])
+    requires { ⌜ length (now lasts) ≡ 800 ⌝ }
+    ensures { λ _. ⌜ Own (now (lasts .exit)) ⌝ }
 {
-    let mut lasts = [0u32; 800];
     let mut p = 0usize;
     while p < 800 {
         lasts[p] = p as u32;
         p += 1;
     }
-    lasts
 }
 
 // The last use of position p; row o is what is live into the target.
 fn find_use(
-    t: &[u32; 101],
+    t: &[u32; 202],
     recs: &[u32],
     ops: &[u32],
     work64: &[u64],
@@ -73,37 +72,29 @@ fn put_use(work32: &mut [u32], p: usize, mark: u32, last: u32)
     work32[b + 8] = d;
 }
 
-// Each position's last reader in the chain; r words from st on are written.
+// Each position's last reader in the chain, into `lasts`; r words from st on are written.
 fn find_readers(
-    t: &[u32; 101],
+    t: &[u32; 202],
     recs: &[u32],
     ops: &[u32],
     work64: &mut [u64],
     work32: &[u32],
+    lasts: &mut [u32; 800],
     st: usize,
     r: usize,
     n: usize,
-) -> [u32; 800]
-    requires { ⌜ (now t ≡ rows) × ReadersAsked (now recs) (now ops) (now work64) (now work32) st r n ⌝ }
-    ensures { λ ls. ⌜ Readers (defs-of (now (recs .entry)) (chain-words (now (work32 .entry)))) (reads-of (now (recs .entry)) (now (ops .entry)) (chain-words (now (work32 .entry)))) n ls × Around st r (now (work64 .entry)) (now (work64 .exit)) ⌝ }
+)
+    requires { ⌜ (now t ≡ rows) × ReadersAsked (now recs) (now ops) (now work64) (now work32) st r n × (length (now lasts) ≡ 800) ⌝ }
+    ensures { λ _. ⌜ Readers (defs-of (now (recs .entry)) (chain-words (now (work32 .entry)))) (reads-of (now (recs .entry)) (now (ops .entry)) (chain-words (now (work32 .entry)))) n (now (lasts .exit)) × Around st r (now (work64 .entry)) (now (work64 .exit)) ⌝ }
 {
     let e = st + r;
-    let mut lasts = own_places();
-    last_readers(
-        t,
-        recs,
-        ops,
-        &work32[..8000],
-        &mut work64[st..e],
-        &mut lasts,
-        n,
-    );
-    lasts
+    own_places(lasts);
+    last_readers(t, recs, ops, &work32[..8000], &mut work64[st..e], lasts, n);
 }
 
 // The words of the first m positions.
 fn put_uses(
-    t: &[u32; 101],
+    t: &[u32; 202],
     recs: &[u32],
     ops: &[u32],
     work64: &[u64],
@@ -128,7 +119,7 @@ fn put_uses(
 
 // The words of the m positions in x, for target `into`.
 pub fn put_plan(
-    t: &[u32; 101],
+    t: &[u32; 202],
     bounds: &[u32],
     recs: &[u32],
     ops: &[u32],
@@ -146,7 +137,8 @@ pub fn put_plan(
 {
     let r = wide(s.regs);
     let st = at_regs(s) + s.lent;
-    let lasts = find_readers(t, recs, ops, work64, work32, st, r, n);
+    let mut lasts = [0u32; 800];
+    find_readers(t, recs, ops, work64, work32, &mut lasts, st, r, n);
     let o = into * width(r);
     put_uses(t, recs, ops, work64, work32, marks, &lasts, r, o, m, n);
 }

@@ -10,13 +10,14 @@ use plan::set::legal_set;
 use worth::needed::put_needed;
 ghost use mathlib.Core.Path.{_≡_};
 ghost use Prim.Native.Nat.{_+_, _*_, _≤_, _<_};
-ghost use lib.ListN.{length};
+ghost use lib.ListN.{length, replicate};
 ghost use Rattle.inst.specs.Table.{rows};
 ghost use Rattle.trial.specs.Along.{Trying, SetFound, PlanTried};
 
-// The greatest legal set for target `into`, as marks. Says how many members it has.
+// The greatest legal set for target `into`, as marks, all 0 before, unless it has fewer members than `least`. Says how many are
+// marked.
 fn find_set<'a>(
-    t: &[u32; 101],
+    t: &[u32; 202],
     bounds: &[u32],
     recs: &'a [u32],
     ops: &[u32],
@@ -26,14 +27,15 @@ fn find_set<'a>(
     work32: &[u32],
     marks: &mut [u32; 800],
     s: Sizes,
+    least: u32,
     into: usize,
     other: usize,
     m: usize,
     n: usize,
     c: Chain,
 ) -> u32
-    requires { ⌜ (now t ≡ rows) × Trying (now bounds) (now recs) (now ops) (now pairs) (now targets) s c (now work64) (now work32) into other m n × (length (now marks) ≡ 800) ⌝ }
-    ensures { λ r. ⌜ SetFound (now (bounds .entry)) (now (recs .entry)) (now (ops .entry)) (now (pairs .entry)) (now (targets .entry)) s c (now (work64 .entry)) (now (work32 .entry)) into other m n (now (work64 .exit)) (now (marks .exit)) r ⌝ }
+    requires { ⌜ (now t ≡ rows) × Trying (now bounds) (now recs) (now ops) (now pairs) (now targets) s c (now work64) (now work32) into other m n × (now marks ≡ replicate 800 0) ⌝ }
+    ensures { λ r. ⌜ SetFound (now (bounds .entry)) (now (recs .entry)) (now (ops .entry)) (now (pairs .entry)) (now (targets .entry)) s c (now (work64 .entry)) (now (work32 .entry)) least into other m n (now (work64 .exit)) (now (marks .exit)) r ⌝ }
 {
     let r = wide(s.regs);
     let b = wide(s.blocks);
@@ -53,13 +55,14 @@ fn find_set<'a>(
         marks,
         m,
         n,
+        least,
     )
 }
 
 // How many members move into `into`, `other` being the other branch; 0 where that is no target or there are too few. The chain's
 // words then say which, with their last uses and the registers they write.
 pub fn plan<'a>(
-    t: &[u32; 101],
+    t: &[u32; 202],
     bounds: &[u32],
     recs: &'a [u32],
     ops: &[u32],
@@ -94,6 +97,7 @@ pub fn plan<'a>(
         work32,
         &mut marks,
         s,
+        least,
         into.at(),
         other.at(),
         m,

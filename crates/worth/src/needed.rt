@@ -44,7 +44,7 @@ fn put_row(work: &mut [u64], list: &[u32], n: usize, w: usize, into: usize, othe
 
 // The row of w words behind the 2 n rows: the registers needed elsewhere than in block `into`, if `other` is the other branch.
 pub fn put_needed<'a>(
-    t: &[u32; 101],
+    t: &[u32; 202],
     bounds: &[u32],
     recs: &'a [u32],
     pairs: &[u32],

@@ -4,7 +4,8 @@ use mathlib.Core.List.{[]}
 use lib.ListN.{length}
 use Rattle.picture.specs.Causes.{picture-of}
 use Rattle.laws.proofs.Accepted.{accepted}
-use Rattle.probe.proofs.Given.{none, graph, preds-of, words-room}
+use Rattle.flow.proofs.Accepted.{graph-given}
+use Rattle.probe.proofs.Given.{none, preds-of, words-room}
 use borrow.Author.Needs.{needs}
 use Rattle.probe.proofs.virdzeba_preds.Statement.{statement}
 use Rattle.probe.proofs.virdzeba_preds.Tie as tie
@@ -23,7 +24,7 @@ find-preds-requires c κs =
     let a = c .before .before .before .before .before .before .before .before .before .before .before .before .before .before .before .args in
     let P = picture-of (a .bounds .now) (a .recs .now) (a .locs .now) (a .vias .now) (a .types .now) (a .registers) (a .ops .now) (a .operands) (a .pairs .now) (a .targets .now) [] in
     let z = none P (a .w64) (length (a .words .now)) (c .before .before .before .refusal .ensures) (c .before .before .if1 .left) in
-    (c .before .before .before .before .before .table .ensures, graph P (accepted P (a .w64) (length (a .words .now)) z), words-room P (a .w64) (length (a .words .now)) z)
+    (c .before .before .before .before .before .table .ensures, graph-given P (accepted P (a .w64) (length (a .words .now)) z), words-room P (a .w64) (length (a .words .now)) z)
 
 same-length : tie.Need-same-length
 same-length c = search needs
@@ -33,7 +34,7 @@ returns-2 c =
     let a = c .before .before .before .before .before .before .before .before .before .before .before .before .before .before .before .before .before .before .args in
     let P = picture-of (a .bounds .now) (a .recs .now) (a .locs .now) (a .vias .now) (a .types .now) (a .registers) (a .ops .now) (a .operands) (a .pairs .now) (a .targets .now) [] in
     let z = none P (a .w64) (length (a .words .now)) (c .before .before .before .before .before .before .refusal .ensures) (c .before .before .before .before .before .if1 .left) in
-    (sym z, ((λ n. absurd (n refl)), λ e. preds-of P (accepted P (a .w64) (length (a .words .now)) z) _ (c .before .before .find-preds .ensures)))
+    (sym z, ((λ n. absurd (n refl)), λ e. preds-of P _ (c .before .before .find-preds .ensures)))
 
 pub virdzeba-preds-spec : {M : Type 1} → statement M
 virdzeba-preds-spec =

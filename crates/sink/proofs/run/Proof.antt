@@ -6,12 +6,12 @@ use Rattle.sink.proofs.run.Statement.{statement}
 use Rattle.sink.proofs.run.Tie as tie
 
 begin-requires : tie.Need-begin-requires
-begin-requires c κs = let g = c .before .before .before .before .before .before .before .before .before .before .before .before .before .before .before .args in let P = picture-of (g .bounds .now) (g .recs .now) (g .locs .now) (g .vias .now) (g .types .now) (g .regs) (g .ops .now) (g .opers) (g .pairs .now) (g .targets .now) (g .replay .now) in
-    (c .before .before .before .before .before .before .before .before .before .before .before .before .before .before .before .pre .0, beginning P (g .work64 .now) (g .work32 .now) (c .before .before .before .before .before .before .before .before .before .before .before .before .before .before .before .pre .1))
+begin-requires c κs = let g = c .before .before .before .before .before .before .before .before .before .before .before .before .before .before .before .before .args in let P = picture-of (g .bounds .now) (g .recs .now) (g .locs .now) (g .vias .now) (g .types .now) (g .regs) (g .ops .now) (g .opers) (g .pairs .now) (g .targets .now) (g .replay .now) in
+    (c .before .before .before .before .before .before .before .before .before .before .before .before .before .before .before .before .pre .0, beginning P (g .work64 .now) (g .work32 .now) (c .before .before .before .before .before .before .before .before .before .before .before .before .before .before .before .before .pre .1))
 
 rounds-requires : tie.Need-rounds-requires
-rounds-requires c κs = let g = c .before .before .before .before .before .before .before .before .before .before .before .before .before .before .before .before .before .before .before .before .before .before .before .before .before .before .before .before .args in let P = picture-of (g .bounds .now) (g .recs .now) (g .locs .now) (g .vias .now) (g .types .now) (g .regs) (g .ops .now) (g .opers) (g .pairs .now) (g .targets .now) (g .replay .now) in
-    (c .before .before .before .before .before .before .before .before .before .before .before .before .before .before .before .before .before .before .before .before .before .before .before .before .before .before .before .before .pre .0, ready P (g .work64 .now) (g .work32 .now) (c .before .before .before .before .before .before .before .before .before .before .before .before .before .before .before .before .before .before .before .before .before .before .before .before .before .before .before .before .pre .1) (c .before .before .before .before .before .before .before .before .before .before .before .before .begin .ensures))
+rounds-requires c κs = let g = c .before .before .before .before .before .before .before .before .before .before .before .before .before .before .before .before .before .before .before .before .before .before .before .before .before .before .before .before .before .args in let P = picture-of (g .bounds .now) (g .recs .now) (g .locs .now) (g .vias .now) (g .types .now) (g .regs) (g .ops .now) (g .opers) (g .pairs .now) (g .targets .now) (g .replay .now) in
+    (c .before .before .before .before .before .before .before .before .before .before .before .before .before .before .before .before .before .before .before .before .before .before .before .before .before .before .before .before .before .pre .0, ready P (g .work64 .now) (g .work32 .now) (c .before .before .before .before .before .before .before .before .before .before .before .before .before .before .before .before .before .before .before .before .before .before .before .before .before .before .before .before .before .pre .1) (c .before .before .before .before .before .before .before .before .before .before .before .before .begin .ensures))
 
 same-length : tie.Need-same-length
 same-length c = search needs
@@ -38,8 +38,8 @@ same-length-8 : tie.Need-same-length-8
 same-length-8 c = search needs
 
 returns : tie.Need-returns
-returns c = let g = c .before .before .before .before .before .before .before .before .before .before .before .before .before .before .before .before .before .before .before .before .before .before .before .before .before .before .before .before .before .before .before .before .before .before .before .before .before .before .before .before .before .before .before .before .before .args in let P = picture-of (g .bounds .now) (g .recs .now) (g .locs .now) (g .vias .now) (g .types .now) (g .regs) (g .ops .now) (g .opers) (g .pairs .now) (g .targets .now) (g .replay .now) in
-    ran P (g .work64 .now) (g .work32 .now) (c .before .before .before .before .before .before .before .before .before .before .before .before .before .before .before .before .before .before .before .before .before .before .before .before .before .before .before .before .before .before .before .before .before .before .before .before .before .before .before .before .before .before .before .before .before .pre .1) (c .before .before .before .before .before .before .before .before .before .before .before .before .before .before .before .before .before .before .before .before .before .before .before .before .before .before .before .before .before .begin .ensures) (c .before .before .before .before .before .before .before .before .before .before .before .before .before .before .before .before .rounds .ensures)
+returns c = let g = c .before .before .before .before .before .before .before .before .before .before .before .before .before .before .before .before .before .before .before .before .before .before .before .before .before .before .before .before .before .before .before .before .before .before .before .before .before .before .before .before .before .before .before .before .before .before .args in let P = picture-of (g .bounds .now) (g .recs .now) (g .locs .now) (g .vias .now) (g .types .now) (g .regs) (g .ops .now) (g .opers) (g .pairs .now) (g .targets .now) (g .replay .now) in
+    ran P (g .work64 .now) (g .work32 .now) (c .before .before .before .before .before .before .before .before .before .before .before .before .before .before .before .before .before .before .before .before .before .before .before .before .before .before .before .before .before .before .before .before .before .before .before .before .before .before .before .before .before .before .before .before .before .before .pre .1) (c .before .before .before .before .before .before .before .before .before .before .before .before .before .before .before .before .before .before .before .before .before .before .before .before .before .before .before .before .before .begin .ensures) (c .before .before .before .before .before .before .before .before .before .before .before .before .before .before .before .before .rounds .ensures)
 
 pub run-spec : {M : Type 1} → statement M
 run-spec =

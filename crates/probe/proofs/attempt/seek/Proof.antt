@@ -22,10 +22,10 @@ width-requires : tie.Need-width-requires
 width-requires c κs = let a = c .before .before .before .before .before .before .before .before .before .before .before .before .before .before .before .before .before .before .before .args in let h = regs-few (looking (picture-of (a .bounds .now) (a .recs .now) (a .locs .now) (a .vias .now) (a .types .now) (a .registers) (a .ops .now) (a .operands) (a .pairs .now) (a .targets .now) (a .replay .now)) (a .work64 .now) (a .work32 .now) (c .before .before .before .before .before .before .before .before .before .before .before .before .before .before .before .before .before .before .before .pre .1) (c .before .before .before .before .before .begin .ensures)) in omega (arith, h, c .wide .ensures)
 
 live-in-requires : tie.Need-live-in-requires
-live-in-requires c κs = let a = c .before .before .before .before .before .before .before .before .before .before .before .before .before .before .before .before .before .before .before .before .before .args in let z = live-ask (looking (picture-of (a .bounds .now) (a .recs .now) (a .locs .now) (a .vias .now) (a .types .now) (a .registers) (a .ops .now) (a .operands) (a .pairs .now) (a .targets .now) (a .replay .now)) (a .work64 .now) (a .work32 .now) (c .before .before .before .before .before .before .before .before .before .before .before .before .before .before .before .before .before .before .before .before .before .pre .1) (c .before .before .before .before .before .before .before .begin .ensures)) _ _ (c .before .before .wide .ensures) (c .before .width .ensures) in (c .before .before .before .before .before .before .before .before .before .before .before .before .before .before .before .before .before .before .before .before .before .pre .0, z .0, z .1, z .2, z .3)
+live-in-requires c κs = let a = c .before .before .before .before .before .before .before .before .before .before .before .before .before .before .before .before .before .before .before .before .before .args in let z = live-ask (looking (picture-of (a .bounds .now) (a .recs .now) (a .locs .now) (a .vias .now) (a .types .now) (a .registers) (a .ops .now) (a .operands) (a .pairs .now) (a .targets .now) (a .replay .now)) (a .work64 .now) (a .work32 .now) (c .before .before .before .before .before .before .before .before .before .before .before .before .before .before .before .before .before .before .before .before .before .pre .1) (c .before .before .before .before .before .before .before .begin .ensures)) _ _ (c .before .before .wide .ensures) (c .before .width .ensures) in (c .before .before .before .before .before .before .before .before .before .before .before .before .before .before .before .before .before .before .before .before .before .pre .0, z .0, z .1, z .2)
 
 try-block-requires : tie.Need-try-block-requires
-try-block-requires c κs = let a = c .before .before .before .before .before .before .before .before .before .before .before .before .before .before .before .before .before .before .before .before .before .before .before .before .before .before .args in (c .before .before .before .before .before .before .before .before .before .before .before .before .before .before .before .before .before .before .before .before .before .before .before .before .before .before .pre .0, given-anew (c .before .before .before .before .before .before .before .wide .ensures) (c .before .before .before .before .before .before .width .ensures) (record { size = c .before .before .before .work642 .given; live = c .before .before .before .before .live-in .ensures .0; behind = c .before .before .before .before .live-in .ensures .1 .0; wrote = c .before .before .before .before .live-in .ensures .1 .1 }) (looking (picture-of (a .bounds .now) (a .recs .now) (a .locs .now) (a .vias .now) (a .types .now) (a .registers) (a .ops .now) (a .operands) (a .pairs .now) (a .targets .now) (a .replay .now)) (a .work64 .now) (a .work32 .now) (c .before .before .before .before .before .before .before .before .before .before .before .before .before .before .before .before .before .before .before .before .before .before .before .before .before .before .pre .1) (c .before .before .before .before .before .before .before .before .before .before .before .before .begin .ensures)), c .before .before .before .before .before .before .before .before .before .before .before .before .before .before .before .before .before .before .before .before .before .before .before .before .before .before .pre .2)
+try-block-requires c κs = let a = c .before .before .before .before .before .before .before .before .before .before .before .before .before .before .before .before .before .before .before .before .before .before .before .before .before .before .args in (c .before .before .before .before .before .before .before .before .before .before .before .before .before .before .before .before .before .before .before .before .before .before .before .before .before .before .pre .0, given-anew (c .before .before .before .before .before .before .before .wide .ensures) (c .before .before .before .before .before .before .width .ensures) (record { size = c .before .before .before .work642 .given; live = c .before .before .before .before .live-in .ensures .0; behind = c .before .before .before .before .live-in .ensures .1 }) (looking (picture-of (a .bounds .now) (a .recs .now) (a .locs .now) (a .vias .now) (a .types .now) (a .registers) (a .ops .now) (a .operands) (a .pairs .now) (a .targets .now) (a .replay .now)) (a .work64 .now) (a .work32 .now) (c .before .before .before .before .before .before .before .before .before .before .before .before .before .before .before .before .before .before .before .before .before .before .before .before .before .before .pre .1) (c .before .before .before .before .before .before .before .before .before .before .before .before .begin .ensures)), c .before .before .before .before .before .before .before .before .before .before .before .before .before .before .before .before .before .before .before .before .before .before .before .before .before .before .pre .2)
 
 same-length : tie.Need-same-length
 same-length c = c .before .before .before .before .try-block .ensures .size64 ∙ c .before .before .before .before .before .before .before .before .work642 .given ∙ c .before .before .before .before .before .before .before .before .before .before .before .before .before .before .before .before .work64 .given
@@ -34,7 +34,7 @@ same-length-2 : tie.Need-same-length-2
 same-length-2 c = c .before .before .before .before .try-block .ensures .size32 ∙ c .before .before .before .before .before .before .before .before .before .before .before .before .before .before .work32 .given
 
 returns : tie.Need-returns
-returns c = let a = c .before .before .before .before .before .before .before .before .before .before .before .before .before .before .before .before .before .before .before .before .before .before .before .before .before .before .before .before .before .before .before .args in sought (picture-of (a .bounds .now) (a .recs .now) (a .locs .now) (a .vias .now) (a .types .now) (a .registers) (a .ops .now) (a .operands) (a .pairs .now) (a .targets .now) (a .replay .now)) (a .work64 .now) (a .work32 .now) (c .before .before .before .before .before .before .before .before .before .before .before .before .before .before .before .before .before .before .before .before .before .before .before .before .before .before .before .before .before .before .before .pre .1) (c .before .before .before .before .before .before .before .before .before .before .before .before .before .before .before .before .before .begin .ensures) (c .before .before .before .before .before .before .before .before .before .before .before .before .wide .ensures) (c .before .before .before .before .before .before .before .before .before .before .before .width .ensures) (record { size = c .before .before .before .before .before .before .before .before .work642 .given; live = c .before .before .before .before .before .before .before .before .before .live-in .ensures .0; behind = c .before .before .before .before .before .before .before .before .before .live-in .ensures .1 .0; wrote = c .before .before .before .before .before .before .before .before .before .live-in .ensures .1 .1 }) (c .before .before .before .before .try-block .ensures)
+returns c = let a = c .before .before .before .before .before .before .before .before .before .before .before .before .before .before .before .before .before .before .before .before .before .before .before .before .before .before .before .before .before .before .before .args in sought (picture-of (a .bounds .now) (a .recs .now) (a .locs .now) (a .vias .now) (a .types .now) (a .registers) (a .ops .now) (a .operands) (a .pairs .now) (a .targets .now) (a .replay .now)) (a .work64 .now) (a .work32 .now) (c .before .before .before .before .before .before .before .before .before .before .before .before .before .before .before .before .before .before .before .before .before .before .before .before .before .before .before .before .before .before .before .pre .1) (c .before .before .before .before .before .before .before .before .before .before .before .before .before .before .before .before .before .begin .ensures) (c .before .before .before .before .before .before .before .before .before .before .before .before .wide .ensures) (c .before .before .before .before .before .before .before .before .before .before .before .width .ensures) (record { size = c .before .before .before .before .before .before .before .before .work642 .given; live = c .before .before .before .before .before .before .before .before .before .live-in .ensures .0; behind = c .before .before .before .before .before .before .before .before .before .live-in .ensures .1 }) (c .before .before .before .before .try-block .ensures)
 
 pub seek-spec : {M : Type 1} → statement M
 seek-spec =

@@ -13,10 +13,10 @@ width-requires : tie.Need-width-requires
 width-requires c κs = omega (arith, c .wide .ensures, regs-few (c .before .before .before .before .before .before .before .before .before .before .pre .1))
 
 live-in-requires : tie.Need-live-in-requires
-live-in-requires c κs = let z = live-ask (c .before .before .before .before .before .before .before .before .before .before .before .pre .1) _ _ (c .before .wide .ensures) (c .width .ensures) in (c .before .before .before .before .before .before .before .before .before .before .before .pre .0, z .0, z .1, z .2, z .3)
+live-in-requires c κs = let z = live-ask (c .before .before .before .before .before .before .before .before .before .before .before .pre .1) _ _ (c .before .wide .ensures) (c .width .ensures) in (c .before .before .before .before .before .before .before .before .before .before .before .pre .0, z .0, z .1, z .2)
 
 first-plan-requires : tie.Need-first-plan-requires
-first-plan-requires c κs = (c .before .before .before .before .before .before .before .before .before .before .before .before .before .before .before .before .pre .0, given-anew (c .before .before .before .before .before .before .wide .ensures) (c .before .before .before .before .before .width .ensures) (record { size = c .before .before .before .work64 .given; live = c .before .before .before .before .live-in .ensures .0; behind = c .before .before .before .before .live-in .ensures .1 .0; wrote = c .before .before .before .before .live-in .ensures .1 .1 }) (c .before .before .before .before .before .before .before .before .before .before .before .before .before .before .before .before .pre .1))
+first-plan-requires c κs = (c .before .before .before .before .before .before .before .before .before .before .before .before .before .before .before .before .pre .0, given-anew (c .before .before .before .before .before .before .wide .ensures) (c .before .before .before .before .before .width .ensures) (record { size = c .before .before .before .work64 .given; live = c .before .before .before .before .live-in .ensures .0; behind = c .before .before .before .before .live-in .ensures .1 }) (c .before .before .before .before .before .before .before .before .before .before .before .before .before .before .before .before .pre .1))
 
 same-length : tie.Need-same-length
 same-length c = c .before .before .before .before .first-plan .ensures .size64 ∙ c .before .before .before .before .before .before .before .before .work64 .given
@@ -25,7 +25,7 @@ same-length-2 : tie.Need-same-length-2
 same-length-2 c = c .before .before .before .before .first-plan .ensures .size32
 
 returns : tie.Need-returns
-returns c = searched (c .before .before .before .before .before .before .before .before .before .before .before .wide .ensures) (c .before .before .before .before .before .before .before .before .before .before .width .ensures) (record { size = c .before .before .before .before .before .before .before .before .work64 .given; live = c .before .before .before .before .before .before .before .before .before .live-in .ensures .0; behind = c .before .before .before .before .before .before .before .before .before .live-in .ensures .1 .0; wrote = c .before .before .before .before .before .before .before .before .before .live-in .ensures .1 .1 }) (c .before .before .before .before .first-plan .ensures)
+returns c = searched (c .before .before .before .before .before .before .before .before .before .before .before .wide .ensures) (c .before .before .before .before .before .before .before .before .before .before .width .ensures) (record { size = c .before .before .before .before .before .before .before .before .work64 .given; live = c .before .before .before .before .before .before .before .before .before .live-in .ensures .0; behind = c .before .before .before .before .before .before .before .before .before .live-in .ensures .1 }) (c .before .before .before .before .first-plan .ensures)
 
 pub find-move-spec : {M : Type 1} → statement M
 find-move-spec =

@@ -11,10 +11,10 @@ wide-requires : tie.Need-wide-requires
 wide-requires c κs = search needs
 
 at-regs-requires : tie.Need-at-regs-requires
-at-regs-requires c κs = let f = fits (c .before .before .before .before .before .before .pre .1) in (f .blocks, f .lent)
+at-regs-requires c κs = let f = fits (c .before .before .before .before .before .before .pre .1) in (f .blocks, f .few)
 
 add-e : tie.Need-add-e
-add-e c = let f = fits (c .before .before .before .before .before .before .before .pre .1) in omega (arith, f .lent, c .at-regs .ensures .1)
+add-e c = let f = fits (c .before .before .before .before .before .before .before .pre .1) in omega (arith, f .few, c .at-regs .ensures .1)
 
 mul-analyse : tie.Need-mul-analyse
 mul-analyse c = search needs

@@ -16,7 +16,7 @@ abbrev μ-loop : tie.MeasureT-loop
 μ-loop lasts₀ p₀ lasts p = 800 - p
 
 loop-holds : tie.Need-loop-holds Inv-loop μ-loop
-loop-holds c = (omega arith, refl, λ q h. absurd (not-suc-le-zero h))
+loop-holds c = (omega arith, c .pre, λ q h. absurd (not-suc-le-zero h))
 
 cast-lasts : tie.Need-cast-lasts Inv-loop μ-loop
 cast-lasts c = search needs
@@ -24,8 +24,8 @@ cast-lasts c = search needs
 mul-lasts : tie.Need-mul-lasts Inv-loop μ-loop
 mul-lasts c = search needs
 
-array-write-lasts : tie.Need-array-write-lasts Inv-loop μ-loop
-array-write-lasts c = search needs
+element-write-lasts : tie.Need-element-write-lasts Inv-loop μ-loop
+element-write-lasts c = search needs
 
 add-p : tie.Need-add-p Inv-loop μ-loop
 add-p c = search needs
@@ -48,7 +48,7 @@ own-places-spec =
     loop-holds
     cast-lasts
     mul-lasts
-    array-write-lasts
+    element-write-lasts
     add-p
     loop-less
     loop-again
