@@ -34,6 +34,8 @@ pub mod rules;
 pub mod selfcheck;
 pub mod shim;
 pub mod sink;
+#[cfg(feature = "port")]
+pub mod stack;
 pub mod tally;
 pub mod time;
 pub mod vectors;

@@ -19,7 +19,7 @@ use std::path::Path;
 use std::process::ExitCode;
 
 const USAGE: &str =
-    "compare listing | bytes | rounds | sunk | program PATH | selfcheck N SEED | roles KINDS | crossed FOLDER [ROWS] | vectors FOLDER, with the host's entry: sink N SEED, and with the port's layers: refusals | flow | facts | large N SEED | bench SEED";
+    "compare listing | bytes | rounds | sunk | program PATH | selfcheck N SEED | roles KINDS | crossed FOLDER [ROWS] | vectors FOLDER, with the host's entry: sink N SEED, and with the port's layers: refusals | flow | facts | large N SEED | bench SEED | once port|rust ROW";
 
 /// A picture's code, block by block.
 fn show(what: &str, p: &Picture) {
@@ -183,6 +183,8 @@ fn main() -> ExitCode {
             bench::bench(seed);
             Vec::new()
         }),
+        #[cfg(feature = "port")]
+        ["once", side, row] if bench::run_once(side, row) => ExitCode::SUCCESS,
         #[cfg(feature = "host")]
         ["sink", n, seed] => drawn(n, seed, |n, seed| {
             let stats = sink::sink(n, seed, host::sink_into);
@@ -196,7 +198,7 @@ fn main() -> ExitCode {
             ExitCode::from(2)
         }
         #[cfg(not(feature = "port"))]
-        ["refusals" | "flow" | "facts" | "large" | "bench", ..] => {
+        ["refusals" | "flow" | "facts" | "large" | "bench" | "once", ..] => {
             eprintln!("This was built without the port: `rt staticlib probe`, at the root of the repository, then `cargo build --features port`.");
             ExitCode::from(2)
         }
