@@ -1,4 +1,8 @@
 // The facts of a chain (01, "What changes shape": "`Run`'s facts become one record per position, in a lent list marked in place").
+ghost use mathlib.Core.Path.{_≡_};
+ghost use Prim.Native.Nat.{_<_};
+ghost use lib.ListN.{length, getD, set};
+ghost use Rattle.facts.specs.Marks.{no-fact, marked, cleared};
 
 // What is known of one position: its record's number; class 0 No, 1 Movable, 2 Free; where its value points, as an origin's number;
 // the memory it writes, and reads, as 0 for none or an origin and 1 (the pieces of a Cat are 4294967295, to be looked up again); the
@@ -20,4 +24,36 @@ pub struct Fact {
     pub barrier: bool,
     pub suspends: bool,
     pub member: bool,
+}
+
+// The fact of position p.
+pub fn fact_at(facts: &[Fact], p: usize) -> Fact
+    requires { ⌜ p < length (now facts) ⌝ }
+    ensures { λ r. ⌜ r ≡ getD (now (facts .entry)) p no-fact ⌝ }
+{
+    facts[p]
+}
+
+// Position p has the fact f.
+pub fn put(facts: &mut [Fact], p: usize, f: Fact)
+    requires { ⌜ p < length (now facts) ⌝ }
+    ensures { λ _. ⌜ now (facts .exit) ≡ set (now (facts .entry)) p f ⌝ }
+{
+    facts[p] = f;
+}
+
+// Position p is no longer in the set.
+pub fn clear_member(facts: &mut [Fact], p: usize)
+    requires { ⌜ p < length (now facts) ⌝ }
+    ensures { λ _. ⌜ now (facts .exit) ≡ set (now (facts .entry)) p (cleared (getD (now (facts .entry)) p no-fact)) ⌝ }
+{
+    facts[p].member = false;
+}
+
+// Position p is in the set if b says so.
+pub fn set_member(facts: &mut [Fact], p: usize, b: bool)
+    requires { ⌜ p < length (now facts) ⌝ }
+    ensures { λ _. ⌜ now (facts .exit) ≡ set (now (facts .entry)) p (marked (getD (now (facts .entry)) p no-fact) b) ⌝ }
+{
+    facts[p].member = b;
 }
