@@ -1,18 +1,19 @@
 -- The first registers read and written, one slot put before the others. Assumes nothing.
-use mathlib.Core.Bool.{Bool, true, false, cond, not, _&&_}
-use mathlib.Core.List.{List, [], _∷_, _++_, append-assoc}
+use mathlib.Core.Bool.{Bool, true, false, cond, not, _&&_, _||_}
+use mathlib.Core.List.{List, [], _∷_, _++_, append-nil, append-assoc}
 use mathlib.Core.Path.{_≡_, refl, sym, ap, _∙_, subst}
-use Prim.Native.Nat.{ℕ, zero, suc, _+_, _<_}
+use Prim.Native.Nat.{ℕ, zero, suc, _+_, _/_, _%_, _<_}
 use native.Mathlib.Nat.{not-suc-le-zero, le-of-suc-le-suc}
 use native.Mathlib.Omega.{arith}
 use borrow.Author.Tests.{eq-eqb, ne-eqb, eqb-false}
 use lib.Dec.{eqb}
 use lib.ListN.{getD, length}
+use Rattle.words.proofs.Bools.{or-left, or-right}
 use Rattle.model.specs.Kinds.{Role, writing}
 use Rattle.model.specs.Picture.{Inst, inst, absent, roles, slots, chosen, list-of, reads, writes}
 use Rattle.inst.specs.declared.access.Firsts.{Firsts}
 use Rattle.inst.specs.Table.{two-bits}
-use Rattle.inst.specs.Record.{Used, read-at, write-at, present, rest-reads, rest-writes}
+use Rattle.inst.specs.Record.{Used, read-at, write-at, later, present, rest-reads, rest-writes}
 use Rattle.inst.specs.Firsts.{Heads}
 use Rattle.inst.proofs.Slots.{read-no, write-no}
 use Rattle.inst.proofs.Rest.{reads-next, writes-next, reads-end, writes-end, reads-all, writes-all}
@@ -73,6 +74,34 @@ module _ (recs : List ℕ) (p u : ℕ) (g : Used recs p u) where
         let a : two-bits u 3 ≡ 0 = omega arith in
         let b : two-bits u 4 ≡ 0 = omega arith in
         idle 3 (omega arith) a l (idle 4 (omega arith) b l (no-slot l h))
+
+  -- ---- what most kinds do: they read in the first three slots, and write in the first
+
+  not-read : (s : ℕ) → s < 5 → (two-bits u s ≡ 0) → rest-reads i (s + 1) ≡ [] → rest-reads i s ≡ []
+  not-read s h z e = reads-next recs p (g .within) s h (read-no recs p u s g h _ refl (λ q. omega arith)) ∙ present-none (rest-reads i (s + 1)) refl ∙ e
+
+  pub three-reads : u < 64 → (a b c : ℕ) → a ≡ read-at i 0 → b ≡ read-at i 1 → c ≡ read-at i 2 → rest-reads i 0 ≡ present a ++ (present b ++ present c)
+  three-reads few a b c ea eb ec =
+      let z : two-bits u 3 ≡ 0 = omega arith in
+      let y : two-bits u 4 ≡ 0 = omega arith in
+      let rest = not-read 3 (omega arith) z (not-read 4 (omega arith) y (reads-end recs p (g .within) 5 (omega arith))) in
+      reads-next recs p (g .within) 0 (omega arith) ea ∙ ap (λ (l : List ℕ). present a ++ l)
+      (reads-next recs p (g .within) 1 (omega arith) eb ∙ ap (λ (l : List ℕ). present b ++ l)
+      (reads-next recs p (g .within) 2 (omega arith) ec ∙ ap (λ (l : List ℕ). present c ++ l) rest ∙ append-nil (present c)))
+
+  not-written : (s : ℕ) → s < 5 → (two-bits u s / 2 ≡ 1 → ⊥) → rest-writes i (s + 1) ≡ [] → rest-writes i s ≡ []
+  not-written s h n e = writes-next recs p (g .within) s h (write-no recs p u s g h _ refl n) ∙ present-none (rest-writes i (s + 1)) refl ∙ e
+
+  pub one-write : later u ≡ false → (w : ℕ) → w ≡ write-at i 0 → writes i ≡ present w
+  one-write e w ew =
+      let f3 = or-left _ _ e in
+      let f2 = or-left _ _ f3 in
+      let n1 = eqb-false (u / 8 % 2) 1 (or-left _ _ f2) in
+      let n2 = eqb-false (u / 32 % 2) 1 (or-right (eqb (u / 8 % 2) 1) _ f2) in
+      let n3 = eqb-false (u / 128 % 2) 1 (or-right (eqb (u / 8 % 2) 1 || eqb (u / 32 % 2) 1) _ f3) in
+      let n4 = eqb-false (u / 512 % 2) 1 (or-right (eqb (u / 8 % 2) 1 || eqb (u / 32 % 2) 1 || eqb (u / 128 % 2) 1) _ e) in
+      let rest = not-written 1 (omega arith) (λ q. n1 (omega arith)) (not-written 2 (omega arith) (λ q. n2 (omega arith)) (not-written 3 (omega arith) (λ q. n3 (omega arith)) (not-written 4 (omega arith) (λ q. n4 (omega arith)) (writes-end recs p (g .within) 5 (omega arith))))) in
+      sym (writes-all i) ∙ writes-next recs p (g .within) 0 (omega arith) ew ∙ ap (λ (l : List ℕ). present w ++ l) rest ∙ append-nil (present w)
 
   pub all-slots : (ops : List ℕ) {x : Firsts} → Heads (rest-reads i 0 ++ list-of ops i) (rest-writes i 0) x → Heads (reads ops i) (writes i) x
   all-slots ops {x} h =

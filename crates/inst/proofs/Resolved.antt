@@ -128,7 +128,7 @@ module _ (g : Role → ℕ) (small : (o : Role) → g o ≤ 2) (os : List Role) 
   packed-slot s h =
       by-slot s h (small (getD os 0 off)) (small (getD os 1 off)) (small (getD os 2 off)) (small (getD os 3 off)) (small (getD os 4 off))
 
-does-small : (o : Role) → does o ≤ 2
+pub does-small : (o : Role) → does o ≤ 2
 does-small off = omega arith
 does-small wr = omega arith
 does-small rd = omega arith

@@ -1,9 +1,9 @@
 -- 01, "The call", the record: its words, which register each slot reads or writes, and what acceptance gives of a record.
 -- Assumes nothing.
 use mathlib.Core.Path.{_≡_}
-use mathlib.Core.Bool.{Bool, cond, not, _&&_}
+use mathlib.Core.Bool.{Bool, cond, not, _&&_, _||_}
 use mathlib.Core.List.{List, [], _∷_}
-use Prim.Native.Nat.{ℕ, _+_, _*_, _≤_, _<_}
+use Prim.Native.Nat.{ℕ, _+_, _*_, _/_, _%_, _≤_, _<_}
 use lib.Dec.{eqb, leb}
 use lib.ListN.{getD, length, drop}
 use Rattle.model.specs.Kinds.{Role, off, reading, writing}
@@ -55,6 +55,10 @@ read-at i s = cond (reading (getD (roles i) s off)) (getD i (2 + s) 0) absent
 
 unfoldable pub write-at : Inst → ℕ → ℕ
 write-at i s = cond (writing (getD (roles i) s off)) (getD i (2 + s) 0) absent
+
+-- of what the slots do: one after the first writes
+abbrev pub later : ℕ → Bool
+later u = eqb (u / 8 % 2) 1 || eqb (u / 32 % 2) 1 || eqb (u / 128 % 2) 1 || eqb (u / 512 % 2) 1
 
 -- r where it is a register
 unfoldable pub present : ℕ → List ℕ

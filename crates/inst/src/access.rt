@@ -16,7 +16,7 @@ ghost use Prim.Native.Nat.{ℕ, _+_, _<_};
 ghost use Rattle.words.specs.Lists.{mem};
 ghost use Rattle.model.specs.Picture.{inst, kind, absent, list-of, reads, writes};
 ghost use Rattle.inst.specs.Table.{rows, packed};
-ghost use Rattle.inst.specs.Record.{Known, Used, Listed, uses-of, asks-of, read-at, write-at, present, rest-reads, rest-writes};
+ghost use Rattle.inst.specs.Record.{Known, Used, Listed, uses-of, asks-of, read-at, write-at, later, present, rest-reads, rest-writes};
 ghost use Rattle.inst.specs.Firsts.{Heads};
 
 // The row of record p's kind.
@@ -43,12 +43,13 @@ pub fn wanted(t: &[u32; 202], recs: &[u32], p: usize) -> u32
     asks(row_at(t, recs, p), form(recs, p))
 }
 
-// The register that slot s reads, or absent.
+// The register that slot s reads, or absent. (Of a slot's two bits the lower says that it is read, the upper that it is
+// written.)
 pub fn read_at(recs: &[u32], p: usize, uses: u32, s: usize) -> u32
     requires { ⌜ Used (now recs) p uses × (s < 5) ⌝ }
     ensures { λ r. ⌜ r ≡ read-at (inst (now (recs .entry)) p) s ⌝ }
 {
-    if two_bits(uses, s as u32) == 1 {
+    if two_bits(uses, s as u32) % 2 == 1 {
         return slot(recs, p, s);
     }
     4294967295
@@ -59,10 +60,17 @@ pub fn write_at(recs: &[u32], p: usize, uses: u32, s: usize) -> u32
     requires { ⌜ Used (now recs) p uses × (s < 5) ⌝ }
     ensures { λ r. ⌜ r ≡ write-at (inst (now (recs .entry)) p) s ⌝ }
 {
-    if two_bits(uses, s as u32) == 2 {
+    if two_bits(uses, s as u32) / 2 == 1 {
         return slot(recs, p, s);
     }
     4294967295
+}
+
+// Does a slot after the first write? Few kinds have one.
+pub fn later(uses: u32) -> bool
+    ensures { λ b. ⌜ b ≡ later uses ⌝ }
+{
+    (uses / 8 % 2 == 1) | (uses / 32 % 2 == 1) | (uses / 128 % 2 == 1) | (uses / 512 % 2 == 1)
 }
 
 // The operands in its list.
