@@ -2,7 +2,8 @@
 use mathlib.Core.Path.{_≡_, sym, ap, _∙_}
 use mathlib.Core.Bool.{Bool, true, false, _||_, or-false}
 use mathlib.Core.List.{List}
-use Prim.Native.Nat.{ℕ, _+_, _≤_, _<_}
+use Prim.Native.Nat.{ℕ, zero, suc, _+_, _-_, _≤_, _<_}
+use native.Mathlib.Omega.{arith}
 use Rattle.words.specs.Lists.{range, upto, any}
 use native.Mathlib.Nat.{zero-add}
 use Rattle.words.proofs.Lists.{range-append}
@@ -38,6 +39,17 @@ module _ (f : Inst → Bool) (recs : List ℕ) where
       ap (λ (x : Bool). x || r) (e ∙ by-place p) ∙ ap (λ (x : Bool). any at (upto p) || x) (h ∙ sym (or-false (at p)))
       ∙ ap (λ (k : ℕ). any at (upto p) || (at k || false)) (sym (zero-add p))
       ∙ sym (any-append at (upto p) (range (0 + p) 1)) ∙ ap (any at) (range-append 0 p 1) ∙ sym (by-place (p + 1))
+
+  -- none among those from p up to q
+  pub code-past : (p q : ℕ) → p ≤ q → ((j : ℕ) → p ≤ j → j < q → f (inst recs j) ≡ false) → any f (code recs p) ≡ any f (code recs q)
+  code-past p q l h = go (q - p) (λ j a b. h j a (omega arith)) ∙ ap (λ (m : ℕ). any f (code recs m)) (omega arith)
+    where
+      go : (d : ℕ) → ((j : ℕ) → p ≤ j → j < p + d → f (inst recs j) ≡ false) → any f (code recs p) ≡ any f (code recs (p + d))
+      go zero k = ap (λ (m : ℕ). any f (code recs m)) (omega arith)
+      go (suc d) k =
+          sym (or-false (any f (code recs p)))
+          ∙ code-more (p + d) {b = any f (code recs p)} {r = false} (go d (λ j a b. k j a (omega arith))) (sym (k (p + d) (omega arith) (omega arith)))
+          ∙ ap (λ (m : ℕ). any f (code recs m)) (omega arith)
 
   -- absent at every instruction
   pub code-at : (n : ℕ) → any f (code recs n) ≡ false → (p : ℕ) → p < n → f (inst recs p) ≡ false

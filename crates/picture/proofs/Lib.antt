@@ -4,5 +4,6 @@ pub mod Slots
 pub mod Given
 pub mod Looked
 pub mod Writes
+pub mod Freed
 pub mod Seen
 pub mod Chain

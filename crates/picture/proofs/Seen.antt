@@ -3,15 +3,19 @@
 use mathlib.Core.Path.{_≡_, refl, sym, ap, _∙_, subst}
 use mathlib.Core.Bool.{Bool, true, false, cond, _||_}
 use mathlib.Core.List.{List}
-use Prim.Native.Nat.{ℕ, _+_, _≤_, _<_}
-use native.Mathlib.Nat.{le-antisymm}
+use Prim.Native.Nat.{ℕ, _+_, _*_, _≤_, _<_}
+use native.Mathlib.Nat.{le-antisymm, lt-of-lt-of-le}
+use lib.ListN.{length}
 use Rattle.words.specs.Lists.{any}
 use Rattle.model.specs.Picture.{Inst, inst}
 use Rattle.model.specs.Refusal.{bad-kind, bad-list, bad-branch}
 use Rattle.picture.specs.declared.look.Found.{Found}
 use Rattle.picture.specs.Causes.{code, bad-regs, long-cat}
 use Rattle.picture.specs.Found.{found, bad-one, others}
-use Rattle.picture.proofs.Insts.{code-none, code-yes, code-on, code-more}
+use Rattle.picture.specs.Plain.{Skipped}
+use Rattle.picture.proofs.Given.{within}
+use Rattle.picture.proofs.Insts.{code-none, code-yes, code-on, code-more, code-past}
+use Rattle.picture.proofs.Freed.{Free, plain-free}
 
 -- ---- the loop
 
@@ -45,6 +49,18 @@ module _ (R O B : ℕ) (recs : List ℕ) where
           branches = code-more (bad-branch B) recs p (s .branches) ex;
           cats = code-more long-cat recs p (s .cats) ey;
         }
+
+  -- past plain ones
+  pub seen-past : {n p q : ℕ} {a b c d : Bool} → 16 * n ≤ length recs → Seen R O B recs p a b c d → Skipped R recs n p q → Seen R O B recs q a b c d
+  seen-past {n} {p} {q} w s k =
+      let free : (j : ℕ) → p ≤ j → j < q → Free R (inst recs j) = λ j l h. plain-free recs j R (within recs n j w (lt-of-lt-of-le h (k .upto))) (k .plain j l h) in
+      record {
+        kinds = sym (code-past bad-kind recs p q (k .from) (λ j l h. free j l h .kinds)) ∙ s .kinds;
+        regs = s .regs ∙ code-past (bad-regs R) recs p q (k .from) (λ j l h. free j l h .regs);
+        lists = s .lists ∙ code-past (bad-list O) recs p q (k .from) (λ j l h. free j l h .lists O);
+        branches = s .branches ∙ code-past (bad-branch B) recs p q (k .from) (λ j l h. free j l h .branches B);
+        cats = s .cats ∙ code-past long-cat recs p q (k .from) (λ j l h. free j l h .cats);
+      }
 
   -- one of a bad kind
   pub seen-bad : {n p : ℕ} {r : Bool} → p < n → r ≡ bad-kind (inst recs p) → r ≡ true → bad-one ≡ found R O B (code recs n)

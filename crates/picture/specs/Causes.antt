@@ -10,7 +10,6 @@ use Rattle.model.specs.Kinds.{row, Cat}
 use Rattle.model.specs.Picture.{Picture, Inst, inst, absent, kind, form, is-kind, slots, roles}
 use Rattle.model.specs.Picture as Pic
 use Rattle.model.specs.Refusal.{bad-slots, half-part, bad-pairs, may-move}
-use Rattle.inst.specs.Table.{two-bits}
 
 -- bounds, records, locs, vias, types and registers in use, operands and those in use, case pairs, targets, replay
 abbrev pub picture-of : List ℕ → List ℕ → List ℕ → List ℕ → List ℕ → ℕ → List ℕ → ℕ → List ℕ → List ℕ → List ℕ → Picture
@@ -41,17 +40,6 @@ too-short nb nt w64 w32 = ltb w64 (4 * (nb / 2) * ((nt + 63) / 64) + 2 * nt) || 
 -- 5
 unfoldable pub bad-regs : ℕ → Inst → Bool
 bad-regs R i = bad-slots R (roles i) (slots i) || half-part i
-
--- a slot that is not what it mostly is, absent where nothing is done with it (u is 0), and else a register; no other is bad
-abbrev pub odd-at : ℕ → ℕ → ℕ → Bool
-odd-at R u r = eqb u 0 && not (eqb r absent) || not (eqb u 0) && leb R r
-
--- one of five, u saying what they do
-abbrev pub odd-slot : ℕ → ℕ → Inst → ℕ → Bool
-odd-slot R u i s = odd-at R (two-bits u s) (getD i (2 + s) 0)
-
-unfoldable pub odd-slots : ℕ → ℕ → Inst → Bool
-odd-slots R u i = odd-slot R u i 0 || (odd-slot R u i 1 || (odd-slot R u i 2 || (odd-slot R u i 3 || odd-slot R u i 4)))
 
 -- 8
 abbrev pub long-cat : Inst → Bool

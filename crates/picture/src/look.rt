@@ -1,7 +1,8 @@
-// What causes 4 to 8 find in the records (01, "The call", the table), in one pass. A lower cause at any record comes before a
-// higher one, so the rest is not looked at once a kind is bad.
+// What causes 4 to 8 find in the records (01, "The call", the table), in one pass that goes past plain ones. A lower cause at any
+// record comes before a higher one, so the rest is not looked at once a kind is bad.
 use crate::branches::bad_branch;
 use crate::lists::bad_list;
+use crate::plain::skip;
 use crate::records::bad_kind;
 use crate::records::bad_regs_at;
 use crate::records::long_cat;
@@ -47,7 +48,7 @@ pub fn look(t: &[u32; 202], recs: &[u32], n: usize, r: u32, opers: u32, blocks: 
         lists = lists | bad_list(t, recs, p, used);
         branches = branches | bad_branch(recs, p, blocks);
         cats = cats | long_cat(recs, p);
-        p += 1;
+        p = skip(t, recs, n, r, p + 1);
     }
     Found {
         kinds: false,

@@ -1,6 +1,5 @@
 // Causes 4, 5 and 8 (01, "The call", the table): what a record must be by itself. Cause 4 is tested first, so the others
 // may look its kind up in the table.
-use inst::access::uses;
 use inst::access::wanted;
 use inst::record::form;
 use inst::record::kind;
@@ -19,7 +18,7 @@ ghost use Rattle.model.specs.Picture.{inst, roles, slots};
 ghost use Rattle.model.specs.Refusal.{bad-kind, bad-slot, bad-slots, half-part};
 ghost use Rattle.inst.specs.Table.{rows};
 ghost use Rattle.inst.specs.Record.{Within, Known, asks-of, bad-at};
-ghost use Rattle.picture.specs.Causes.{bad-regs, long-cat, odd-slot, odd-slots};
+ghost use Rattle.picture.specs.Causes.{bad-regs, long-cat};
 
 // The kinds named here, and what a slot holds that names no register.
 const CAT: u32 = 39;
@@ -88,46 +87,12 @@ fn half_part(recs: &[u32], p: usize) -> bool
         | (k == SIG_GATHER) & (a == ABSENT) & (b != ABSENT)
 }
 
-// Slot s is not what it mostly is: absent where nothing is done with it, and else a register.
-fn odd_slot(recs: &[u32], p: usize, regs: u32, uses: u32, s: usize) -> bool
-    requires { ⌜ Within (now recs) p × (s < 5) ⌝ }
-    ensures { λ b. ⌜ b ≡ odd-slot regs uses (inst (now (recs .entry)) p) s ⌝ }
-{
-    let u = two_bits(uses, s as u32);
-    let r = slot(recs, p, s);
-    (u == 0) & (r != ABSENT) | (u != 0) & (regs <= r)
-}
-
-// One of the five slots is so.
-fn odd_slots(recs: &[u32], p: usize, regs: u32, uses: u32) -> bool
-    requires { ⌜ Within (now recs) p ⌝ }
-    ensures { λ b. ⌜ b ≡ odd-slots regs uses (inst (now (recs .entry)) p) ⌝ }
-{
-    let b0 = odd_slot(recs, p, regs, uses, 0);
-    let b1 = odd_slot(recs, p, regs, uses, 1);
-    let b2 = odd_slot(recs, p, regs, uses, 2);
-    let b3 = odd_slot(recs, p, regs, uses, 3);
-    let b4 = odd_slot(recs, p, regs, uses, 4);
-    b0 | (b1 | (b2 | (b3 | b4)))
-}
-
-// 5: the five slots of record p; what they ask is worked out only if one is odd.
-fn slots_at(t: &[u32; 202], recs: &[u32], p: usize, regs: u32) -> bool
-    requires { ⌜ (now t ≡ rows) × Known (now recs) p ⌝ }
-    ensures { λ b. ⌜ b ≡ bad-slots regs (roles (inst (now (recs .entry)) p)) (slots (inst (now (recs .entry)) p)) ⌝ }
-{
-    if odd_slots(recs, p, regs, uses(t, recs, p)) {
-        return bad_slots(recs, p, regs, wanted(t, recs, p));
-    }
-    false
-}
-
 // 5: a slot is no register below R, or wrongly absent or present.
 pub fn bad_regs_at(t: &[u32; 202], recs: &[u32], p: usize, regs: u32) -> bool
     requires { ⌜ (now t ≡ rows) × Known (now recs) p ⌝ }
     ensures { λ r. ⌜ r ≡ bad-regs regs (inst (now (recs .entry)) p) ⌝ }
 {
-    slots_at(t, recs, p, regs) | half_part(recs, p)
+    bad_slots(recs, p, regs, wanted(t, recs, p)) | half_part(recs, p)
 }
 
 // 8: a Cat's list is over 33.

@@ -3,10 +3,11 @@
 use borrow.Author.Needs.{needs}
 use mathlib.Core.Path.{ap, _∙_}
 use Prim.Native.Nat.{ℕ, _-_, _≤_}
+use native.Mathlib.Omega.{arith}
 use Rattle.model.specs.Picture.{inst}
 use Rattle.model.specs.Refusal.{bad-list}
 use Rattle.picture.proofs.Given.{within, known}
-use Rattle.picture.proofs.Seen.{Seen, seen-none, seen-more, seen-bad, seen-all}
+use Rattle.picture.proofs.Seen.{Seen, seen-none, seen-more, seen-past, seen-bad, seen-all}
 use Rattle.picture.proofs.look.look.Statement.{statement}
 use Rattle.picture.proofs.look.look.Tie as tie
 
@@ -41,15 +42,18 @@ bad-branch-requires c κs = within _ _ _ (c .before .before .before .before .bef
 long-cat-requires : tie.Need-long-cat-requires Inv-loop μ-loop
 long-cat-requires c κs = within _ _ _ (c .before .before .before .before .before .before .before .before .before .pre .1) (c .before .before .before .before .before .loop-test .taken)
 
-add-p : tie.Need-add-p Inv-loop μ-loop
-add-p c = search needs
+add-skip : tie.Need-add-skip Inv-loop μ-loop
+add-skip c = search needs
+
+skip-requires : tie.Need-skip-requires Inv-loop μ-loop
+skip-requires c κs = (c .before .before .before .before .before .before .before .before .before .before .pre .0, c .before .before .before .before .before .before .before .before .before .before .pre .1, search needs)
 
 loop-less : tie.Need-loop-less Inv-loop μ-loop
-loop-less c = search needs
+loop-less c = let z = c .skip .ensures .from in omega arith
 
 loop-again : tie.Need-loop-again Inv-loop μ-loop
-loop-again c = let a = c .before .before .before .before .before .before .before .before .before .before .args in let i = inst (a .recs .now) (c .before .before .before .before .before .before .before .loop .p) in
-    (search needs, seen-more _ _ _ _ _ (c .before .before .before .before .before .before .before .loop .inv .1) (c .before .before .before .before .before .bad-kind .ensures) (c .before .before .before .before .if1 .left) (c .before .before .before .bad-regs-at .ensures) (c .before .before .bad-list .ensures ∙ ap (λ (o : ℕ). bad-list o i) (c .before .before .before .before .before .before .before .before .wide .ensures)) (c .before .bad-branch .ensures) (c .long-cat .ensures))
+loop-again c = let a = c .before .before .before .before .before .before .before .before .before .before .before .args in let i = inst (a .recs .now) (c .before .before .before .before .before .before .before .before .loop .p) in
+    (c .skip .ensures .upto, seen-past _ _ _ _ (c .before .before .before .before .before .before .before .before .before .before .before .pre .1) (seen-more _ _ _ _ _ (c .before .before .before .before .before .before .before .before .loop .inv .1) (c .before .before .before .before .before .before .bad-kind .ensures) (c .before .before .before .before .before .if1 .left) (c .before .before .before .before .bad-regs-at .ensures) (c .before .before .before .bad-list .ensures ∙ ap (λ (o : ℕ). bad-list o i) (c .before .before .before .before .before .before .before .before .before .wide .ensures)) (c .before .before .bad-branch .ensures) (c .before .long-cat .ensures)) (c .skip .ensures))
 
 returns-2 : tie.Need-returns-2 Inv-loop μ-loop
 returns-2 c = seen-all _ _ _ _ (c .before .loop .inv .0) (c .loop-test .left) (c .before .loop .inv .1)
@@ -68,7 +72,8 @@ look-spec =
     bad-list-requires
     bad-branch-requires
     long-cat-requires
-    add-p
+    add-skip
+    skip-requires
     loop-less
     loop-again
     returns-2)

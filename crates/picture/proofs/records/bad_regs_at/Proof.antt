@@ -4,16 +4,18 @@ use borrow.Author.Needs.{needs}
 use Rattle.picture.proofs.records.bad_regs_at.Statement.{statement}
 use Rattle.picture.proofs.records.bad_regs_at.Tie as tie
 
-slots-at-requires : tie.Need-slots-at-requires
-slots-at-requires c κs = search needs
+wanted-requires : tie.Need-wanted-requires
+wanted-requires c κs = search needs
+
+bad-slots-requires : tie.Need-bad-slots-requires
+bad-slots-requires c κs = search needs
 
 half-part-requires : tie.Need-half-part-requires
 half-part-requires c κs = search needs
 
 returns : tie.Need-returns
 unfolding bad-regs
-returns c = cc
+returns c = rw (c .before .bad-slots .ensures, c .half-part .ensures)
 
 pub bad-regs-at-spec : {M : Type 1} → statement M
-bad-regs-at-spec =
-    tie.close (tie.spec slots-at-requires half-part-requires returns)
+bad-regs-at-spec = tie.close (tie.spec wanted-requires bad-slots-requires half-part-requires returns)

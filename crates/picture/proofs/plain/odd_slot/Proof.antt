@@ -1,7 +1,7 @@
--- `picture::records::odd_slot` meets its contract. Assumes nothing.
+-- `picture::plain::odd_slot` meets its contract. Assumes nothing.
 use borrow.Author.Needs.{needs}
-use Rattle.picture.proofs.records.odd_slot.Statement.{statement}
-use Rattle.picture.proofs.records.odd_slot.Tie as tie
+use Rattle.picture.proofs.plain.odd_slot.Statement.{statement}
+use Rattle.picture.proofs.plain.odd_slot.Tie as tie
 
 cast-two-bits : tie.Need-cast-two-bits
 cast-two-bits c = search needs
