@@ -1,6 +1,7 @@
 // What a run of instructions reads before it writes it, and what it writes (01, "A round": "read before written"; in the Rust
 // the first part of `liveness`), in two rows of bits. The instructions are taken from the last to the first: what one writes
 // goes out of the row of reads, and what it reads goes in.
+use inst::access::later;
 use inst::access::list;
 use inst::access::read_at;
 use inst::access::uses;
@@ -42,8 +43,8 @@ fn read_one(bits: &mut [u64], u: usize, r: u32)
     set_in(bits, u, wide(r));
 }
 
-// What record p writes.
-fn write_slots(bits: &mut [u64], recs: &[u32], p: usize, uses: u32, u: usize, d: usize)
+// What the slots of record p write, one by one.
+fn write_all(bits: &mut [u64], recs: &[u32], p: usize, uses: u32, u: usize, d: usize)
     requires { ⌜ (u ≤ length (now bits)) × (d ≤ length (now bits)) × Used (now recs) p uses ⌝ }
     ensures { λ _. ⌜ now (bits .exit) ≡ steps (wrote u d) (now (bits .entry)) (writes (inst (now (recs .entry)) p)) ⌝ }
 {
@@ -55,8 +56,20 @@ fn write_slots(bits: &mut [u64], recs: &[u32], p: usize, uses: u32, u: usize, d:
     }
 }
 
-// What the slots of record p read.
-fn read_slots(bits: &mut [u64], recs: &[u32], p: usize, uses: u32, u: usize)
+// What record p writes, mostly in its first slot alone.
+fn write_slots(bits: &mut [u64], recs: &[u32], p: usize, uses: u32, u: usize, d: usize)
+    requires { ⌜ (u ≤ length (now bits)) × (d ≤ length (now bits)) × Used (now recs) p uses ⌝ }
+    ensures { λ _. ⌜ now (bits .exit) ≡ steps (wrote u d) (now (bits .entry)) (writes (inst (now (recs .entry)) p)) ⌝ }
+{
+    if later(uses) {
+        write_all(bits, recs, p, uses, u, d);
+        return;
+    }
+    write_one(bits, u, d, write_at(recs, p, uses, 0));
+}
+
+// What the slots of record p read, one by one.
+fn read_all(bits: &mut [u64], recs: &[u32], p: usize, uses: u32, u: usize)
     requires { ⌜ (u ≤ length (now bits)) × Used (now recs) p uses ⌝ }
     ensures { λ _. ⌜ now (bits .exit) ≡ steps (put u) (now (bits .entry)) (rest-reads (inst (now (recs .entry)) p) 0) ⌝ }
 {
@@ -66,6 +79,20 @@ fn read_slots(bits: &mut [u64], recs: &[u32], p: usize, uses: u32, u: usize)
         read_one(bits, u, r);
         s += 1;
     }
+}
+
+// What the slots of record p read, mostly the first three alone.
+fn read_slots(bits: &mut [u64], recs: &[u32], p: usize, uses: u32, u: usize)
+    requires { ⌜ (u ≤ length (now bits)) × Used (now recs) p uses ⌝ }
+    ensures { λ _. ⌜ now (bits .exit) ≡ steps (put u) (now (bits .entry)) (rest-reads (inst (now (recs .entry)) p) 0) ⌝ }
+{
+    if 64 <= uses {
+        read_all(bits, recs, p, uses, u);
+        return;
+    }
+    read_one(bits, u, read_at(recs, p, uses, 0));
+    read_one(bits, u, read_at(recs, p, uses, 1));
+    read_one(bits, u, read_at(recs, p, uses, 2));
 }
 
 // What a list of operands reads.

@@ -1,58 +1,57 @@
 -- `flow::sets::read_slots` meets its contract. Assumes nothing.
 use borrow.Author.Needs.{needs}
-use Prim.Native.Nat.{_-_, _≤_, _+_}
-use native.Mathlib.Omega.{arith}
-use mathlib.Core.Path.{_≡_, refl, _∙_}
-use lib.ListN.{length}
-use Rattle.model.specs.Picture.{inst}
-use Rattle.inst.specs.Record.{rest-reads, present}
-use Rattle.inst.proofs.Rest.{reads-next, reads-end}
-use Rattle.flow.specs.Sets.{steps, put}
-use Rattle.flow.proofs.Runs.{steps-on, steps-end}
+use Rattle.inst.specs.Record.{present}
+use Rattle.inst.proofs.Firsts.{three-reads}
+use Rattle.flow.specs.Sets.{put}
+use Rattle.flow.proofs.Runs.{three-steps}
 use Rattle.flow.proofs.sets.read_slots.Statement.{statement}
 use Rattle.flow.proofs.sets.read_slots.Tie as tie
 
-abbrev Inv-loop : tie.InvT-loop
-Inv-loop bits₀ recs p uses u s₀ bits s = (s ≤ 5) × (length bits ≡ length bits₀) × (steps (put u) bits (rest-reads (inst recs p) s) ≡ steps (put u) bits₀ (rest-reads (inst recs p) 0))
+read-all-requires : tie.Need-read-all-requires
+read-all-requires c κs = search needs
 
-abbrev μ-loop : tie.MeasureT-loop
-μ-loop bits₀ recs p uses u s₀ bits s = 5 - s
+same-length : tie.Need-same-length
+same-length c = search needs
 
-loop-holds : tie.Need-loop-holds Inv-loop μ-loop
-loop-holds c = (omega arith, refl, refl)
+returns : tie.Need-returns
+returns c = search needs
 
-read-at-requires : tie.Need-read-at-requires Inv-loop μ-loop
+read-at-requires : tie.Need-read-at-requires
 read-at-requires c κs = search needs
 
-read-one-requires : tie.Need-read-one-requires Inv-loop μ-loop
+read-one-requires : tie.Need-read-one-requires
 read-one-requires c κs = search needs
 
-add-s : tie.Need-add-s Inv-loop μ-loop
-add-s c = search needs
+read-at-requires-2 : tie.Need-read-at-requires-2
+read-at-requires-2 c κs = search needs
 
-loop-less : tie.Need-loop-less Inv-loop μ-loop
-loop-less c = search needs
+read-one-requires-2 : tie.Need-read-one-requires-2
+read-one-requires-2 c κs = search needs
 
-loop-again : tie.Need-loop-again Inv-loop μ-loop
-loop-again c = let a = c .before .before .before .before .before .before .before .before .before .args in let i = c .before .before .before .before .before .before .loop in (omega arith, c .before .before .read-one .kept .0 ∙ i .inv .1, steps-on (put (a .u)) (present (c .before .before .before .before .read-at .result)) (rest-reads (inst (a .recs .now) (a .p)) (i .s + 1)) (rest-reads (inst (a .recs .now) (a .p)) (i .s)) (i .bits) (reads-next _ _ (c .before .before .before .before .before .before .before .before .before .pre .1 .within) _ (c .before .before .before .before .before .loop-test .taken) (c .before .before .before .before .read-at .ensures)) (c .before .before .read-one .ensures) (i .inv .2))
+read-at-requires-3 : tie.Need-read-at-requires-3
+read-at-requires-3 c κs = search needs
 
-same-length : tie.Need-same-length Inv-loop μ-loop
-same-length c = c .before .loop .inv .1
+read-one-requires-3 : tie.Need-read-one-requires-3
+read-one-requires-3 c κs = search needs
 
-returns : tie.Need-returns Inv-loop μ-loop
-returns c = let a = c .before .before .before .before .args in steps-end (put (a .u)) _ (reads-end _ _ (c .before .before .before .before .pre .1 .within) _ (c .loop-test .left)) (c .before .loop .inv .2)
+same-length-2 : tie.Need-same-length-2
+same-length-2 c = search needs
+
+returns-2 : tie.Need-returns-2
+returns-2 c = let a = c .before .before .before .before .before .before .before .before .before .before .before .before .before .before .before .before .before .before .args in three-steps (put (a .u)) (present (c .before .before .before .before .before .before .before .before .before .before .before .before .before .read-at .result)) (present (c .before .before .before .before .before .before .before .before .read-at2 .result)) (present (c .before .before .before .read-at3 .result)) _ _ (three-reads _ _ _ (c .before .before .before .before .before .before .before .before .before .before .before .before .before .before .before .before .before .before .pre .1) (c .before .before .before .before .before .before .before .before .before .before .before .before .before .before .before .if1 .left) _ _ _ (c .before .before .before .before .before .before .before .before .before .before .before .before .before .read-at .ensures) (c .before .before .before .before .before .before .before .before .read-at2 .ensures) (c .before .before .before .read-at3 .ensures)) (c .before .before .before .before .before .before .before .before .before .before .before .before .read-one .ensures) (c .before .before .before .before .before .before .before .read-one2 .ensures) (c .before .before .read-one3 .ensures)
 
 pub read-slots-spec : {M : Type 1} → statement M
 read-slots-spec =
     tie.close
     (tie.spec
-    Inv-loop
-    μ-loop
-    loop-holds
+    read-all-requires
+    same-length
+    returns
     read-at-requires
     read-one-requires
-    add-s
-    loop-less
-    loop-again
-    same-length
-    returns)
+    read-at-requires-2
+    read-one-requires-2
+    read-at-requires-3
+    read-one-requires-3
+    same-length-2
+    returns-2)
