@@ -1,6 +1,7 @@
 // The facts on registers (01, "A round": "read-only, frame, constant .. once, before round 1, from registers with exactly one
 // writer"), four bits in a word of 64 a register: 1 read-only, 2 frame, 4 a constant that is a length, 8 a constant above 0.
 // The words past the registers in use are set to 0: a new register has no facts.
+use inst::access::later;
 use inst::access::uses;
 use inst::access::write_at;
 use inst::constant::Constant;
@@ -14,7 +15,7 @@ ghost use lib.ListN.{length, getD};
 ghost use Rattle.model.specs.Picture.{inst, absent};
 ghost use Rattle.model.specs.Analyse.{known, small, positive};
 ghost use Rattle.inst.specs.Table.{rows};
-ghost use Rattle.inst.specs.Record.{Within};
+ghost use Rattle.inst.specs.Record.{Within, Used};
 ghost use Rattle.analyse.specs.Written.{put-in, Fits, Written};
 ghost use Rattle.effects.specs.Origin.{num};
 ghost use Rattle.analyse.specs.Flags.{noted, many, Soles, flags-of, flags-in, sole-of, Found};
@@ -58,18 +59,30 @@ fn note(regs: &mut [u64], w: u32, p: u64)
     }
 }
 
-// Record p and all that it writes.
+// Record p and all that its slots write, one by one.
+fn note_all(recs: &[u32], regs: &mut [u64], p: usize, uses: u32)
+    requires { ⌜ Used (now recs) p uses × (p < 32768) × Fits (now recs) (length (now regs)) p ⌝ }
+    ensures { λ _. ⌜ Written (noted p) (inst (now (recs .entry)) p) (now (regs .entry)) (now (regs .exit)) ⌝ }
+{
+    let n = long(p);
+    let mut s = 0usize;
+    while s < 5 {
+        note(regs, write_at(recs, p, uses, s), n);
+        s += 1;
+    }
+}
+
+// Record p and all that it writes, mostly in its first slot alone.
 fn note_record(t: &[u32; 202], recs: &[u32], regs: &mut [u64], p: usize)
     requires { ⌜ (now t ≡ rows) × (p < 32768) × Fits (now recs) (length (now regs)) p ⌝ }
     ensures { λ _. ⌜ Written (noted p) (inst (now (recs .entry)) p) (now (regs .entry)) (now (regs .exit)) ⌝ }
 {
     let u = uses(t, recs, p);
-    let n = long(p);
-    let mut s = 0usize;
-    while s < 5 {
-        note(regs, write_at(recs, p, u, s), n);
-        s += 1;
+    if later(u) {
+        note_all(recs, regs, p, u);
+        return;
     }
+    note(regs, write_at(recs, p, u, 0), long(p));
 }
 
 fn clear(regs: &mut [u64])

@@ -1,62 +1,59 @@
 -- `analyse::facts::note_record` meets its contract. Assumes nothing.
 use borrow.Author.Needs.{needs}
 use native.Mathlib.Omega.{arith}
-use Prim.Native.Nat.{_-_}
-use Rattle.analyse.specs.Flags.{noted}
+use mathlib.Core.Path.{sym, _∙_}
+use Rattle.inst.proofs.Firsts.{one-write}
 use Rattle.analyse.proofs.Soles.{noted-twice}
-use Rattle.analyse.proofs.Writing.{Writing, writing-none, writing-more, writing-end}
+use Rattle.analyse.proofs.Writing.{writing-one}
 use Rattle.analyse.proofs.facts.note_record.Statement.{statement}
 use Rattle.analyse.proofs.facts.note_record.Tie as tie
 
-abbrev Inv-loop : tie.InvT-loop
-Inv-loop t recs regs₀ p u n s₀ regs s = Writing (noted p) recs p s regs₀ regs
-
-abbrev μ-loop : tie.MeasureT-loop
-μ-loop t recs regs₀ p u n s₀ regs s = 5 - s
-
-uses-requires : tie.Need-uses-requires Inv-loop μ-loop
+uses-requires : tie.Need-uses-requires
 uses-requires c κs = (c .before .before .pre .0, c .before .before .pre .2 .whole)
 
-long-requires : tie.Need-long-requires Inv-loop μ-loop
+later-requires : tie.Need-later-requires
+later-requires c κs = search needs
+
+note-all-requires : tie.Need-note-all-requires
+note-all-requires c κs = (record { within = c .before .before .before .before .before .before .pre .2 .whole .within; uses = c .before .before .before .uses .ensures }, c .before .before .before .before .before .before .pre .1, c .before .before .before .before .before .before .pre .2)
+
+same-length : tie.Need-same-length
+same-length c = c .before .before .note-all .ensures .size
+
+returns : tie.Need-returns
+returns c = c .before .before .note-all .ensures
+
+write-at-requires : tie.Need-write-at-requires
+write-at-requires c κs = (record { within = c .before .before .before .before .before .before .pre .2 .whole .within; uses = c .before .before .before .uses .ensures }, omega arith)
+
+long-requires : tie.Need-long-requires
 long-requires c κs = search needs
 
-loop-holds : tie.Need-loop-holds Inv-loop μ-loop
-loop-holds c = writing-none _ _ _ _
+note-requires : tie.Need-note-requires
+note-requires c κs = (omega (arith, c .long .ensures, c .before .before .before .before .before .before .before .before .pre .1), rw (c .before .write-at .ensures) (c .before .before .before .before .before .before .before .before .pre .2 .slot 0 (omega arith)))
 
-write-at-requires : tie.Need-write-at-requires Inv-loop μ-loop
-write-at-requires c κs = (record { within = c .before .before .before .before .before .before .before .pre .2 .whole .within; uses = c .before .before .before .before .uses .ensures }, c .before .loop-test .taken)
+same-length-2 : tie.Need-same-length-2
+same-length-2 c = c .before .before .note .kept .0
 
-note-requires : tie.Need-note-requires Inv-loop μ-loop
-note-requires c κs = (omega (arith, c .before .before .before .before .long .ensures, c .before .before .before .before .before .before .before .before .pre .1), rw (c .write-at .ensures, c .before .before .before .loop .inv .size) (c .before .before .before .before .before .before .before .before .pre .2 .slot _ (c .before .before .loop-test .taken)))
-
-add-s : tie.Need-add-s Inv-loop μ-loop
-add-s c = search needs
-
-loop-less : tie.Need-loop-less Inv-loop μ-loop
-loop-less c = search needs
-
-loop-again : tie.Need-loop-again Inv-loop μ-loop
-loop-again c = writing-more _ (λ v. noted-twice _ v (c .before .before .before .before .before .before .before .before .before .before .before .pre .1)) _ _ _ _ _ (c .before .before .before .before .before .loop-test .taken) (c .before .before .before .before .before .before .before .before .before .before .before .pre .2) (c .before .before .before .before .before .before .loop .inv) _ (c .before .before .before .write-at .ensures) (rw (c .before .before .before .before .before .before .before .long .ensures) at (c .before .before .note .ensures))
-
-same-length : tie.Need-same-length Inv-loop μ-loop
-same-length c = c .before .loop .inv .size
-
-returns : tie.Need-returns Inv-loop μ-loop
-returns c = writing-end (c .before .before .before .before .before .before .pre .2 .whole .within) (c .before .loop .inv) (c .loop-test .left)
+returns-2 : tie.Need-returns-2
+returns-2 c =
+    writing-one _ (λ v. noted-twice _ v (c .before .before .before .before .before .before .before .before .before .before .before .pre .1)) _ _
+    (one-write _ _ _ (record { within = c .before .before .before .before .before .before .before .before .before .before .before .pre .2 .whole .within; uses = c .before .before .before .before .before .before .before .before .uses .ensures }) (sym (c .before .before .before .before .before .before .before .later .ensures) ∙ c .before .before .before .before .before .before .if1 .left) _ (c .before .before .before .before .write-at .ensures))
+    (rw (c .before .before .before .before .write-at .ensures) (c .before .before .before .before .before .before .before .before .before .before .before .pre .2 .slot 0 (omega arith)))
+    (c .before .before .before .before .before .before .before .before .before .before .before .pre .2 .room)
+    (rw (c .before .before .before .long .ensures) at (c .before .before .note .ensures))
 
 pub note-record-spec : {M : Type 1} → statement M
 note-record-spec =
     tie.close
     (tie.spec
-    Inv-loop
-    μ-loop
     uses-requires
-    long-requires
-    loop-holds
-    write-at-requires
-    note-requires
-    add-s
-    loop-less
-    loop-again
+    later-requires
+    note-all-requires
     same-length
-    returns)
+    returns
+    write-at-requires
+    long-requires
+    note-requires
+    same-length-2
+    returns-2)
