@@ -54,7 +54,7 @@ module _ (C : View) (n m : ℕ) where
     pub once : quiet ≡ true → (p : ℕ) → p < m → T (in-set U p) → T (pass-ok C n (not ahead) (in-set U) p)
     pub twice : done ≡ true → (p : ℕ) → p < m → T (in-set U p) → T (cycle-ok C n (in-set U) p)
 
-  pub settling-start : {S : List ℕ} {r : ℕ} → r ≡ members S → Settling S S true false false r
+  pub settling-start : {S : List ℕ} {r : ℕ} → r ≡ members S → Settling S S false false false r
   settling-start e = record { size = refl; within = λ p t. t; holds = λ L s k. s; count = e; once = λ z. clash z refl; twice = λ z. clash z refl }
 
   pub settling-more : {S U W : List ℕ} {a q z : Bool} {r d : ℕ} → Settling S U a q z r → Passed (pass-ok C n a) 0 m U W d → Settling S W (not a) (eqb d 0) (q && eqb d 0) (r - d)

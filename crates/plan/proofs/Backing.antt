@@ -1,68 +1,76 @@
--- The backward pass: registers awaited, one position after the other, last to first. Assumes nothing.
+-- The backward pass: registers awaited and what is kept, one position after the other, last to first. Assumes nothing.
 use mathlib.Core.Path.{_≡_, refl, sym, ap, ap₂, _∙_, subst}
 use mathlib.Core.Logic.{_⊎_, inl, inr, ⊎-elim}
 use mathlib.Core.Bool.{Bool, true, false, not, _&&_, _||_, cond}
 use mathlib.Core.List.{List, [], _∷_}
-use Prim.Native.Nat.{ℕ, zero, suc, _+_, _-_, _%_, _≤_, _<_}
+use Prim.Native.Nat.{ℕ, zero, suc, _+_, _*_, _-_, _/_, _%_, _≤_, _<_, max}
 use native.Mathlib.Nat.{suc-ne-zero}
 use native.Mathlib.Numerals.{add-one}
 use native.Mathlib.Omega.{arith}
-use borrow.Author.Tests.{eq-eqb, ne-eqb}
-use lib.Dec.{eqb}
+use borrow.Author.Tests.{eq-eqb, ne-eqb, le-leb, lt-leb}
+use lib.Dec.{eqb, leb}
 use lib.ListN.{getD, length, set, replicate}
 use lib.Seq.{getD-set-other}
 use Rattle.words.specs.Lists.{In, upto, all, mem, hit}
 use Rattle.model.specs.Picture.{inst, absent, reads, writes}
 use Rattle.inst.specs.Record.{write-at}
-use Rattle.legalset.specs.Chain.{view, cell, defs-of, reads-of, Fits, Good, Safe}
+use Rattle.words.specs.Last.{last-below}
+use Rattle.legalset.specs.Chain.{view, cell, flag, defs-of, reads-of, writer, Fits, Good, Safe}
 use Rattle.legalset.specs.Marks.{in-set, sifted, lost, own, Passed}
-use Rattle.legalset.specs.Rules.{pending, backward-ok}
+use Rattle.legalset.specs.Rules.{last-kept, pending, backward-ok}
 use Rattle.legalset.proofs.Dropping.{passed-none, passed-down}
 use Rattle.legalset.proofs.Easier.{behind, backward-mono}
 use Rattle.legalset.proofs.Pending.{pending-ext}
-use Rattle.plan.specs.Passes.{stamp, Stamped, Awaits, Awaited, Backed}
+use Rattle.plan.specs.Passes.{over, stamp, since, kept-word, noted, Stamped, Stamps, Awaits, Awaited, Notes, Noted, Backed, Summed}
 use Rattle.plan.proofs.Places.{Placed, all-placed, writes-placed}
-use Rattle.plan.proofs.Summing.{zero-at}
+use Rattle.plan.proofs.Summing.{zero-at, since-low, since-ext, since-all, notes-none, notes-more, notes-writes, notes-barrier, notes-suspension}
 use Rattle.plan.proofs.Forwarding.{skip-sift, skip-lost}
 
 -- ---- what a record writes is not awaited
 
-pub free-absent : (st : List ℕ) (r : ℕ) → r ≡ absent → true ≡ (eqb r absent || eqb (getD st r 0) 0)
-free-absent st r e = sym (ap (λ (b : Bool). b || eqb (getD st r 0) 0) (eq-eqb r absent e))
+pub free-absent : (st : List ℕ) (r : ℕ) → r ≡ absent → true ≡ (eqb r absent || leb (getD st r 0) 1023)
+free-absent st r e = sym (ap (λ (b : Bool). b || leb (getD st r 0) 1023) (eq-eqb r absent e))
 
-pub free-there : (st : List ℕ) (r : ℕ) {k : ℕ} → (r ≡ absent → ⊥) → k ≡ r → eqb (getD st k 0) 0 ≡ (eqb r absent || eqb (getD st r 0) 0)
-free-there st r n e = ap (λ (j : ℕ). eqb (getD st j 0) 0) e ∙ sym (ap (λ (b : Bool). b || eqb (getD st r 0) 0) (ne-eqb r absent n))
+pub free-there : (st : List ℕ) (r : ℕ) {k : ℕ} → (r ≡ absent → ⊥) → k ≡ r → leb (getD st k 0) 1023 ≡ (eqb r absent || leb (getD st r 0) 1023)
+free-there st r n e = ap (λ (j : ℕ). leb (getD st j 0) 1023) e ∙ sym (ap (λ (b : Bool). b || leb (getD st r 0) 1023) (ne-eqb r absent n))
 
 pub writes-all : {recs : List ℕ} {R g : ℕ} (st : List ℕ) → Fits recs R g
-    → all (λ k. eqb (write-at (inst recs g) k) absent || eqb (getD st (write-at (inst recs g) k) 0) 0) (upto 5) ≡ all (λ x. eqb (getD st x 0) 0) (writes (inst recs g))
-writes-all {recs} {R} {g} st f = sym (all-placed (writes-placed recs g (f .within)) (λ x. eqb (getD st x 0) 0))
+    → all (λ k. eqb (write-at (inst recs g) k) absent || leb (getD st (write-at (inst recs g) k) 0) 1023) (upto 5) ≡ all (λ x. leb (getD st x 0) 1023) (writes (inst recs g))
+writes-all {recs} {R} {g} st f = sym (all-placed (writes-placed recs g (f .within)) (λ x. leb (getD st x 0) 1023))
 
 -- ---- what a kept position reads is
 
 pub awaited-none : (rd : ℕ → List ℕ) (L : ℕ → Bool) (q : ℕ) (st : List ℕ) {b : Bool} → b ≡ L q → b ≡ true → Awaited rd L q st st
-awaited-none rd L q st e t = record { size = refl; each = λ r h. sym (ap (λ (x : Bool). cond (not x && mem r (rd q)) 1 (getD st r 0)) (sym e ∙ t)) }
-
-pub awaited-one : (rd : ℕ → List ℕ) (L : ℕ → Bool) (q : ℕ) {st st′ : List ℕ} {b : Bool} → b ≡ L q → b ≡ false → Stamped (rd q) 1 1 st st′ → Awaited rd L q st st′
 unfolding stamp
-awaited-one rd L q {st} {st′} e t s = record { size = s .size; each = λ r h. s .each r h ∙ is (mem r (rd q)) (getD st r 0) ∙ ap (λ (y : Bool). cond (not y && mem r (rd q)) 1 (getD st r 0)) (sym t ∙ e) }
-  where
-    is : (c : Bool) (y : ℕ) → cond c (y % 1 + 1) y ≡ cond c 1 y
-    is true y = omega arith
-    is false y = refl
+awaited-none rd L q st e t = record { size = refl; each = λ r h. sym (ap (λ (x : Bool). stamp 1024 0 1024 (not x && mem r (rd q)) (getD st r 0)) (sym e ∙ t)) }
 
-pub backed : {defs rd : ℕ → List ℕ} {q r : ℕ} {st mid st′ marks marks′ : List ℕ} {b : Bool} → b ≡ (not (in-set marks q) || all (λ x. eqb (getD st x 0) 0) (defs q))
-    → (marks′ ≡ sifted marks q b) × (r ≡ lost marks q b) → Stamped (defs q) 1 0 st mid → Awaited rd (in-set marks′) q mid st′ → Backed defs rd q st marks st′ marks′ r
-unfolding stamp
-backed {defs} {rd} {q} {st = st} {marks = marks} {marks′ = marks′} t d s a = record {
-  size = a .size ∙ s .size;
-  each = λ v h. a .each v (subst (λ (m : ℕ). v < m) (sym (s .size)) h) ∙ ap (cond (not (in-set marks′ q) && mem v (rd q)) 1) (s .each v h ∙ is (mem v (defs q)) (getD st v 0));
+pub awaited-one : (rd : ℕ → List ℕ) (L : ℕ → Bool) (q : ℕ) {st st′ : List ℕ} {b : Bool} → b ≡ L q → b ≡ false → Stamped (rd q) 1024 0 1024 st st′ → Awaited rd L q st st′
+awaited-one rd L q {st} {st′} e t s = record { size = s .size; each = λ r h. s .each r h ∙ ap (λ (y : Bool). stamp 1024 0 1024 (not y && mem r (rd q)) (getD st r 0)) (sym t ∙ e) }
+
+pub kept-no : (in? : Bool) (q : ℕ) {y : Bool} → y ≡ in? → y ≡ true → 0 ≡ kept-word in? q
+unfolding kept-word
+kept-no in? q e t = sym (ap (λ (x : Bool). cond x 0 (q + 1)) (sym e ∙ t))
+
+pub kept-yes : (in? : Bool) (q : ℕ) {y : Bool} → y ≡ in? → y ≡ false → q + 1 ≡ kept-word in? q
+unfolding kept-word
+kept-yes in? q e t = sym (ap (λ (x : Bool). cond x 0 (q + 1)) (sym e ∙ t))
+
+pub kept-few : (in? : Bool) (q : ℕ) {x : ℕ} → q < 800 → x ≡ kept-word in? q → x ≤ 800
+unfolding kept-word
+kept-few true q h e = omega arith
+kept-few false q h e = omega arith
+
+pub backed : {w : List ℕ} {defs rd : ℕ → List ℕ} {q r k : ℕ} {st mid st′ ls ls′ marks marks′ : List ℕ} {b : Bool} → b ≡ (not (in-set marks q) || all (λ x. leb (getD st x 0) 1023) (defs q))
+    → (marks′ ≡ sifted marks q b) × (r ≡ lost marks q b) → k ≡ kept-word (in-set marks′ q) q → Stamped (defs q) 1024 k 0 st mid
+    → Awaited rd (in-set marks′) q mid st′ × Noted w (in-set marks′) q ls ls′ → Backed w defs rd q st ls marks st′ ls′ marks′ r
+backed {defs = defs} {rd = rd} {q = q} {st = st} {marks = marks} {marks′ = marks′} t d e s a = record {
+  size = a .0 .size ∙ s .size;
+  each = λ v h. a .0 .each v (subst (λ (m : ℕ). v < m) (sym (s .size)) h)
+      ∙ ap (stamp 1024 0 1024 (not (in-set marks′ q) && mem v (rd q))) (s .each v h ∙ ap (λ (x : ℕ). stamp 1024 x 0 (mem v (defs q)) (getD st v 0)) e);
+  notes = a .1;
   sifts = d .0 ∙ skip-sift marks q _ t;
   loses = d .1 ∙ skip-lost marks q _ t;
 }
-  where
-    is : (c : Bool) (y : ℕ) → cond c (y % 1 + 0) y ≡ cond c 0 y
-    is true y = omega arith
-    is false y = refl
 
 -- ---- the pass
 
@@ -84,68 +92,139 @@ sifted-other S p ok z n = go (in-set S p && not ok)
     go true = ap (λ (x : ℕ). not (eqb x 0)) (getD-set-other S p z 0 0 n)
     go false = refl
 
+hit-low : (b : Bool) → hit b ≤ 1
+hit-low true = omega arith
+hit-low false = omega arith
+
+-- a write: awaited no longer, and noted if it is the last kept one
+write-step : (s : ℕ) (L md p : Bool) (q : ℕ) → s ≤ 800 → q < 800 → stamp 1024 (kept-word L q) 0 md (s + 1024 * hit p) ≡ max s (cond (not L && md) (q + 1) 0) + 1024 * hit (not md && p)
+unfolding stamp over kept-word
+write-step s true true p q h l = let k = hit-low p in omega arith
+write-step s true false p q h l = omega arith
+write-step s false true p q h l = let k = hit-low p in omega arith
+write-step s false false p q h l = omega arith
+
+-- a read by a kept position
+read-step : (s : ℕ) (a b : Bool) → s ≤ 800 → stamp 1024 0 1024 a (s + 1024 * hit b) ≡ s + 1024 * hit (a || b)
+unfolding stamp over
+read-step s true b h = let k = hit-low b in omega arith
+read-step s false b h = refl
+
 module _ (marks : List ℕ) {recs ops w : List ℕ} {n R q : ℕ} (s : Safe recs ops w n R) (h : q < n) {st : List ℕ} (size : length st ≡ R) (i : Awaits (defs-of recs w) (reads-of recs ops w) (in-set marks) n (q + 1) st) where
-  pub back-is : all (λ x. eqb (getD st x 0) 0) (defs-of recs w q) ≡ backward-ok (defs-of recs w) (reads-of recs ops w) n (in-set marks) q
+  pub back-is : all (λ x. leb (getD st x 0) 1023) (defs-of recs w q) ≡ backward-ok (defs-of recs w) (reads-of recs ops w) n (in-set marks) q
   unfolding backward-ok
-  back-is = all-on (λ x. eqb (getD st x 0) 0) (λ r. not (pending (defs-of recs w) (reads-of recs ops w) (in-set marks) r (q + 1) (n - (q + 1)))) (defs-of recs w q)
-      (λ r j. ap (λ (y : ℕ). eqb y 0) (i .each r (subst (λ (m : ℕ). r < m) (sym size) (writes-low recs R (cell w q 0) (s .good q h .fits) r j))) ∙ none (pending (defs-of recs w) (reads-of recs ops w) (in-set marks) r (q + 1) (n - (q + 1))))
+  back-is = all-on (λ x. leb (getD st x 0) 1023) (λ r. not (pending (defs-of recs w) (reads-of recs ops w) (in-set marks) r (q + 1) (n - (q + 1)))) (defs-of recs w q)
+      (λ r j. ap (λ (y : ℕ). leb y 1023) (i .each r (subst (λ (m : ℕ). r < m) (sym size) (writes-low recs R (cell w q 0) (s .good q h .fits) r j)))
+      ∙ none (since (λ z. not (in-set marks z) && mem r (defs-of recs w z)) (q + 1) (n - (q + 1))) (pending (defs-of recs w) (reads-of recs ops w) (in-set marks) r (q + 1) (n - (q + 1)))
+      (since-low (λ z. not (in-set marks z) && mem r (defs-of recs w z)) (q + 1) (n - (q + 1))))
     where
-      none : (b : Bool) → eqb (hit b) 0 ≡ not b
-      none true = refl
-      none false = refl
+      none : (k : ℕ) (b : Bool) → k ≤ q + 1 + (n - (q + 1)) → leb (k + 1024 * hit b) 1023 ≡ not b
+      none k true l = lt-leb (k + 1024) 1023 (omega arith)
+      none k false l = let f = s .few in le-leb (k + 0) 1023 (omega arith)
 
-  pub awaits-next : {st′ marks′ : List ℕ} {d : ℕ} → Backed (defs-of recs w) (reads-of recs ops w) q st marks st′ marks′ d → Awaits (defs-of recs w) (reads-of recs ops w) (in-set marks′) n q st′
-  unfolding pending
-  awaits-next {st′} {marks′} k = record { each = λ r l. one r (subst (λ (m : ℕ). r < m) (k .size) l) }
-    where
-      go : (a b c : Bool) → cond a 1 (cond b 0 (hit c)) ≡ hit (a || (not b && c))
-      go true b c = refl
-      go false true c = refl
-      go false false c = refl
+  module _ {ls st′ ls′ marks′ : List ℕ} {d : ℕ} (k : Backed w (defs-of recs w) (reads-of recs ops w) q st ls marks st′ ls′ marks′ d) where
+    same : (z : ℕ) → suc q ≤ z → in-set marks z ≡ in-set marks′ z
+    same z l = sym (ap (λ (S : List ℕ). in-set S z) (k .sifts) ∙ sifted-other marks q _ z (λ e. omega arith))
 
-      same : (z : ℕ) → suc q ≤ z → in-set marks z ≡ in-set marks′ z
-      same z l = sym (ap (λ (S : List ℕ). in-set S z) (k .sifts) ∙ sifted-other marks q _ z (λ e. omega arith))
+    pub notes-next : Notes w (in-set marks) n (q + 1) ls → Notes w (in-set marks′) n q ls′
+    notes-next i = notes-more h same i (k .notes)
 
-      one : (r : ℕ) → r < length st → getD st′ r 0 ≡ hit (pending (defs-of recs w) (reads-of recs ops w) (in-set marks′) r q (n - q))
-      one r l =
-          let e : suc (n - (q + 1)) ≡ n - q = omega arith in
-          k .each r l
-          ∙ ap (λ (y : ℕ). cond (not (in-set marks′ q) && mem r (reads-of recs ops w q)) 1 (cond (mem r (defs-of recs w q)) 0 y)) (i .each r l)
-          ∙ ap (λ (y : ℕ). cond (not (in-set marks′ q) && mem r (reads-of recs ops w q)) 1 (cond (mem r (defs-of recs w q)) 0 (hit (pending (defs-of recs w) (reads-of recs ops w) (in-set marks) r y (n - (q + 1)))))) (add-one q)
-          ∙ ap (λ (y : Bool). cond (not (in-set marks′ q) && mem r (reads-of recs ops w q)) 1 (cond (mem r (defs-of recs w q)) 0 (hit y)))
-          (pending-ext (view recs ops w []) n (in-set marks) (in-set marks′) r (suc q) (n - (q + 1)) same)
-          ∙ go (not (in-set marks′ q) && mem r (reads-of recs ops w q)) (mem r (defs-of recs w q)) (pending (defs-of recs w) (reads-of recs ops w) (in-set marks′) r (suc q) (n - (q + 1)))
-          ∙ ap (λ (y : ℕ). hit (pending (defs-of recs w) (reads-of recs ops w) (in-set marks′) r q y)) e
+    -- each register's last kept writer behind q
+    abbrev more : ℕ → ℕ
+    more r = since (λ z. not (in-set marks′ z) && mem r (defs-of recs w z)) (suc q) (n - (q + 1))
+
+    pub awaits-next : Awaits (defs-of recs w) (reads-of recs ops w) (in-set marks′) n q st′
+    unfolding pending since
+    awaits-next = record { each = λ r l. one r (subst (λ (m : ℕ). r < m) (k .size) l) }
+      where
+        since-is : (r : ℕ) → since (λ z. not (in-set marks z) && mem r (defs-of recs w z)) (q + 1) (n - (q + 1)) ≡ more r
+        since-is r = ap (λ (x : ℕ). since (λ z. not (in-set marks z) && mem r (defs-of recs w z)) x (n - (q + 1))) (add-one q)
+            ∙ since-ext (λ z. not (in-set marks z) && mem r (defs-of recs w z)) (λ z. not (in-set marks′ z) && mem r (defs-of recs w z)) (suc q) (n - (q + 1)) (λ z u. ap (λ (b : Bool). not b && mem r (defs-of recs w z)) (same z u))
+
+        low : (r : ℕ) → more r ≤ 800
+        low r = let a = since-low (λ z. not (in-set marks′ z) && mem r (defs-of recs w z)) (suc q) (n - (q + 1)) in let f = s .few in omega arith
+
+        top : (r : ℕ) (b : Bool) → more r ≤ 800 → max (more r) (cond b (q + 1) 0) ≤ 800
+        top r true l = let f = s .few in omega arith
+        top r false l = omega arith
+
+        pends : (r : ℕ) → pending (defs-of recs w) (reads-of recs ops w) (in-set marks) r (q + 1) (n - (q + 1)) ≡ pending (defs-of recs w) (reads-of recs ops w) (in-set marks′) r (suc q) (n - (q + 1))
+        pends r = ap (λ (y : ℕ). pending (defs-of recs w) (reads-of recs ops w) (in-set marks) r y (n - (q + 1))) (add-one q)
+            ∙ pending-ext (view recs ops w []) n (in-set marks) (in-set marks′) r (suc q) (n - (q + 1)) same
+
+        one : (r : ℕ) → r < length st
+            → getD st′ r 0 ≡ since (λ z. not (in-set marks′ z) && mem r (defs-of recs w z)) q (n - q) + 1024 * hit (pending (defs-of recs w) (reads-of recs ops w) (in-set marks′) r q (n - q))
+        one r l =
+            let e : suc (n - (q + 1)) ≡ n - q = omega arith in
+            let f = s .few in
+            k .each r l
+            ∙ ap (λ (y : ℕ). stamp 1024 0 1024 (not (in-set marks′ q) && mem r (reads-of recs ops w q)) (stamp 1024 (kept-word (in-set marks′ q) q) 0 (mem r (defs-of recs w q)) y))
+            (i .each r l ∙ ap₂ (λ (x : ℕ) (b : Bool). x + 1024 * hit b) (since-is r) (pends r))
+            ∙ ap (stamp 1024 0 1024 (not (in-set marks′ q) && mem r (reads-of recs ops w q)))
+            (write-step (more r) (in-set marks′ q) (mem r (defs-of recs w q)) (pending (defs-of recs w) (reads-of recs ops w) (in-set marks′) r (suc q) (n - (q + 1))) q (low r) (omega arith))
+            ∙ read-step (max (more r) (cond (not (in-set marks′ q) && mem r (defs-of recs w q)) (q + 1) 0)) (not (in-set marks′ q) && mem r (reads-of recs ops w q))
+            (not (mem r (defs-of recs w q)) && pending (defs-of recs w) (reads-of recs ops w) (in-set marks′) r (suc q) (n - (q + 1))) (top r (not (in-set marks′ q) && mem r (defs-of recs w q)) (low r))
+            ∙ ap (λ (x : ℕ). since (λ z. not (in-set marks′ z) && mem r (defs-of recs w z)) q x + 1024 * hit (pending (defs-of recs w) (reads-of recs ops w) (in-set marks′) r q x)) e
 
 -- the positions from q on are done
-pub record Backing (recs ops w : List ℕ) (n q : ℕ) (st₀ marks₀ st marks : List ℕ) (r : ℕ) : Type 0 where
+pub record Backing (recs ops w : List ℕ) (n q : ℕ) (st₀ marks₀ st ls marks : List ℕ) (r : ℕ) : Type 0 where
   pub size : length st ≡ length st₀
   pub awaits : Awaits (defs-of recs w) (reads-of recs ops w) (in-set marks) n q st
+  pub notes : Notes w (in-set marks) n q ls
   pub passed : Passed (backward-ok (defs-of recs w) (reads-of recs ops w) n) q n marks₀ marks r
 
-pub backing-none : (recs ops w : List ℕ) (n : ℕ) (st marks : List ℕ) → st ≡ replicate (length st) 0 → Backing recs ops w n n st marks st marks 0
-unfolding pending
-backing-none recs ops w n st marks e = record {
+pub backing-none : (recs ops w : List ℕ) (n : ℕ) (st : List ℕ) {ls : List ℕ} (marks : List ℕ) → st ≡ replicate (length st) 0 → ls ≡ replicate 2008 0 → Backing recs ops w n n st marks st ls marks 0
+unfolding pending since
+backing-none recs ops w n st marks e f = record {
   size = refl;
-  awaits = record { each = λ r h. let z : 0 ≡ n - n = omega arith in zero-at e r ∙ ap (λ (y : ℕ). hit (pending (defs-of recs w) (reads-of recs ops w) (in-set marks) r n y)) z };
+  awaits = record {
+    each = λ r h. let z : 0 ≡ n - n = omega arith in
+        zero-at e r ∙ ap (λ (y : ℕ). since (λ z. not (in-set marks z) && mem r (defs-of recs w z)) n y + 1024 * hit (pending (defs-of recs w) (reads-of recs ops w) (in-set marks) r n y)) z;
+  };
+  notes = notes-none w (in-set marks) n f;
   passed = passed-none (behind (view recs ops w []) n) n marks;
 }
 
-pub backing-more : {recs ops w : List ℕ} {n q : ℕ} {st₀ marks₀ st marks st′ marks′ : List ℕ} {r d : ℕ} → Safe recs ops w n (length st₀) → 0 < q → q ≤ n
-    → Backing recs ops w n q st₀ marks₀ st marks r → Backed (defs-of recs w) (reads-of recs ops w) (q - 1) st marks st′ marks′ d → Backing recs ops w n (q - 1) st₀ marks₀ st′ marks′ (r + d)
-backing-more {recs} {ops} {w} {n} {q} {st₀} {marks₀} {st} {marks} s l h i k =
+pub backing-more : {recs ops w : List ℕ} {n q : ℕ} {st₀ marks₀ st ls marks st′ ls′ marks′ : List ℕ} {r d : ℕ} → Safe recs ops w n (length st₀) → 0 < q → q ≤ n
+    → Backing recs ops w n q st₀ marks₀ st ls marks r → Backed w (defs-of recs w) (reads-of recs ops w) (q - 1) st ls marks st′ ls′ marks′ d → Backing recs ops w n (q - 1) st₀ marks₀ st′ ls′ marks′ (r + d)
+backing-more {recs} {ops} {w} {n} {q} {st₀} {marks₀} {st} {ls} {marks} s l h i k =
     let e : q ≡ q - 1 + 1 = omega arith in
     let a = subst (λ (y : ℕ). Awaits (defs-of recs w) (reads-of recs ops w) (in-set marks) n y st) e (i .awaits) in
     record {
       size = k .size ∙ i .size;
       awaits = awaits-next marks s (omega arith) (i .size) a k;
+      notes = notes-next marks s (omega arith) (i .size) a k (subst (λ (y : ℕ). Notes w (in-set marks) n y ls) e (i .notes));
       passed = passed-down (behind (view recs ops w []) n) (backward-mono (view recs ops w []) n) l (i .passed) (back-is marks s (omega arith) (i .size) a) (k .sifts) (k .loses);
     }
 
-pub backing-end : {recs ops w : List ℕ} {n q : ℕ} {st₀ marks₀ st marks : List ℕ} {r : ℕ} → Backing recs ops w n q st₀ marks₀ st marks r → q ≤ 0
-    → Passed (backward-ok (defs-of recs w) (reads-of recs ops w) n) 0 n marks₀ marks r × (length st ≡ length st₀)
-backing-end {recs} {ops} {w} {n} {q} {marks₀ = marks₀} {marks = marks} {r = r} i h =
-    let e : q ≡ 0 = omega arith in (subst (λ (y : ℕ). Passed (backward-ok (defs-of recs w) (reads-of recs ops w) n) y n marks₀ marks r) e (i .passed), i .size)
+-- what is awaited and noted at the end is the summary of the marks
+stamps-of : {recs ops w : List ℕ} {n R : ℕ} {L : ℕ → Bool} {st : List ℕ} → Safe recs ops w n R → Awaits (defs-of recs w) (reads-of recs ops w) L n 0 st → Stamps (defs-of recs w) L n 0 st
+unfolding last-kept writer last-below
+stamps-of {recs} {ops} {w} {n} {R} {L} {st} s i = record { kept = λ r h. parts r h .0; wrote = λ r h. parts r h .1 }
+  where
+    parts : (r : ℕ) → r < length st → (getD st r 0 % 1024 ≡ last-below (λ q. not (L q) && mem r (defs-of recs w q)) n) × (getD st r 0 / 2048 ≡ 0)
+    parts r h =
+        let e = i .each r h in
+        let a = since-all (λ z. not (L z) && mem r (defs-of recs w z)) n in
+        let l = since-low (λ z. not (L z) && mem r (defs-of recs w z)) 0 (n - 0) in
+        let f = s .few in
+        let k = hit-low (pending (defs-of recs w) (reads-of recs ops w) L r 0 (n - 0)) in
+        (omega arith, omega arith)
+
+pub backing-end : {recs ops w : List ℕ} {n q : ℕ} {st₀ marks₀ st ls marks : List ℕ} {r : ℕ} → Safe recs ops w n (length st₀) → Backing recs ops w n q st₀ marks₀ st ls marks r → q ≤ 0
+    → Passed (backward-ok (defs-of recs w) (reads-of recs ops w) n) 0 n marks₀ marks r × (length st ≡ length st₀) × Summed recs w n 0 st ls marks
+backing-end {recs} {ops} {w} {n} {q} {marks₀ = marks₀} {st = st} {ls = ls} {marks = marks} {r = r} s i h =
+    let e : q ≡ 0 = omega arith in
+    let a = subst (λ (y : ℕ). Notes w (in-set marks) n y ls) e (i .notes) in (
+      subst (λ (y : ℕ). Passed (backward-ok (defs-of recs w) (reads-of recs ops w) n) y n marks₀ marks r) e (i .passed),
+      i .size,
+      record {
+        stamps = stamps-of s (subst (λ (y : ℕ). Awaits (defs-of recs w) (reads-of recs ops w) (in-set marks) n y st) e (i .awaits));
+        writes = notes-writes s a;
+        barrier = notes-barrier s a;
+        suspension = notes-suspension s a;
+      },
+    )
 
 pub sifted-size : {W : List ℕ} (S : List ℕ) (p : ℕ) (ok : Bool) → W ≡ sifted S p ok → length W ≡ length S
 unfolding sifted

@@ -3,7 +3,7 @@ use mathlib.Core.Path.{_≡_, refl, sym, ap, ap₂, _∙_, subst}
 use mathlib.Core.Logic.{_⊎_, inl, inr, ⊎-elim}
 use mathlib.Core.Bool.{Bool, true, false, not, _&&_, _||_, cond}
 use mathlib.Core.List.{List, [], _∷_, map}
-use Prim.Native.Nat.{ℕ, zero, suc, _+_, _*_, _-_, _/_, _%_, _≤_, _<_}
+use Prim.Native.Nat.{ℕ, zero, suc, _+_, _*_, _-_, _/_, _%_, _≤_, _<_, max}
 use native.Mathlib.Numerals.{add-one}
 use native.Mathlib.Omega.{arith}
 use lib.Dec.{eqb, leb}
@@ -18,7 +18,7 @@ use Rattle.legalset.specs.Rules.{last-kept, read-fine, org-fine, own-memory, st
 use Rattle.legalset.proofs.Lasting.{kept-low, writer-low, last-step}
 use Rattle.legalset.proofs.Dropping.{passed-none, passed-up}
 use Rattle.legalset.proofs.Easier.{forward-mono}
-use Rattle.plan.specs.Passes.{stamp, Stamped, Beside, Stamps, Writes, read-test, org-test, from-test, memory-test, stay-test, Near, Forwarded, Summed}
+use Rattle.plan.specs.Passes.{over, stamp, Stamped, Stamps, Writes, read-test, org-test, from-test, memory-test, stay-test, Near, Forwarded, Summed}
 use Rattle.plan.proofs.Places.{Placed, reads-placed, read-low}
 
 all-on : {A : Type 0} (f g : A → Bool) (xs : List A) → ((a : A) → In a xs → f a ≡ g a) → all f xs ≡ all g xs
@@ -76,19 +76,11 @@ module _ (w regs ops : List ℕ) (i : Inst) where
 
 module _ (regs marks : List ℕ) {recs ops w : List ℕ} {n R p : ℕ} (s : Safe recs ops w n R) (h : p < n) {L₀ : ℕ → Bool} {st lasts : List ℕ} {sus bar : ℕ} (size : length st ≡ R)
     (x : Stamps (defs-of recs w) L₀ n p st) (y : Writes (λ q. cell w q 4) L₀ n lasts) (eb : bar ≡ last-kept L₀ (flag w 8) n) (es : sus ≡ last-kept L₀ (flag w 16) n) where
-  writer-at : (r : ℕ) → r < R → getD st r 0 / 1024 ≡ writer (defs-of recs w) r p
-  writer-at r l =
-      let e = x .each r (subst (λ (m : ℕ). r < m) (sym size) l) in
-      let k = kept-low L₀ (λ q. mem r (defs-of recs w q)) n in
-      let f = s .few in
-      omega arith
+  writer-at : (r : ℕ) → r < R → getD st r 0 / 2048 ≡ writer (defs-of recs w) r p
+  writer-at r l = x .wrote r (subst (λ (m : ℕ). r < m) (sym size) l)
 
   kept-at : (r : ℕ) → r < R → getD st r 0 % 1024 ≡ last-kept L₀ (λ q. mem r (defs-of recs w q)) n
-  kept-at r l =
-      let e = x .each r (subst (λ (m : ℕ). r < m) (sym size) l) in
-      let k = kept-low L₀ (λ q. mem r (defs-of recs w q)) n in
-      let f = s .few in
-      omega arith
+  kept-at r l = x .kept r (subst (λ (m : ℕ). r < m) (sym size) l)
 
   pub reads-are : all (read-test st marks p) (reads ops (inst recs (cell w p 0))) ≡ reads-ok (view recs ops w regs) n L₀ (in-set marks) p
   unfolding read-test reads-ok
@@ -98,7 +90,7 @@ module _ (regs marks : List ℕ) {recs ops w : List ℕ} {n R p : ℕ} (s : Safe
   froms-are : from-test w regs ops (inst recs (cell w p 0)) st lasts bar p ≡ origins-ok (view recs ops w regs) n L₀ p
   unfolding from-test org-test origins-ok
   froms-are =
-      ap (all (org-test lasts bar p)) (origins-ext w regs ops (inst recs (cell w p 0)) (λ r. getD st r 0 / 1024) (λ r. writer (defs-of recs w) r p)
+      ap (all (org-test lasts bar p)) (origins-ext w regs ops (inst recs (cell w p 0)) (λ r. getD st r 0 / 2048) (λ r. writer (defs-of recs w) r p)
       (λ r i. writer-at r (list-in-low recs ops R (cell w p 0) (s .good p h) r i)) (cell w p 5))
       ∙ all-on (org-test lasts bar p) (λ o. org-fine p (last-kept L₀ (flag w 8) n) (last-kept L₀ (λ q. eqb (cell w q 4) 1) n) (last-kept L₀ (λ q. eqb (cell w q 4) (o + 1)) n) o)
       (origins w regs ops (inst recs (cell w p 0)) (λ r. writer (defs-of recs w) r p) (cell w p 5)) one
@@ -108,7 +100,7 @@ module _ (regs marks : List ℕ) {recs ops w : List ℕ} {n R p : ℕ} (s : Safe
       one o i =
           let l = origins-low w regs ops (inst recs (cell w p 0)) n (s .org) (λ r. writer (defs-of recs w) r p) (λ r. let z = writer-low (defs-of recs w) r p in omega arith) (cell w p 5) (s .from p h) o i in
           ap (λ (z : ℕ). org-fine p z (getD lasts 1 0) (getD lasts (o + 1) 0) o) eb
-          ∙ ap₂ (λ (a b : ℕ). org-fine p (last-kept L₀ (flag w 8) n) a b o) (y .each 1 (omega arith) (omega arith)) (y .each (o + 1) (omega arith) (omega arith))
+          ∙ ap₂ (λ (a b : ℕ). org-fine p (last-kept L₀ (flag w 8) n) a b o) (y .each 1 (omega arith)) (y .each (o + 1) (omega arith))
 
   pub memory-are : memory-test recs ops w regs st lasts (cell w p 0) bar p ≡ memory-ok (view recs ops w regs) n L₀ p
   unfolding memory-test memory-ok
@@ -132,22 +124,23 @@ module _ (regs marks : List ℕ) {recs ops w : List ℕ} {n R p : ℕ} (s : Safe
   }
 
 -- the next position's writers
-stamps-more : {defs : ℕ → List ℕ} {L : ℕ → Bool} {n p : ℕ} {st st′ : List ℕ} → n ≤ 800 → Stamps defs L n p st → Stamped (defs p) 1024 (1024 * (p + 1)) st st′ → Stamps defs L n (p + 1) st′
-unfolding stamp writer
-stamps-more {defs} {L} {n} {p} {st} {st′} few i k = record { each = λ r h. one r (subst (λ (m : ℕ). r < m) (k .size) h) }
+stamps-more : {defs : ℕ → List ℕ} {L : ℕ → Bool} {n p : ℕ} {st st′ : List ℕ} → Stamps defs L n p st → Stamped (defs p) 2048 0 (2048 * (p + 1)) st st′ → Stamps defs L n (p + 1) st′
+unfolding stamp over writer
+stamps-more {defs} {L} {n} {p} {st} {st′} i k = record { kept = λ r h. below r (subst (λ (m : ℕ). r < m) (k .size) h); wrote = λ r h. above r (subst (λ (m : ℕ). r < m) (k .size) h) }
   where
-    go : (r : ℕ) (b : Bool) → getD st r 0 ≡ last-kept L (λ q. mem r (defs q)) n + 1024 * last-below (λ q. mem r (defs q)) p → last-kept L (λ q. mem r (defs q)) n ≤ n
-        → cond b (getD st r 0 % 1024 + 1024 * (p + 1)) (getD st r 0) ≡ last-kept L (λ q. mem r (defs q)) n + 1024 * cond b (suc p) (last-below (λ q. mem r (defs q)) p)
-    go r true e l = omega arith
-    go r false e l = e
+    below : (r : ℕ) → r < length st → getD st′ r 0 % 1024 ≡ last-kept L (λ q. mem r (defs q)) n
+    below r h = ap (λ (y : ℕ). y % 1024) (k .each r h) ∙ go (mem r (defs p)) ∙ i .kept r h
+      where
+        go : (b : Bool) → cond b (max (getD st r 0 % 2048) 0 + 2048 * (p + 1)) (getD st r 0) % 1024 ≡ getD st r 0 % 1024
+        go true = omega arith
+        go false = refl
 
-    one : (r : ℕ) → r < length st → getD st′ r 0 ≡ last-kept L (λ q. mem r (defs q)) n + 1024 * last-below (λ q. mem r (defs q)) (p + 1)
-    one r h =
-        k .each r h ∙ go r (mem r (defs p)) (i .each r h) (kept-low L (λ q. mem r (defs q)) n)
-        ∙ ap (λ (z : ℕ). last-kept L (λ q. mem r (defs q)) n + 1024 * z) (sym (ap (last-below (λ q. mem r (defs q))) (add-one p) ∙ last-step (λ q. mem r (defs q)) p))
-
-pub two-stamps : (v : ℕ) → v < 800 → Beside 1024 (1024 * (v + 1))
-two-stamps v h = record { some = omega arith; small = omega arith; twice = λ x. omega arith }
+    above : (r : ℕ) → r < length st → getD st′ r 0 / 2048 ≡ last-below (λ q. mem r (defs q)) (p + 1)
+    above r h = ap (λ (y : ℕ). y / 2048) (k .each r h) ∙ go (mem r (defs p)) (i .wrote r h) ∙ sym (ap (last-below (λ q. mem r (defs q))) (add-one p) ∙ last-step (λ q. mem r (defs q)) p)
+      where
+        go : (b : Bool) → getD st r 0 / 2048 ≡ last-below (λ q. mem r (defs q)) p → cond b (max (getD st r 0 % 2048) 0 + 2048 * (p + 1)) (getD st r 0) / 2048 ≡ cond b (suc p) (last-below (λ q. mem r (defs q)) p)
+        go true e = omega arith
+        go false e = e
 
 -- the first p positions are done
 pub record Going (recs ops w regs : List ℕ) (n p : ℕ) (st₀ marks₀ st marks : List ℕ) (r : ℕ) : Type 0 where
@@ -155,20 +148,20 @@ pub record Going (recs ops w regs : List ℕ) (n p : ℕ) (st₀ marks₀ st mar
   pub stamps : Stamps (defs-of recs w) (in-set marks₀) n p st
   pub passed : Passed (own (forward-ok (view recs ops w regs) n)) 0 p marks₀ marks r
 
-pub going-none : {recs ops w regs : List ℕ} {n : ℕ} {st lasts marks : List ℕ} {sus bar : ℕ} → Summed recs ops w regs n 0 st lasts marks sus bar → Going recs ops w regs n 0 st marks st marks 0
+pub going-none : {recs ops w regs : List ℕ} {n : ℕ} {st lasts marks : List ℕ} → Summed recs w n 0 st lasts marks → Going recs ops w regs n 0 st marks st marks 0
 going-none {recs} {ops} {w} {regs} {n} {st} {lasts} {marks} s = record { size = refl; stamps = s .stamps; passed = passed-none (forward-ok (view recs ops w regs) n) 0 marks }
 
-pub going-more : {recs ops w regs : List ℕ} {n p : ℕ} {st₀ marks₀ st marks lasts st′ marks′ : List ℕ} {sus bar r d : ℕ} → Safe recs ops w n (length st₀) → p < n
-    → Summed recs ops w regs n 0 st₀ lasts marks₀ sus bar → Going recs ops w regs n p st₀ marks₀ st marks r → Forwarded recs ops w regs lasts sus bar p st marks st′ marks′ d
+pub going-more : {recs ops w regs : List ℕ} {n p : ℕ} {st₀ marks₀ st marks lasts st′ marks′ : List ℕ} {r d : ℕ} → Safe recs ops w n (length st₀) → p < n
+    → Summed recs w n 0 st₀ lasts marks₀ → Going recs ops w regs n p st₀ marks₀ st marks r → Forwarded recs ops w regs lasts (getD lasts 2007 0) (getD lasts 2006 0) p st marks st′ marks′ d
     → Going recs ops w regs n (p + 1) st₀ marks₀ st′ marks′ (r + d)
 going-more {recs} {ops} {w} {regs} {n} {marks = marks} s h z i f = record {
   size = f .stamped .size ∙ i .size;
-  stamps = stamps-more (s .few) (i .stamps) (f .stamped);
+  stamps = stamps-more (i .stamps) (f .stamped);
   passed = passed-up (forward-ok (view recs ops w regs) n) (forward-mono (view recs ops w regs) n) (i .passed) (stay-is regs marks s h (i .size) (i .stamps) (z .writes) (z .barrier) (z .suspension)) (f .sifts) (f .loses);
 }
 
-pub going-near : {recs ops w regs : List ℕ} {n p : ℕ} {st₀ marks₀ st marks lasts : List ℕ} {sus bar r : ℕ} → Safe recs ops w n (length st₀) → p < n
-    → Summed recs ops w regs n 0 st₀ lasts marks₀ sus bar → Going recs ops w regs n p st₀ marks₀ st marks r → Near w st n
+pub going-near : {recs ops w regs : List ℕ} {n p : ℕ} {st₀ marks₀ st marks lasts : List ℕ} {r : ℕ} → Safe recs ops w n (length st₀) → p < n
+    → Summed recs w n 0 st₀ lasts marks₀ → Going recs ops w regs n p st₀ marks₀ st marks r → Near w st n
 going-near {recs} {ops} {w} {regs} {marks = marks} s h z i = near-is regs marks s h (i .size) (i .stamps) (z .writes) (z .barrier) (z .suspension)
 
 pub going-end : {recs ops w regs : List ℕ} {n p m : ℕ} {st₀ marks₀ st marks : List ℕ} {r : ℕ} → Going recs ops w regs n p st₀ marks₀ st marks r → p ≤ m → m ≤ p
@@ -212,5 +205,5 @@ module _ (S : List ℕ) (p : ℕ) (ok : Bool) {b : Bool} (e : b ≡ (not (in-set
   skip-lost = ap hit skip
 
 pub forwarded : {recs ops w regs lasts st marks st′ marks′ : List ℕ} {sus bar p r : ℕ} {b : Bool} → b ≡ (not (in-set marks p) || stay-test recs ops w regs st lasts marks (cell w p 0) sus bar p)
-    → Stamped (writes (inst recs (cell w p 0))) 1024 (1024 * (p + 1)) st st′ → (marks′ ≡ sifted marks p b) × (r ≡ lost marks p b) → Forwarded recs ops w regs lasts sus bar p st marks st′ marks′ r
+    → Stamped (writes (inst recs (cell w p 0))) 2048 0 (2048 * (p + 1)) st st′ → (marks′ ≡ sifted marks p b) × (r ≡ lost marks p b) → Forwarded recs ops w regs lasts sus bar p st marks st′ marks′ r
 forwarded {marks = marks} {p = p} t k d = record { stamped = k; sifts = d .0 ∙ skip-sift marks p _ t; loses = d .1 ∙ skip-lost marks p _ t }

@@ -4,7 +4,7 @@ use mathlib.Core.Path.{_≡_, _∙_}
 use mathlib.Core.Bool.{Bool, true}
 use mathlib.Core.List.{List}
 use Prim.Native.Nat.{ℕ, _+_, _<_}
-use lib.Dec.{eqb, leb}
+use lib.Dec.{leb}
 use lib.ListN.{getD, length}
 use Rattle.words.specs.Lists.{all}
 use Rattle.model.specs.Analyse.{Fact}
@@ -22,7 +22,7 @@ use Rattle.plan.proofs.Forwarding.{reads-are, suspends-are, memory-are}
 module _ {recs ops w regs : List ℕ} {n p : ℕ} (s : Safe recs ops w n (length regs)) (h : p < n) {run : List Fact} (t : Told recs ops w regs n run) (needed : ℕ → Bool) (marks : List ℕ) where
   -- rule 1: st says what is awaited behind p
   pub rule1-tests : {st : List ℕ} → length st ≡ length regs → Awaits (defs-of recs w) (reads-of recs ops w) (in-set marks) n (p + 1) st
-      → all (λ x. eqb (getD st x 0) 0) (defs-of recs w p) ≡ getD (tests run needed (in-set marks) p) 0 true
+      → all (λ x. leb (getD st x 0) 1023) (defs-of recs w p) ≡ getD (tests run needed (in-set marks) p) 0 true
   rule1-tests e a = back-is marks s h e a ∙ rule1-is (view recs ops w regs) n run (t .stands) needed (in-set marks) p h
 
   -- rule 2: regs has each register's last writer, and the row stands for the needs
@@ -30,14 +30,14 @@ module _ {recs ops w regs : List ℕ} {n p : ℕ} (s : Safe recs ops w n (length
   rule2-tests {bits} {o} d k = results-are bits o s h d ∙ results-row regs s h k ∙ rule2-is (view recs ops w regs) n run (t .stands) needed (in-set marks) p h
 
   -- rules 3 to 5: the summary of the marks, and the writers before p
-  module _ {st lasts : List ℕ} {sus bar : ℕ} (e : length st ≡ length regs) (z : Summed recs ops w regs n p st lasts marks sus bar) where
+  module _ {st lasts : List ℕ} (e : length st ≡ length regs) (z : Summed recs w n p st lasts marks) where
     pub rule3-tests : all (read-test st marks p) (reads-of recs ops w p) ≡ getD (tests run needed (in-set marks) p) 2 true
     rule3-tests = reads-are regs marks s h e (z .stamps) (z .writes) (z .barrier) (z .suspension) ∙ rule3-is (view recs ops w regs) n run (t .stands) needed (in-set marks) p h
 
-    pub rule4-tests : leb sus (p + 1) ≡ getD (tests run needed (in-set marks) p) 3 true
+    pub rule4-tests : leb (getD lasts 2007 0) (p + 1) ≡ getD (tests run needed (in-set marks) p) 3 true
     rule4-tests = suspends-are regs marks s h e (z .stamps) (z .writes) (z .barrier) (z .suspension) ∙ rule4-is (view recs ops w regs) n run (t .stands) needed (in-set marks) p h
 
-    pub rule5-tests : memory-test recs ops w regs st lasts (cell w p 0) bar p ≡ getD (tests run needed (in-set marks) p) 4 true
+    pub rule5-tests : memory-test recs ops w regs st lasts (cell w p 0) (getD lasts 2006 0) p ≡ getD (tests run needed (in-set marks) p) 4 true
     rule5-tests = memory-are regs marks s h e (z .stamps) (z .writes) (z .barrier) (z .suspension) ∙ rule5-is (view recs ops w regs) n run (t .stands) needed (in-set marks) p h
 
   -- rule 6: the marks

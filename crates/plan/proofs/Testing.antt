@@ -36,12 +36,12 @@ module _ (st marks : List ℕ) (p r : ℕ) where
   unfolding place-test
   place-absent e = sym (ap (λ (b : Bool). b || read-test st marks p r) (eq-eqb r absent e))
 
-  pub place-there : {k : ℕ} {b : Bool} → (r ≡ absent → ⊥) → k ≡ r → b ≡ when-in (in-set marks) (getD st k 0 / 1024) → (b || leb (getD st k 0 % 1024) (p + 1)) ≡ place-test st marks p r
+  pub place-there : {k : ℕ} {b : Bool} → (r ≡ absent → ⊥) → k ≡ r → b ≡ when-in (in-set marks) (getD st k 0 / 2048) → (b || leb (getD st k 0 % 1024) (p + 1)) ≡ place-test st marks p r
   unfolding place-test read-test read-fine
   place-there {k} {b} n e f =
       ap (λ (x : Bool). x || leb (getD st k 0 % 1024) (p + 1)) f
-      ∙ ap (λ (j : ℕ). when-in (in-set marks) (getD st j 0 / 1024) || leb (getD st j 0 % 1024) (p + 1)) e
-      ∙ sym (ap (λ (x : Bool). x || (when-in (in-set marks) (getD st r 0 / 1024) || leb (getD st r 0 % 1024) (p + 1))) (ne-eqb r absent n))
+      ∙ ap (λ (j : ℕ). when-in (in-set marks) (getD st j 0 / 2048) || leb (getD st j 0 % 1024) (p + 1)) e
+      ∙ sym (ap (λ (x : Bool). x || (when-in (in-set marks) (getD st r 0 / 2048) || leb (getD st r 0 % 1024) (p + 1))) (ne-eqb r absent n))
 
 pub place-is : (st marks : List ℕ) (p r : ℕ) {b : Bool} → b ≡ place-test st marks p r → b ≡ (eqb r absent || read-test st marks p r)
 unfolding place-test
@@ -71,39 +71,39 @@ org-is lasts bar p o {k} e =
     ∙ and4 (eqb o 1 || leb 3 o) (leb bar (p + 1) || eqb o 1) (leb (getD lasts 1 0) (p + 1)) (leb o 2 || leb (getD lasts (o + 1) 0) (p + 1))
 
 module _ (regs : List ℕ) {w st : List ℕ} {n r k : ℕ} (h : Near w st n) (l : r < length st) (e : k ≡ r) where
-  pub near-room : (getD st k 0 / 1024 ≡ 0 → ⊥) → 10 * (getD st k 0 / 1024 - 1) + 10 ≤ length w
+  pub near-room : (getD st k 0 / 2048 ≡ 0 → ⊥) → 10 * (getD st k 0 / 2048 - 1) + 10 ≤ length w
   near-room z = let a = h .room in let b = h .writer k (subst (λ (x : ℕ). x < length st) (sym e) l) in omega arith
 
-  pub reg-yes : {x : ℕ} → (getD st k 0 / 1024 ≡ 0 → ⊥) → x ≡ cell w (getD st k 0 / 1024 - 1) 2 → (x ≡ reg-org w regs r (getD st r 0 / 1024)) × (x < 2005)
+  pub reg-yes : {x : ℕ} → (getD st k 0 / 2048 ≡ 0 → ⊥) → x ≡ cell w (getD st k 0 / 2048 - 1) 2 → (x ≡ reg-org w regs r (getD st r 0 / 2048)) × (x < 2005)
   unfolding reg-org
   reg-yes {x} z f =
       let b = h .writer k (subst (λ (x : ℕ). x < length st) (sym e) l) in
-      (f ∙ is (getD st k 0 / 1024) z ∙ ap (λ (j : ℕ). reg-org w regs r (getD st j 0 / 1024)) e, let o = h .org (getD st k 0 / 1024 - 1) (omega arith) in omega arith)
+      (f ∙ is (getD st k 0 / 2048) z ∙ ap (λ (j : ℕ). reg-org w regs r (getD st j 0 / 2048)) e, let o = h .org (getD st k 0 / 2048 - 1) (omega arith) in omega arith)
     where
       is : (d : ℕ) → (d ≡ 0 → ⊥) → cell w (d - 1) 2 ≡ reg-org w regs r d
       is zero z = absurd (z refl)
       is (suc d) z = let y : suc d - 1 ≡ d = omega arith in ap (λ (j : ℕ). cell w j 2) y
 
-  none-is : getD st k 0 / 1024 ≡ 0 → reg-org w regs r (getD st r 0 / 1024) ≡ cond (eqb (getD regs k 0 % 2) 1) 1 (cond (eqb (getD regs k 0 / 2 % 2) 1) 3 0)
+  none-is : getD st k 0 / 2048 ≡ 0 → reg-org w regs r (getD st r 0 / 2048) ≡ cond (eqb (getD regs k 0 % 2) 1) 1 (cond (eqb (getD regs k 0 / 2 % 2) 1) 3 0)
   unfolding reg-org
-  none-is z = ap (reg-org w regs r) (ap (λ (j : ℕ). getD st j 0 / 1024) (sym e) ∙ z) ∙ ap (λ (j : ℕ). cond (eqb (getD regs j 0 % 2) 1) 1 (cond (eqb (getD regs j 0 / 2 % 2) 1) 3 0)) (sym e)
+  none-is z = ap (reg-org w regs r) (ap (λ (j : ℕ). getD st j 0 / 2048) (sym e) ∙ z) ∙ ap (λ (j : ℕ). cond (eqb (getD regs j 0 % 2) 1) 1 (cond (eqb (getD regs j 0 / 2 % 2) 1) 3 0)) (sym e)
 
-  pub reg-ro : getD st k 0 / 1024 ≡ 0 → getD regs k 0 % 2 ≡ 1 → (1 ≡ reg-org w regs r (getD st r 0 / 1024)) × (1 < 2005)
+  pub reg-ro : getD st k 0 / 2048 ≡ 0 → getD regs k 0 % 2 ≡ 1 → (1 ≡ reg-org w regs r (getD st r 0 / 2048)) × (1 < 2005)
   reg-ro z a = (sym (none-is z ∙ ap (λ (b : Bool). cond b 1 (cond (eqb (getD regs k 0 / 2 % 2) 1) 3 0)) (eq-eqb (getD regs k 0 % 2) 1 a)), omega arith)
 
-  pub reg-frame : getD st k 0 / 1024 ≡ 0 → (getD regs k 0 % 2 ≡ 1 → ⊥) → getD regs k 0 / 2 % 2 ≡ 1 → (3 ≡ reg-org w regs r (getD st r 0 / 1024)) × (3 < 2005)
+  pub reg-frame : getD st k 0 / 2048 ≡ 0 → (getD regs k 0 % 2 ≡ 1 → ⊥) → getD regs k 0 / 2 % 2 ≡ 1 → (3 ≡ reg-org w regs r (getD st r 0 / 2048)) × (3 < 2005)
   reg-frame z a b = (sym (none-is z ∙ ap₂ (λ (x y : Bool). cond x 1 (cond y 3 0)) (ne-eqb (getD regs k 0 % 2) 1 a) (eq-eqb (getD regs k 0 / 2 % 2) 1 b)), omega arith)
 
-  pub reg-none : getD st k 0 / 1024 ≡ 0 → (getD regs k 0 % 2 ≡ 1 → ⊥) → (getD regs k 0 / 2 % 2 ≡ 1 → ⊥) → (0 ≡ reg-org w regs r (getD st r 0 / 1024)) × (0 < 2005)
+  pub reg-none : getD st k 0 / 2048 ≡ 0 → (getD regs k 0 % 2 ≡ 1 → ⊥) → (getD regs k 0 / 2 % 2 ≡ 1 → ⊥) → (0 ≡ reg-org w regs r (getD st r 0 / 2048)) × (0 < 2005)
   reg-none z a b = (sym (none-is z ∙ ap₂ (λ (x y : Bool). cond x 1 (cond y 3 0)) (ne-eqb (getD regs k 0 % 2) 1 a) (ne-eqb (getD regs k 0 / 2 % 2) 1 b)), omega arith)
 
 module _ (w regs st lasts : List ℕ) (bar p : ℕ) where
   pub piece-odd : (sc r : ℕ) → (sc % 2 ≡ 0 → ⊥) → true ≡ (not (eqb (sc % 2) 0) || piece-test w regs st lasts bar p r)
   piece-odd sc r n = sym (ap (λ (b : Bool). not b || piece-test w regs st lasts bar p r) (ne-eqb (sc % 2) 0 n))
 
-  pub piece-even : (sc r : ℕ) {o : ℕ} {b : Bool} → sc % 2 ≡ 0 → o ≡ reg-org w regs r (getD st r 0 / 1024) → b ≡ org-test lasts bar p o → b ≡ (not (eqb (sc % 2) 0) || piece-test w regs st lasts bar p r)
+  pub piece-even : (sc r : ℕ) {o : ℕ} {b : Bool} → sc % 2 ≡ 0 → o ≡ reg-org w regs r (getD st r 0 / 2048) → b ≡ org-test lasts bar p o → b ≡ (not (eqb (sc % 2) 0) || piece-test w regs st lasts bar p r)
   unfolding piece-test
-  piece-even sc r {o} e f g = g ∙ ap (org-test lasts bar p) f ∙ sym (ap (λ (b : Bool). not b || org-test lasts bar p (reg-org w regs r (getD st r 0 / 1024))) (eq-eqb (sc % 2) 0 e))
+  piece-even sc r {o} e f g = g ∙ ap (org-test lasts bar p) f ∙ sym (ap (λ (b : Bool). not b || org-test lasts bar p (reg-org w regs r (getD st r 0 / 2048))) (eq-eqb (sc % 2) 0 e))
 
 -- a Cat's list from k on
 module _ (f : ℕ → Bool) (xs : List ℕ) (k sc : ℕ) where
@@ -146,26 +146,26 @@ one-origin w regs ops i d o n = ap (λ (b : Bool). cond b (map (λ r. reg-org w 
 module _ (w regs ops : List ℕ) (i : Inst) (st lasts : List ℕ) (bar p : ℕ) where
   pub from-none : {x : ℕ} → x ≡ cell w p 5 → x ≡ 0 → true ≡ from-test w regs ops i st lasts bar p
   unfolding from-test origins
-  from-none e z = sym (ap (λ (y : ℕ). all (org-test lasts bar p) (origins w regs ops i (λ r. getD st r 0 / 1024) y)) (sym e ∙ z))
+  from-none e z = sym (ap (λ (y : ℕ). all (org-test lasts bar p) (origins w regs ops i (λ r. getD st r 0 / 2048) y)) (sym e ∙ z))
 
   pub from-one : {x : ℕ} {b : Bool} → x ≡ cell w p 5 → (x ≡ 0 → ⊥) → (x ≡ 4294967295 → ⊥) → b ≡ org-test lasts bar p (x - 1) → b ≡ from-test w regs ops i st lasts bar p
   unfolding from-test
-  from-one {x} {b} e z n f = f ∙ is x z n ∙ ap (λ (y : ℕ). all (org-test lasts bar p) (origins w regs ops i (λ r. getD st r 0 / 1024) y)) e
+  from-one {x} {b} e z n f = f ∙ is x z n ∙ ap (λ (y : ℕ). all (org-test lasts bar p) (origins w regs ops i (λ r. getD st r 0 / 2048) y)) e
     where
       end : (a : Bool) → a ≡ (a && true)
       end true = refl
       end false = refl
 
-      is : (x : ℕ) → (x ≡ 0 → ⊥) → (x ≡ 4294967295 → ⊥) → org-test lasts bar p (x - 1) ≡ all (org-test lasts bar p) (origins w regs ops i (λ r. getD st r 0 / 1024) x)
+      is : (x : ℕ) → (x ≡ 0 → ⊥) → (x ≡ 4294967295 → ⊥) → org-test lasts bar p (x - 1) ≡ all (org-test lasts bar p) (origins w regs ops i (λ r. getD st r 0 / 2048) x)
       is zero z n = absurd (z refl)
-      is (suc o) z n = let q : suc o - 1 ≡ o = omega arith in ap (org-test lasts bar p) q ∙ end (org-test lasts bar p o) ∙ sym (ap (all (org-test lasts bar p)) (one-origin w regs ops i (λ r. getD st r 0 / 1024) o n))
+      is (suc o) z n = let q : suc o - 1 ≡ o = omega arith in ap (org-test lasts bar p) q ∙ end (org-test lasts bar p o) ∙ sym (ap (all (org-test lasts bar p)) (one-origin w regs ops i (λ r. getD st r 0 / 2048) o n))
 
   pub from-cat : {x sc : ℕ} {xs : List ℕ} {b : Bool} → x ≡ cell w p 5 → x ≡ 4294967295 → xs ≡ list-of ops i → sc ≡ getD i 9 0 → b ≡ all (piece-test w regs st lasts bar p) (picked sc xs) → b ≡ from-test w regs ops i st lasts bar p
   unfolding from-test origins piece-test
   from-cat {x} {sc} {xs} e z f g h =
-      h ∙ ap₂ (λ (s : ℕ) (l : List ℕ). all (λ r. org-test lasts bar p (reg-org w regs r (getD st r 0 / 1024))) (picked s l)) g f
-      ∙ sym (all-map (org-test lasts bar p) (λ r. reg-org w regs r (getD st r 0 / 1024)) (picked (getD i 9 0) (list-of ops i)))
-      ∙ ap (λ (y : ℕ). all (org-test lasts bar p) (origins w regs ops i (λ r. getD st r 0 / 1024) y)) (sym z ∙ e)
+      h ∙ ap₂ (λ (s : ℕ) (l : List ℕ). all (λ r. org-test lasts bar p (reg-org w regs r (getD st r 0 / 2048))) (picked s l)) g f
+      ∙ sym (all-map (org-test lasts bar p) (λ r. reg-org w regs r (getD st r 0 / 2048)) (picked (getD i 9 0) (list-of ops i)))
+      ∙ ap (λ (y : ℕ). all (org-test lasts bar p) (origins w regs ops i (λ r. getD st r 0 / 2048) y)) (sym z ∙ e)
 
 -- ---- rule 6, and rule 5 for what creates or writes
 

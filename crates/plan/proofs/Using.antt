@@ -3,7 +3,7 @@ use mathlib.Core.Path.{_≡_, refl, sym, ap, ap₂, _∙_, subst}
 use mathlib.Core.Logic.{_⊎_, inl, inr, ⊎-elim}
 use mathlib.Core.Bool.{Bool, true, false, not, _&&_, _||_, cond}
 use mathlib.Core.List.{List, [], _∷_}
-use Prim.Native.Nat.{ℕ, zero, suc, _+_, _-_, _%_, _≤_, _<_}
+use Prim.Native.Nat.{ℕ, zero, suc, _+_, _-_, _%_, _≤_, _<_, max}
 use native.Mathlib.Numerals.{add-one}
 use native.Mathlib.Omega.{arith}
 use borrow.Author.Tests.{eq-eqb, ne-eqb, eqb-false}
@@ -17,7 +17,7 @@ use Rattle.words.proofs.Members.{any-in, any-of, in-range, range-in}
 use Rattle.model.specs.Picture.{inst, absent, reads, writes}
 use Rattle.legalset.specs.Chain.{cell, defs-of, reads-of, writer, Safe}
 use Rattle.legalset.proofs.Lasting.{last-step, writer-low}
-use Rattle.plan.specs.Passes.{stamp, Stamped}
+use Rattle.plan.specs.Passes.{over, stamp, Stamped}
 use Rattle.plan.specs.Uses.{note-in, Noticed, ReadOn, reads-value, or-own, last-reader, Readers}
 use Rattle.plan.proofs.Places.{Placed}
 use Rattle.plan.proofs.Stamping.{put-room, any-more}
@@ -133,7 +133,7 @@ reading-low {defs} {rd} {q} i l x h = let e = i .writers x (subst (λ (m : ℕ).
 
 pub reading-more : {recs ops w : List ℕ} {n q : ℕ} {st₀ st ls st′ ls′ : List ℕ} → Safe recs ops w n (length st₀) → q < n → Reading (defs-of recs w) (reads-of recs ops w) q st₀ st ls
     → ReadOn (defs-of recs w) (reads-of recs ops w) q st ls st′ ls′ → Reading (defs-of recs w) (reads-of recs ops w) (q + 1) st₀ st′ ls′
-unfolding stamp writer last-reader reads-value
+unfolding stamp over writer last-reader reads-value
 reading-more {recs} {ops} {w} {n} {q} {st₀} {st} {ls} s h i k = record {
   size = k .stamped .size ∙ i .size;
   writers = λ r l. k .stamped .each r (subst (λ (m : ℕ). r < m) (sym (i .size)) l) ∙ put (mem r (defs-of recs w q)) (getD st r 0) ∙ ap (cond (mem r (defs-of recs w q)) (suc q)) (i .writers r l)
@@ -148,7 +148,7 @@ reading-more {recs} {ops} {w} {n} {q} {st₀} {st} {ls} s h i k = record {
   };
 }
   where
-    put : (b : Bool) (y : ℕ) → cond b (y % 1 + (q + 1)) y ≡ cond b (suc q) y
+    put : (b : Bool) (y : ℕ) → cond b (max (y % 1) 0 + (q + 1)) y ≡ cond b (suc q) y
     put true y = omega arith
     put false y = refl
 

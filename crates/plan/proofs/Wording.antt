@@ -50,8 +50,8 @@ module _ {recs w : List ℕ} {R p : ℕ} (a : Written recs w R p) where
   pub slots-tested : (h : ℕ → Bool) {y g : ℕ} {b : Bool} → y ≡ cell w p 0 → g ≡ y → b ≡ all h (writes (inst recs g)) → b ≡ all h (defs-of recs w p)
   slots-tested h e f k = k ∙ ap (λ (j : ℕ). all h (writes (inst recs j))) (f ∙ e)
 
-  pub slots-stamped : {y g keep v : ℕ} {st st′ : List ℕ} → y ≡ cell w p 0 → g ≡ y → Stamped (writes (inst recs g)) keep v st st′ → Stamped (defs-of recs w p) keep v st st′
-  slots-stamped {keep = keep} {v = v} {st = st} {st′ = st′} e f k = subst (λ (j : ℕ). Stamped (writes (inst recs j)) keep v st st′) (f ∙ e) k
+  pub slots-stamped : {y g keep lo v : ℕ} {st st′ : List ℕ} → y ≡ cell w p 0 → g ≡ y → Stamped (writes (inst recs g)) keep lo v st st′ → Stamped (defs-of recs w p) keep lo v st st′
+  slots-stamped {keep = keep} {lo = lo} {v = v} {st = st} {st′ = st′} e f k = subst (λ (j : ℕ). Stamped (writes (inst recs j)) keep lo v st st′) (f ∙ e) k
 
   -- by word 6
   module _ {x y : ℕ} (e : x ≡ cell w p 9) (t : x ≡ 0) (f : y ≡ cell w p 6) where
@@ -64,11 +64,11 @@ module _ {recs w : List ℕ} {R p : ℕ} (a : Written recs w R p) where
     pub word-tested : (h : ℕ → Bool) {b : Bool} → b ≡ (eqb y absent || h y) → b ≡ all h (defs-of recs w p)
     word-tested h k = k ∙ ap (λ (j : ℕ). eqb j absent || h j) f ∙ and-end (eqb (cell w p 6) absent || h (cell w p 6)) ∙ sym (all-placed word-placed h)
 
-    pub word-stamped : {keep v : ℕ} (st : List ℕ) {st′ : List ℕ} → Beside keep v → length st ≡ R → st′ ≡ put-in keep v y st → Stamped (defs-of recs w p) keep v st st′
-    word-stamped {keep} {v} st b s k =
+    pub word-stamped : {keep lo v : ℕ} (st : List ℕ) {st′ : List ℕ} → Beside keep lo v → length st ≡ R → st′ ≡ put-in keep lo v y st → Stamped (defs-of recs w p) keep lo v st st′
+    word-stamped {keep} {lo} {v} st b s k =
         let few = subst (λ (m : ℕ). m ≤ 65536) (sym s) (a .fits .few) in
         let low = subst (λ (m : ℕ). (y ≡ absent) ⊎ (y < m)) (sym s) word-low in
-        stamping-end (stamping-more (stamping-none (λ k. cell w p 6) keep v st) b few f low k) b few word-placed (omega arith) (omega arith)
+        stamping-end (stamping-more (stamping-none (λ k. cell w p 6) keep lo v st) b few f low k) b few word-placed (omega arith) (omega arith)
 
 -- ---- what position p reads
 
@@ -80,8 +80,8 @@ module _ {recs ops w : List ℕ} {R p : ℕ} (a : Readable recs ops w R p) where
   pub places-tested : (h : ℕ → Bool) {y g : ℕ} {b : Bool} → y ≡ cell w p 0 → g ≡ y → b ≡ all h (reads ops (inst recs g)) → b ≡ all h (reads-of recs ops w p)
   places-tested h e f k = k ∙ ap (λ (j : ℕ). all h (reads ops (inst recs j))) (f ∙ e)
 
-  pub places-stamped : {y g keep v : ℕ} {st st′ : List ℕ} → y ≡ cell w p 0 → g ≡ y → Stamped (reads ops (inst recs g)) keep v st st′ → Stamped (reads-of recs ops w p) keep v st st′
-  places-stamped {keep = keep} {v = v} {st = st} {st′ = st′} e f k = subst (λ (j : ℕ). Stamped (reads ops (inst recs j)) keep v st st′) (f ∙ e) k
+  pub places-stamped : {y g keep lo v : ℕ} {st st′ : List ℕ} → y ≡ cell w p 0 → g ≡ y → Stamped (reads ops (inst recs g)) keep lo v st st′ → Stamped (reads-of recs ops w p) keep lo v st st′
+  places-stamped {keep = keep} {lo = lo} {v = v} {st = st} {st′ = st′} e f k = subst (λ (j : ℕ). Stamped (reads ops (inst recs j)) keep lo v st st′) (f ∙ e) k
 
   pub places-noticed : {y g q : ℕ} {st ls ls′ : List ℕ} → y ≡ cell w p 0 → g ≡ y → Noticed st (reads ops (inst recs g)) q ls ls′ → Noticed st (reads-of recs ops w p) q ls ls′
   places-noticed {q = q} {st = st} {ls = ls} {ls′ = ls′} e f k = subst (λ (j : ℕ). Noticed st (reads ops (inst recs j)) q ls ls′) (f ∙ e) k
@@ -100,20 +100,20 @@ module _ {recs ops w : List ℕ} {R p : ℕ} (a : Readable recs ops w R p) where
         ap₂ (λ (i j : Bool). i && j) (k ∙ ap (λ (j : ℕ). eqb j absent || h j) f) (l ∙ ap (λ (j : ℕ). eqb j absent || h j) g ∙ and-end (eqb (cell w p 8) absent || h (cell w p 8)))
         ∙ sym (all-placed words-placed h)
 
-    module _ (st : List ℕ) {keep v : ℕ} (b : Beside keep v) (s : length st ≡ R) where
+    module _ (st : List ℕ) {keep lo v : ℕ} (b : Beside keep lo v) (s : length st ≡ R) where
       few : length st ≤ 65536
       few = subst (λ (m : ℕ). m ≤ 65536) (sym s) (a .good .fits .few)
 
-      one-put : {y : ℕ} {mid : List ℕ} → y ≡ cell w p 7 → mid ≡ put-in keep v y st → Stamping (λ k. cell w p (7 + k)) keep v 1 st mid
-      one-put {y} f k = stamping-more (stamping-none (λ k. cell w p (7 + k)) keep v st) b few f (subst (λ (m : ℕ). (y ≡ absent) ⊎ (y < m)) (sym s) (words-low 0 (omega arith) f)) k
+      one-put : {y : ℕ} {mid : List ℕ} → y ≡ cell w p 7 → mid ≡ put-in keep lo v y st → Stamping (λ k. cell w p (7 + k)) keep lo v 1 st mid
+      one-put {y} f k = stamping-more (stamping-none (λ k. cell w p (7 + k)) keep lo v st) b few f (subst (λ (m : ℕ). (y ≡ absent) ⊎ (y < m)) (sym s) (words-low 0 (omega arith) f)) k
 
-      words-size : {y : ℕ} {mid : List ℕ} → y ≡ cell w p 7 → mid ≡ put-in keep v y st → length mid ≡ R
+      words-size : {y : ℕ} {mid : List ℕ} → y ≡ cell w p 7 → mid ≡ put-in keep lo v y st → length mid ≡ R
       words-size f k = one-put f k .size ∙ s
 
-      pub words-low-on : {y z : ℕ} {mid : List ℕ} → y ≡ cell w p 7 → mid ≡ put-in keep v y st → z ≡ cell w p 8 → (z ≡ absent) ⊎ (z < length mid)
+      pub words-low-on : {y z : ℕ} {mid : List ℕ} → y ≡ cell w p 7 → mid ≡ put-in keep lo v y st → z ≡ cell w p 8 → (z ≡ absent) ⊎ (z < length mid)
       words-low-on {z = z} f k g = subst (λ (m : ℕ). (z ≡ absent) ⊎ (z < m)) (sym (words-size f k)) (words-low 1 (omega arith) g)
 
-      pub words-stamped : {y z : ℕ} {mid st′ : List ℕ} → y ≡ cell w p 7 → mid ≡ put-in keep v y st → z ≡ cell w p 8 → st′ ≡ put-in keep v z mid → Stamped (reads-of recs ops w p) keep v st st′
+      pub words-stamped : {y z : ℕ} {mid st′ : List ℕ} → y ≡ cell w p 7 → mid ≡ put-in keep lo v y st → z ≡ cell w p 8 → st′ ≡ put-in keep lo v z mid → Stamped (reads-of recs ops w p) keep lo v st st′
       words-stamped f k g l =
           stamping-end (stamping-more (one-put f k) b few g (words-low-on f k g) l) b few words-placed (omega arith) (omega arith)
 

@@ -2,7 +2,7 @@
 use mathlib.Core.Path.{_≡_}
 use mathlib.Core.Bool.{Bool, true, false, not, _&&_, _||_, cond}
 use mathlib.Core.List.{List, [], _∷_, _++_}
-use Prim.Native.Nat.{ℕ, zero, suc, _+_, _*_, _-_, _/_, _%_, _≤_, _<_}
+use Prim.Native.Nat.{ℕ, zero, suc, _+_, _*_, _-_, _/_, _%_, _≤_, _<_, max}
 use lib.Dec.{eqb, leb, ltb}
 use lib.ListN.{getD, length, set, take, drop, replicate}
 use Rattle.words.specs.Lists.{mem, hit, all, conj, member, count}
@@ -36,38 +36,59 @@ pub record Readable (recs ops w : List ℕ) (R p : ℕ) : Type 0 where
 
 -- ---- a word a register
 
+-- the word x when it is stamped: what stands below keep, or lo if that is more, and v
+unfoldable pub over : ℕ → ℕ → ℕ → ℕ → ℕ
+over keep lo v x = max (x % keep) lo + v
+
 -- the word x of a register that is among those stamped, or not
-unfoldable pub stamp : ℕ → ℕ → Bool → ℕ → ℕ
-stamp keep v b x = cond b (x % keep + v) x
+unfoldable pub stamp : ℕ → ℕ → ℕ → Bool → ℕ → ℕ
+stamp keep lo v b x = cond b (over keep lo v x) x
 
 -- one register, or none, is stamped
-unfoldable pub put-in : ℕ → ℕ → ℕ → List ℕ → List ℕ
-put-in keep v r st = cond (eqb r absent) st (set st r (getD st r 0 % keep + v))
+unfoldable pub put-in : ℕ → ℕ → ℕ → ℕ → List ℕ → List ℕ
+put-in keep lo v r st = cond (eqb r absent) st (set st r (over keep lo v (getD st r 0)))
 
 -- all registers of l are stamped
-pub record Stamped (l : List ℕ) (keep v : ℕ) (before after : List ℕ) : Type 0 where
+pub record Stamped (l : List ℕ) (keep lo v : ℕ) (before after : List ℕ) : Type 0 where
   pub size : length after ≡ length before
-  pub each : (r : ℕ) → r < length before → getD after r 0 ≡ stamp keep v (mem r l) (getD before r 0)
+  pub each : (r : ℕ) → r < length before → getD after r 0 ≡ stamp keep lo v (mem r l) (getD before r 0)
 
 -- ---- the summary of a set, and the writers so far
 
--- each register's last kept writer, and 1024 times its last writer before p
+-- each register's last kept writer, below 1024, and its last writer before p, from 2048 on
 pub record Stamps (defs : ℕ → List ℕ) (L : ℕ → Bool) (n p : ℕ) (st : List ℕ) : Type 0 where
-  pub each : (r : ℕ) → r < length st → getD st r 0 ≡ last-kept L (λ q. mem r (defs q)) n + 1024 * writer defs r p
+  pub kept : (r : ℕ) → r < length st → getD st r 0 % 1024 ≡ last-kept L (λ q. mem r (defs q)) n
+  pub wrote : (r : ℕ) → r < length st → getD st r 0 / 2048 ≡ writer defs r p
 
 -- the last kept write of each origin and 1
 pub record Writes (wrote : ℕ → ℕ) (L : ℕ → Bool) (n : ℕ) (lasts : List ℕ) : Type 0 where
-  pub each : (o : ℕ) → 0 < o → o < 2006 → getD lasts o 0 ≡ last-kept L (λ q. eqb (wrote q) o) n
+  pub each : (o : ℕ) → o < 2006 → getD lasts o 0 ≡ last-kept L (λ q. eqb (wrote q) o) n
 
--- whether each register is awaited at q: read by a kept position from q on with no write in between
+-- ---- the same from behind
+
+-- the last of the k positions from q on that passes, and 1
+unfoldable pub since : (ℕ → Bool) → ℕ → ℕ → ℕ
+since f q zero = 0
+since f q (suc k) = max (since f (suc q) k) (cond (f q) (q + 1) 0)
+
+-- each register's last kept writer from q on, and 1024 if it is awaited: read by a kept position with no write in between
 pub record Awaits (defs reads : ℕ → List ℕ) (L : ℕ → Bool) (n q : ℕ) (st : List ℕ) : Type 0 where
-  pub each : (r : ℕ) → r < length st → getD st r 0 ≡ hit (pending defs reads L r q (n - q))
+  pub each : (r : ℕ) → r < length st → getD st r 0 ≡ since (λ z. not (L z) && mem r (defs z)) q (n - q) + 1024 * hit (pending defs reads L r q (n - q))
+
+-- what is noted in word j of position z: memory that it writes, by its number; in 2006 a barrier, in 2007 a suspension
+unfoldable pub noted : List ℕ → ℕ → ℕ → Bool
+noted w j z = (eqb (cell w z 4) j || (eqb 2006 j && flag w 8 z)) || (eqb 2007 j && flag w 16 z)
+
+-- the last kept position from q on, and 1, in each word
+pub record Notes (w : List ℕ) (L : ℕ → Bool) (n q : ℕ) (lasts : List ℕ) : Type 0 where
+  pub size : length lasts ≡ 2008
+  pub each : (j : ℕ) → j < 2008 → getD lasts j 0 ≡ since (λ z. not (L z) && noted w j z) q (n - q)
 
 -- ---- the tests at p by these words
 
 -- rule 3
 unfoldable pub read-test : List ℕ → List ℕ → ℕ → ℕ → Bool
-read-test st marks p r = read-fine (in-set marks) p (getD st r 0 / 1024) (getD st r 0 % 1024)
+read-test st marks p r = read-fine (in-set marks) p (getD st r 0 / 2048) (getD st r 0 % 1024)
 
 -- rule 5 for an origin
 unfoldable pub org-test : List ℕ → ℕ → ℕ → ℕ → Bool
@@ -75,22 +96,13 @@ org-test lasts bar p o = org-fine p bar (getD lasts 1 0) (getD lasts (o + 1) 0) 
 
 -- what p reads from
 unfoldable pub from-test : List ℕ → List ℕ → List ℕ → Inst → List ℕ → List ℕ → ℕ → ℕ → Bool
-from-test w regs ops i st lasts bar p = all (org-test lasts bar p) (origins w regs ops i (λ r. getD st r 0 / 1024) (cell w p 5))
+from-test w regs ops i st lasts bar p = all (org-test lasts bar p) (origins w regs ops i (λ r. getD st r 0 / 2048) (cell w p 5))
 
 -- what is stamped fits, and a second stamp changes nothing
-pub record Beside (keep v : ℕ) : Type 0 where
+pub record Beside (keep lo v : ℕ) : Type 0 where
   pub some : 0 < keep
-  pub small : keep + v ≤ 4294967296
-  pub twice : (x : ℕ) → (x % keep + v) % keep ≡ x % keep
-
--- what q writes is stamped q + 1, if q is kept
-pub record Kept-stamped (defs : ℕ → List ℕ) (L : ℕ → Bool) (q : ℕ) (before after : List ℕ) : Type 0 where
-  pub size : length after ≡ length before
-  pub each : (r : ℕ) → r < length before → getD after r 0 ≡ cond (not (L q) && mem r (defs q)) (q + 1) (getD before r 0)
-
--- and the memory it writes
-unfoldable pub wrote-in : Bool → ℕ → ℕ → List ℕ → List ℕ
-wrote-in in? o q lasts = cond in? lasts (set lasts o (q + 1))
+  pub small : keep + lo + v ≤ 4294967296
+  pub twice : (x : ℕ) → over keep lo v (over keep lo v x) ≡ over keep lo v x
 
 -- rule 3 for what stands in a place
 unfoldable pub place-test : List ℕ → List ℕ → ℕ → ℕ → Bool
@@ -98,12 +110,12 @@ place-test st marks p r = eqb r absent || read-test st marks p r
 
 -- rule 5 for a register of a Cat's list
 unfoldable pub piece-test : List ℕ → List ℕ → List ℕ → List ℕ → ℕ → ℕ → ℕ → Bool
-piece-test w regs st lasts bar p r = org-test lasts bar p (reg-org w regs r (getD st r 0 / 1024))
+piece-test w regs st lasts bar p r = org-test lasts bar p (reg-org w regs r (getD st r 0 / 2048))
 
 -- the writers so far are among the n positions of w, whose origins are small
 pub record Near (w st : List ℕ) (n : ℕ) : Type 0 where
   pub room : 10 * n ≤ length w
-  pub writer : (r : ℕ) → r < length st → getD st r 0 / 1024 ≤ n
+  pub writer : (r : ℕ) → r < length st → getD st r 0 / 2048 ≤ n
   pub org : (p : ℕ) → p < n → cell w p 2 < 2004
 
 -- rule 5 for position p, record g
@@ -117,28 +129,42 @@ stay-test recs ops w regs st lasts marks g sus bar p =
 
 -- position p was looked at: st and marks after those before
 pub record Forwarded (recs ops w regs lasts : List ℕ) (sus bar p : ℕ) (st marks st′ marks′ : List ℕ) (r : ℕ) : Type 0 where
-  pub stamped : Stamped (writes (inst recs (cell w p 0))) 1024 (1024 * (p + 1)) st st′
+  pub stamped : Stamped (writes (inst recs (cell w p 0))) 2048 0 (2048 * (p + 1)) st st′
   pub sifts : marks′ ≡ sifted marks p (stay-test recs ops w regs st lasts marks (cell w p 0) sus bar p)
   pub loses : r ≡ lost marks p (stay-test recs ops w regs st lasts marks (cell w p 0) sus bar p)
 
 -- the summary of the marks, with the writers before p
-pub record Summed (recs ops w regs : List ℕ) (n p : ℕ) (st lasts marks : List ℕ) (sus bar : ℕ) : Type 0 where
+pub record Summed (recs w : List ℕ) (n p : ℕ) (st lasts marks : List ℕ) : Type 0 where
   pub stamps : Stamps (defs-of recs w) (in-set marks) n p st
   pub writes : Writes (λ q. cell w q 4) (in-set marks) n lasts
-  pub barrier : bar ≡ last-kept (in-set marks) (flag w 8) n
-  pub suspension : sus ≡ last-kept (in-set marks) (flag w 16) n
+  pub barrier : getD lasts 2006 0 ≡ last-kept (in-set marks) (flag w 8) n
+  pub suspension : getD lasts 2007 0 ≡ last-kept (in-set marks) (flag w 16) n
+
+-- q and 1, if q is kept
+unfoldable pub kept-word : Bool → ℕ → ℕ
+kept-word in? q = cond in? 0 (q + 1)
+
+-- a later position in word k stays
+unfoldable pub later-in : ℕ → ℕ → List ℕ → List ℕ
+later-in k v ls = set ls k (max (getD ls k 0) v)
+
+-- what q does is noted, if q is kept
+pub record Noted (w : List ℕ) (L : ℕ → Bool) (q : ℕ) (before after : List ℕ) : Type 0 where
+  pub size : length after ≡ length before
+  pub each : (j : ℕ) → j < 2008 → getD after j 0 ≡ max (getD before j 0) (cond (not (L q) && noted w j q) (q + 1) 0)
 
 -- what q reads is awaited, if q is kept
 pub record Awaited (reads : ℕ → List ℕ) (L : ℕ → Bool) (q : ℕ) (before after : List ℕ) : Type 0 where
   pub size : length after ≡ length before
-  pub each : (r : ℕ) → r < length before → getD after r 0 ≡ cond (not (L q) && mem r (reads q)) 1 (getD before r 0)
+  pub each : (r : ℕ) → r < length before → getD after r 0 ≡ stamp 1024 0 1024 (not (L q) && mem r (reads q)) (getD before r 0)
 
--- position q was looked at from behind: st and marks after those before
-pub record Backed (defs reads : ℕ → List ℕ) (q : ℕ) (st marks st′ marks′ : List ℕ) (r : ℕ) : Type 0 where
+-- position q was looked at from behind: st, lasts and marks after those before
+pub record Backed (w : List ℕ) (defs reads : ℕ → List ℕ) (q : ℕ) (st ls marks st′ ls′ marks′ : List ℕ) (r : ℕ) : Type 0 where
   pub size : length st′ ≡ length st
-  pub each : (x : ℕ) → x < length st → getD st′ x 0 ≡ cond (not (in-set marks′ q) && mem x (reads q)) 1 (cond (mem x (defs q)) 0 (getD st x 0))
-  pub sifts : marks′ ≡ sifted marks q (all (λ x. eqb (getD st x 0) 0) (defs q))
-  pub loses : r ≡ lost marks q (all (λ x. eqb (getD st x 0) 0) (defs q))
+  pub each : (x : ℕ) → x < length st → getD st′ x 0 ≡ stamp 1024 0 1024 (not (in-set marks′ q) && mem x (reads q)) (stamp 1024 (kept-word (in-set marks′ q) q) 0 (mem x (defs q)) (getD st x 0))
+  pub notes : Noted w (in-set marks′) q ls ls′
+  pub sifts : marks′ ≡ sifted marks q (all (λ x. leb (getD st x 0) 1023) (defs q))
+  pub loses : r ≡ lost marks q (all (λ x. leb (getD st x 0) 1023) (defs q))
 
 -- ---- the whole
 

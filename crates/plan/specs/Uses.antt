@@ -23,7 +23,7 @@ pub record Noticed (st l : List ℕ) (q : ℕ) (before after : List ℕ) : Type 
 -- q's reads are noted, then its writes
 pub record ReadOn (defs reads : ℕ → List ℕ) (q : ℕ) (st ls st′ ls′ : List ℕ) : Type 0 where
   pub noticed : Noticed st (reads q) q ls ls′
-  pub stamped : Stamped (defs q) 1 (q + 1) st st′
+  pub stamped : Stamped (defs q) 1 0 (q + 1) st st′
 
 -- q reads p's value
 unfoldable pub reads-value : (ℕ → List ℕ) → (ℕ → List ℕ) → ℕ → ℕ → Bool

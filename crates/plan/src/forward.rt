@@ -25,7 +25,7 @@ fn stays(
     w: &[u32],
     regs: &[u32],
     st: &[u64],
-    lasts: &[u32; 2006],
+    lasts: &[u32; 2008],
     marks: &[u32; 800],
     sus: u32,
     bar: u32,
@@ -55,7 +55,7 @@ fn may_stay(
     w: &[u32],
     regs: &[u32],
     st: &[u64],
-    lasts: &[u32; 2006],
+    lasts: &[u32; 2008],
     marks: &[u32; 800],
     sus: u32,
     bar: u32,
@@ -78,7 +78,7 @@ fn step(
     ops: &[u32],
     w: &[u32],
     regs: &[u32],
-    lasts: &[u32; 2006],
+    lasts: &[u32; 2008],
     st: &mut [u64],
     marks: &mut [u32; 800],
     sus: u32,
@@ -90,7 +90,7 @@ fn step(
     ensures { λ r. ⌜ Forwarded (now (recs .entry)) (now (ops .entry)) (now (w .entry)) (now (regs .entry)) (now (lasts .entry)) sus bar p (now (st .entry)) (now (marks .entry)) (now (st .exit)) (now (marks .exit)) r ⌝ }
 {
     let ok = may_stay(t, ops, recs, w, regs, st, lasts, marks, sus, bar, p, n);
-    put_writes(t, recs, w, p, st, 1024, 1024 * (p as u64 + 1));
+    put_writes(t, recs, w, p, st, 2048, 0, 2048 * (p as u64 + 1));
     drop_unless(marks, p, ok)
 }
 
@@ -101,17 +101,17 @@ pub fn forward(
     ops: &[u32],
     w: &[u32],
     regs: &[u32],
-    lasts: &[u32; 2006],
+    lasts: &[u32; 2008],
     st: &mut [u64],
     marks: &mut [u32; 800],
-    sus: u32,
-    bar: u32,
     m: usize,
     n: usize,
 ) -> u32
-    requires { ⌜ (now t ≡ rows) × Safe (now recs) (now ops) (now w) n (length (now st)) × Brief (now recs) (now ops) (now w) n × (length (now regs) ≡ length (now st)) × (m ≤ n) × (length (now marks) ≡ 800) × Summed (now recs) (now ops) (now w) (now regs) n 0 (now st) (now lasts) (now marks) sus bar ⌝ }
+    requires { ⌜ (now t ≡ rows) × Safe (now recs) (now ops) (now w) n (length (now st)) × Brief (now recs) (now ops) (now w) n × (length (now regs) ≡ length (now st)) × (m ≤ n) × (length (now marks) ≡ 800) × Summed (now recs) (now w) n 0 (now st) (now lasts) (now marks) ⌝ }
     ensures { λ r. ⌜ Passed (own (forward-ok (view (now (recs .entry)) (now (ops .entry)) (now (w .entry)) (now (regs .entry))) n)) 0 m (now (marks .entry)) (now (marks .exit)) r × (length (now (st .exit)) ≡ length (now (st .entry))) ⌝ }
 {
+    let bar = lasts[2006];
+    let sus = lasts[2007];
     let mut r = 0u32;
     let mut p = 0usize;
     while p < m {

@@ -1,6 +1,6 @@
 // The six rules that a member keeps, each a function of its own (01, "The legal set"), against what the kept positions do. `st` holds a
-// word a register: for rule 1 as `backward` keeps it, for rules 3 and 5 as `summary` and `forward` do. `sus`, `bar` and `lasts` are of
-// `summary`. Rules 1 to 3 ask of a position's own words where its word 9 is 0, else of its record.
+// word a register: below 1024 its last kept writer, 1024 if it is awaited, from 2048 on its last writer, of `backward` and `forward`.
+// `sus`, `bar` and `lasts` are of `notes`. Rules 1 to 3 ask of a position's own words where its word 9 is 0, else of its record.
 use crate::chain::cell_at;
 use crate::chain::places;
 use crate::chain::read_place;
@@ -23,19 +23,19 @@ ghost use Rattle.plan.specs.Passes.{result-test, read-test, place-test, 
 // Is register r, if it is one, not awaited?
 fn free(st: &[u64], r: u32) -> bool
     requires { ⌜ (r ≡ absent) ⊎ (r < length (now st)) ⌝ }
-    ensures { λ b. ⌜ b ≡ (eqb r absent || eqb (getD (now (st .entry)) r 0) 0) ⌝ }
+    ensures { λ b. ⌜ b ≡ (eqb r absent || leb (getD (now (st .entry)) r 0) 1023) ⌝ }
 {
     if r == 4294967295 {
         return true;
     }
     let k = inst::record::wide(r);
-    st[k] == 0
+    st[k] <= 1023
 }
 
 // Rule 1 for what record g writes, slot by slot.
 fn free_slots(recs: &[u32], g: usize, uses: u32, st: &[u64]) -> bool
     requires { ⌜ Used (now recs) g uses × Fits (now recs) (length (now st)) g ⌝ }
-    ensures { λ b. ⌜ b ≡ all (λ x. eqb (getD (now (st .entry)) x 0) 0) (writes (inst (now (recs .entry)) g)) ⌝ }
+    ensures { λ b. ⌜ b ≡ all (λ x. leb (getD (now (st .entry)) x 0) 1023) (writes (inst (now (recs .entry)) g)) ⌝ }
 {
     let mut s = 0usize;
     while s < 5 {
@@ -51,7 +51,7 @@ fn free_slots(recs: &[u32], g: usize, uses: u32, st: &[u64]) -> bool
 // Rule 1: nothing that position p writes is awaited, that is, read further on by a kept position with no write in between.
 pub fn rule1(t: &[u32; 202], recs: &[u32], w: &[u32], p: usize, st: &[u64]) -> bool
     requires { ⌜ (now t ≡ rows) × Written (now recs) (now w) (length (now st)) p ⌝ }
-    ensures { λ b. ⌜ b ≡ all (λ x. eqb (getD (now (st .entry)) x 0) 0) (defs-of (now (recs .entry)) (now (w .entry)) p) ⌝ }
+    ensures { λ b. ⌜ b ≡ all (λ x. leb (getD (now (st .entry)) x 0) 1023) (defs-of (now (recs .entry)) (now (w .entry)) p) ⌝ }
 {
     if cell_at(w, p, 9) == 0 {
         return free(st, cell_at(w, p, 6));
@@ -137,7 +137,7 @@ fn read_ok(st: &[u64], marks: &[u32; 800], r: u32, p: usize) -> bool
     }
     let k = inst::record::wide(r);
     let v = st[k];
-    before_in(marks, v / 1024) | (v % 1024 <= p as u64 + 1)
+    before_in(marks, v / 2048) | (v % 1024 <= p as u64 + 1)
 }
 
 // Rule 3 for what record g, at p, reads, place by place.
@@ -194,7 +194,7 @@ pub fn rule4(sus: u32, p: usize) -> bool
 }
 
 // Rule 5 for the origin of number o.
-fn org_ok(lasts: &[u32; 2006], bar: u32, p: usize, o: u32) -> bool
+fn org_ok(lasts: &[u32; 2008], bar: u32, p: usize, o: u32) -> bool
     requires { ⌜ (o < 2005) × (p < 800) ⌝ }
     ensures { λ b. ⌜ b ≡ org-test (now (lasts .entry)) bar p o ⌝ }
 {
@@ -206,10 +206,10 @@ fn org_ok(lasts: &[u32; 2006], bar: u32, p: usize, o: u32) -> bool
 // Where register r points that is read at this place.
 fn reg_org(w: &[u32], regs: &[u32], st: &[u64], r: u32, n: usize) -> u32
     requires { ⌜ Near (now w) (now st) n × (r < length (now st)) × (length (now regs) ≡ length (now st)) ⌝ }
-    ensures { λ o. ⌜ (o ≡ reg-org (now (w .entry)) (now (regs .entry)) r (getD (now (st .entry)) r 0 / 1024)) × (o < 2005) ⌝ }
+    ensures { λ o. ⌜ (o ≡ reg-org (now (w .entry)) (now (regs .entry)) r (getD (now (st .entry)) r 0 / 2048)) × (o < 2005) ⌝ }
 {
     let k = inst::record::wide(r);
-    let d = (st[k] / 1024) as usize;
+    let d = (st[k] / 2048) as usize;
     if d != 0 {
         return cell_at(w, d - 1, 2);
     }
@@ -227,7 +227,7 @@ fn piece_ok(
     w: &[u32],
     regs: &[u32],
     st: &[u64],
-    lasts: &[u32; 2006],
+    lasts: &[u32; 2008],
     bar: u32,
     p: usize,
     n: usize,
@@ -249,7 +249,7 @@ fn pieces_ok(
     w: &[u32],
     regs: &[u32],
     st: &[u64],
-    lasts: &[u32; 2006],
+    lasts: &[u32; 2008],
     bar: u32,
     p: usize,
     n: usize,
@@ -280,7 +280,7 @@ fn froms_ok(
     w: &[u32],
     regs: &[u32],
     st: &[u64],
-    lasts: &[u32; 2006],
+    lasts: &[u32; 2008],
     bar: u32,
     p: usize,
     n: usize,
@@ -328,7 +328,7 @@ pub fn rule5(
     w: &[u32],
     regs: &[u32],
     st: &[u64],
-    lasts: &[u32; 2006],
+    lasts: &[u32; 2008],
     bar: u32,
     p: usize,
     n: usize,

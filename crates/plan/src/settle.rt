@@ -2,60 +2,36 @@
 use crate::backward::backward;
 use crate::forward::forward;
 use crate::marks::count;
-use crate::summary::keep_memory;
-use crate::summary::keep_writes;
-use crate::summary::last_flag;
 ghost use mathlib.Core.Path.{_≡_};
+ghost use mathlib.Core.Bool.{true, false};
 ghost use Prim.Native.Nat.{_≤_};
 ghost use lib.ListN.{length};
 ghost use Rattle.inst.specs.Table.{rows};
 ghost use Rattle.legalset.specs.Chain.{view, defs-of, reads-of, Safe, Brief};
-ghost use Rattle.legalset.specs.Marks.{own, Inside, Passed, Settled};
-ghost use Rattle.legalset.specs.Rules.{forward-ok, backward-ok, cycle-ok, pass-ok};
-ghost use Rattle.plan.specs.Passes.{Set-up};
+ghost use Rattle.legalset.specs.Marks.{Inside, Passed, Settled};
+ghost use Rattle.legalset.specs.Rules.{backward-ok, cycle-ok, pass-ok};
+ghost use Rattle.plan.specs.Passes.{Set-up, Summed};
 
-// The summary of the set now, and the pass forward by it.
-fn look_ahead(
-    t: &[u32; 202],
-    recs: &[u32],
-    ops: &[u32],
-    w: &[u32],
-    regs: &[u32],
-    st: &mut [u64],
-    marks: &mut [u32; 800],
-    m: usize,
-    n: usize,
-) -> u32
-    requires { ⌜ (now t ≡ rows) × Set-up (now recs) (now ops) (now w) (now regs) (now st) (now marks) m n ⌝ }
-    ensures { λ r. ⌜ Passed (own (forward-ok (view (now (recs .entry)) (now (ops .entry)) (now (w .entry)) (now (regs .entry))) n)) 0 m (now (marks .entry)) (now (marks .exit)) r × (length (now (st .exit)) ≡ length (now (st .entry))) ⌝ }
-{
-    words::bits::clear(st);
-    keep_writes(t, recs, ops, w, marks, st, n);
-    let mut lasts = [0u32; 2006];
-    keep_memory(w, marks, &mut lasts, n);
-    let bar = last_flag(w, marks, n, 8);
-    let sus = last_flag(w, marks, n, 16);
-    forward(t, recs, ops, w, regs, &lasts, st, marks, sus, bar, m, n)
-}
-
-// The pass backward.
+// The pass backward, which sums up what is kept.
 fn look_back(
     t: &[u32; 202],
     recs: &[u32],
     ops: &[u32],
     w: &[u32],
     st: &mut [u64],
+    lasts: &mut [u32; 2008],
     marks: &mut [u32; 800],
     n: usize,
 ) -> u32
     requires { ⌜ (now t ≡ rows) × Safe (now recs) (now ops) (now w) n (length (now st)) × Brief (now recs) (now ops) (now w) n × (length (now marks) ≡ 800) ⌝ }
-    ensures { λ r. ⌜ Passed (backward-ok (defs-of (now (recs .entry)) (now (w .entry))) (reads-of (now (recs .entry)) (now (ops .entry)) (now (w .entry))) n) 0 n (now (marks .entry)) (now (marks .exit)) r × (length (now (st .exit)) ≡ length (now (st .entry))) ⌝ }
+    ensures { λ r. ⌜ Passed (backward-ok (defs-of (now (recs .entry)) (now (w .entry))) (reads-of (now (recs .entry)) (now (ops .entry)) (now (w .entry))) n) 0 n (now (marks .entry)) (now (marks .exit)) r × (length (now (st .exit)) ≡ length (now (st .entry))) × Summed (now (recs .entry)) (now (w .entry)) n 0 (now (st .exit)) (now (lasts .exit)) (now (marks .exit)) ⌝ }
 {
     words::bits::clear(st);
-    backward(t, recs, ops, w, st, marks, n)
+    *lasts = [0u32; 2008];
+    backward(t, recs, ops, w, st, lasts, marks, n)
 }
 
-// The pass forward or the one backward. Says how many members were dropped.
+// The pass forward, by what the one backward before it summed up, or the one backward. Says how many members were dropped.
 fn pass(
     ahead: bool,
     t: &[u32; 202],
@@ -64,17 +40,18 @@ fn pass(
     w: &[u32],
     regs: &[u32],
     st: &mut [u64],
+    lasts: &mut [u32; 2008],
     marks: &mut [u32; 800],
     m: usize,
     n: usize,
 ) -> u32
-    requires { ⌜ (now t ≡ rows) × Set-up (now recs) (now ops) (now w) (now regs) (now st) (now marks) m n ⌝ }
-    ensures { λ r. ⌜ Passed (pass-ok (view (now (recs .entry)) (now (ops .entry)) (now (w .entry)) (now (regs .entry))) n ahead) 0 m (now (marks .entry)) (now (marks .exit)) r × (length (now (st .exit)) ≡ length (now (st .entry))) ⌝ }
+    requires { ⌜ (now t ≡ rows) × Set-up (now recs) (now ops) (now w) (now regs) (now st) (now marks) m n × (ahead ≡ true → Summed (now recs) (now w) n 0 (now st) (now lasts) (now marks)) ⌝ }
+    ensures { λ r. ⌜ Passed (pass-ok (view (now (recs .entry)) (now (ops .entry)) (now (w .entry)) (now (regs .entry))) n ahead) 0 m (now (marks .entry)) (now (marks .exit)) r × (length (now (st .exit)) ≡ length (now (st .entry))) × (ahead ≡ false → Summed (now (recs .entry)) (now (w .entry)) n 0 (now (st .exit)) (now (lasts .exit)) (now (marks .exit))) ⌝ }
 {
     if ahead {
-        return look_ahead(t, recs, ops, w, regs, st, marks, m, n);
+        return forward(t, recs, ops, w, regs, lasts, st, marks, m, n);
     }
-    look_back(t, recs, ops, w, st, marks, n)
+    look_back(t, recs, ops, w, st, lasts, marks, n)
 }
 
 // The marks become the greatest set within them that keeps the rules, unless fewer than `least` are left before. Says how many are.
@@ -94,12 +71,13 @@ pub fn settle(
     ensures { λ r. ⌜ Settled (cycle-ok (view (now (recs .entry)) (now (ops .entry)) (now (w .entry)) (now (regs .entry))) n) m least (now (marks .entry)) (now (marks .exit)) r × (length (now (st .exit)) ≡ length (now (st .entry))) ⌝ }
 {
     let mut left = count(marks, m);
+    let mut lasts = [0u32; 2008];
     // `ahead`: the pass that comes next; `quiet`: the last dropped nothing; `done`: nor did the one before.
-    let mut ahead = true;
+    let mut ahead = false;
     let mut quiet = false;
     let mut done = false;
     while !done & (least <= left) {
-        let d = pass(ahead, t, recs, ops, w, regs, st, marks, m, n);
+        let d = pass(ahead, t, recs, ops, w, regs, st, &mut lasts, marks, m, n);
         left -= d;
         done = quiet & (d == 0);
         quiet = d == 0;

@@ -1,5 +1,5 @@
-// A word a register, in a lent slice: the registers that a position writes, or reads, are stamped with a number. What stood there
-// below `keep` stays beside it. Where word 9 of the position is 0 its own words say which they are, else its record does.
+// A word a register, in a lent slice: the registers that a position writes, or reads, are stamped with a number `v`. What stood there
+// below `keep`, or `lo` if that is more, stays beside it. Where word 9 of the position is 0 its own words say which they are, else its record does.
 use crate::chain::cell_at;
 use crate::chain::places;
 use crate::chain::read_place;
@@ -11,28 +11,40 @@ ghost use Rattle.model.specs.Picture.{inst, absent, reads, writes};
 ghost use Rattle.inst.specs.Table.{rows};
 ghost use Rattle.inst.specs.Record.{Used};
 ghost use Rattle.legalset.specs.Chain.{defs-of, reads-of, Fits, Good};
-ghost use Rattle.plan.specs.Passes.{put-in, Stamped, Beside, Written, Readable};
+ghost use Rattle.plan.specs.Passes.{over, put-in, Stamped, Beside, Written, Readable};
+
+// The word x when it is stamped.
+fn over(x: u64, keep: u64, lo: u64, v: u64) -> u64
+    requires { ⌜ Beside keep lo v ⌝ }
+    ensures { λ r. ⌜ r ≡ over keep lo v x ⌝ }
+{
+    let y = x % keep;
+    if y < lo {
+        return lo + v;
+    }
+    y + v
+}
 
 // Stamps register r, if it is one.
-fn put(st: &mut [u64], r: u32, keep: u64, v: u64)
-    requires { ⌜ ((r ≡ absent) ⊎ (r < length (now st))) × Beside keep v ⌝ }
-    ensures { λ _. ⌜ now (st .exit) ≡ put-in keep v r (now (st .entry)) ⌝ }
+fn put(st: &mut [u64], r: u32, keep: u64, lo: u64, v: u64)
+    requires { ⌜ ((r ≡ absent) ⊎ (r < length (now st))) × Beside keep lo v ⌝ }
+    ensures { λ _. ⌜ now (st .exit) ≡ put-in keep lo v r (now (st .entry)) ⌝ }
 {
     if r != 4294967295 {
         let k = inst::record::wide(r);
-        st[k] = st[k] % keep + v;
+        st[k] = over(st[k], keep, lo, v);
     }
 }
 
 // Stamps what record g writes, slot by slot.
-fn put_slots(recs: &[u32], g: usize, uses: u32, st: &mut [u64], keep: u64, v: u64)
-    requires { ⌜ Used (now recs) g uses × Fits (now recs) (length (now st)) g × Beside keep v ⌝ }
-    ensures { λ _. ⌜ Stamped (writes (inst (now (recs .entry)) g)) keep v (now (st .entry)) (now (st .exit)) ⌝ }
+fn put_slots(recs: &[u32], g: usize, uses: u32, st: &mut [u64], keep: u64, lo: u64, v: u64)
+    requires { ⌜ Used (now recs) g uses × Fits (now recs) (length (now st)) g × Beside keep lo v ⌝ }
+    ensures { λ _. ⌜ Stamped (writes (inst (now (recs .entry)) g)) keep lo v (now (st .entry)) (now (st .exit)) ⌝ }
 {
     let mut s = 0usize;
     while s < 5 {
         let r = inst::access::write_at(recs, g, uses, s);
-        put(st, r, keep, v);
+        put(st, r, keep, lo, v);
         s += 1;
     }
 }
@@ -45,29 +57,39 @@ pub fn put_writes(
     p: usize,
     st: &mut [u64],
     keep: u64,
+    lo: u64,
     v: u64,
 )
-    requires { ⌜ (now t ≡ rows) × Written (now recs) (now w) (length (now st)) p × Beside keep v ⌝ }
-    ensures { λ _. ⌜ Stamped (defs-of (now (recs .entry)) (now (w .entry)) p) keep v (now (st .entry)) (now (st .exit)) ⌝ }
+    requires { ⌜ (now t ≡ rows) × Written (now recs) (now w) (length (now st)) p × Beside keep lo v ⌝ }
+    ensures { λ _. ⌜ Stamped (defs-of (now (recs .entry)) (now (w .entry)) p) keep lo v (now (st .entry)) (now (st .exit)) ⌝ }
 {
     if cell_at(w, p, 9) == 0 {
-        put(st, cell_at(w, p, 6), keep, v);
+        put(st, cell_at(w, p, 6), keep, lo, v);
         return;
     }
     let g = inst::record::wide(cell_at(w, p, 0));
-    put_slots(recs, g, inst::access::uses(t, recs, g), st, keep, v);
+    put_slots(recs, g, inst::access::uses(t, recs, g), st, keep, lo, v);
 }
 
 // Stamps what record g reads, place by place.
-fn put_places(ops: &[u32], recs: &[u32], g: usize, uses: u32, st: &mut [u64], keep: u64, v: u64)
-    requires { ⌜ Used (now recs) g uses × Good (now recs) (now ops) (length (now st)) g × Beside keep v ⌝ }
-    ensures { λ _. ⌜ Stamped (reads (now (ops .entry)) (inst (now (recs .entry)) g)) keep v (now (st .entry)) (now (st .exit)) ⌝ }
+fn put_places(
+    ops: &[u32],
+    recs: &[u32],
+    g: usize,
+    uses: u32,
+    st: &mut [u64],
+    keep: u64,
+    lo: u64,
+    v: u64,
+)
+    requires { ⌜ Used (now recs) g uses × Good (now recs) (now ops) (length (now st)) g × Beside keep lo v ⌝ }
+    ensures { λ _. ⌜ Stamped (reads (now (ops .entry)) (inst (now (recs .entry)) g)) keep lo v (now (st .entry)) (now (st .exit)) ⌝ }
 {
     let n = places(ops, recs, g);
     let mut k = 0usize;
     while k < n {
         let r = read_place(ops, recs, g, uses, k);
-        put(st, r, keep, v);
+        put(st, r, keep, lo, v);
         k += 1;
     }
 }
@@ -81,16 +103,26 @@ pub fn put_reads(
     p: usize,
     st: &mut [u64],
     keep: u64,
+    lo: u64,
     v: u64,
 )
-    requires { ⌜ (now t ≡ rows) × Readable (now recs) (now ops) (now w) (length (now st)) p × Beside keep v ⌝ }
-    ensures { λ _. ⌜ Stamped (reads-of (now (recs .entry)) (now (ops .entry)) (now (w .entry)) p) keep v (now (st .entry)) (now (st .exit)) ⌝ }
+    requires { ⌜ (now t ≡ rows) × Readable (now recs) (now ops) (now w) (length (now st)) p × Beside keep lo v ⌝ }
+    ensures { λ _. ⌜ Stamped (reads-of (now (recs .entry)) (now (ops .entry)) (now (w .entry)) p) keep lo v (now (st .entry)) (now (st .exit)) ⌝ }
 {
     if cell_at(w, p, 9) == 0 {
-        put(st, cell_at(w, p, 7), keep, v);
-        put(st, cell_at(w, p, 8), keep, v);
+        put(st, cell_at(w, p, 7), keep, lo, v);
+        put(st, cell_at(w, p, 8), keep, lo, v);
         return;
     }
     let g = inst::record::wide(cell_at(w, p, 0));
-    put_places(ops, recs, g, inst::access::uses(t, recs, g), st, keep, v);
+    put_places(
+        ops,
+        recs,
+        g,
+        inst::access::uses(t, recs, g),
+        st,
+        keep,
+        lo,
+        v,
+    );
 }

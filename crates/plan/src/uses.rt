@@ -102,7 +102,7 @@ fn read_on(
     ensures { λ _. ⌜ ReadOn (defs-of (now (recs .entry)) (now (w .entry))) (reads-of (now (recs .entry)) (now (ops .entry)) (now (w .entry))) q (now (st .entry)) (now (lasts .entry)) (now (st .exit)) (now (lasts .exit)) ⌝ }
 {
     note_reads(t, ops, recs, w, st, lasts, q);
-    put_writes(t, recs, w, q, st, 1, q as u64 + 1);
+    put_writes(t, recs, w, q, st, 1, 0, q as u64 + 1);
 }
 
 // Each position's last reader: `lasts` holds each position itself at first.

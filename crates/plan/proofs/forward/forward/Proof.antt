@@ -1,28 +1,33 @@
 -- `plan::forward::forward` meets its contract. Assumes nothing.
-use borrow.Author.Needs.{needs}
-use mathlib.Core.Path.{_∙_}
+use mathlib.Core.Path.{_∙_, sym}
 use Prim.Native.Nat.{_≤_, _-_}
 use native.Mathlib.Omega.{arith}
 use Rattle.plan.proofs.Summing.{safe-len}
 use Rattle.plan.proofs.Forwarding.{Going, going-none, going-more, going-near, going-end, passed-low, lost-low}
-use mathlib.Core.Path.{sym}
+use borrow.Author.Needs.{needs}
 use Rattle.plan.proofs.forward.forward.Statement.{statement}
 use Rattle.plan.proofs.forward.forward.Tie as tie
 
 abbrev Inv-loop : tie.InvT-loop
-Inv-loop t recs ops w regs lasts st₀ marks₀ sus bar m n r₀ p₀ st marks r p = (p ≤ m) × Going recs ops w regs n p st₀ marks₀ st marks r
+Inv-loop t recs ops w regs lasts st₀ marks₀ m n bar₀ sus₀ r₀ p₀ st marks r p = (p ≤ m) × Going recs ops w regs n p st₀ marks₀ st marks r
 
 abbrev μ-loop : tie.MeasureT-loop
-μ-loop t recs ops w regs lasts st₀ marks₀ sus bar m n r₀ p₀ st marks r p = m - p
+μ-loop t recs ops w regs lasts st₀ marks₀ m n bar₀ sus₀ r₀ p₀ st marks r p = m - p
+
+element-copy-out-bar : tie.Need-element-copy-out-bar Inv-loop μ-loop
+element-copy-out-bar c = search needs
+
+element-copy-out-sus : tie.Need-element-copy-out-sus Inv-loop μ-loop
+element-copy-out-sus c = search needs
 
 loop-holds : tie.Need-loop-holds Inv-loop μ-loop
-loop-holds c = (omega arith, going-none (c .before .before .before .before .before .pre .6))
+loop-holds c = (omega arith, going-none (c .before .before .before .before .before .before .before .pre .6))
 
 step-requires : tie.Need-step-requires Inv-loop μ-loop
-step-requires c κs = let i = c .before .before .before .loop .inv .1 in let h = c .before .before .loop-test .taken in (c .before .before .before .before .before .before .before .before .before .pre .0, safe-len (c .before .before .before .before .before .before .before .before .before .pre .1) (i .size), c .before .before .before .before .before .before .before .before .before .pre .2, c .before .before .before .before .before .before .before .before .before .pre .3 ∙ sym (i .size), going-near (c .before .before .before .before .before .before .before .before .before .pre .1) (omega (arith, c .before .before .before .before .before .before .before .before .before .pre .4)) (c .before .before .before .before .before .before .before .before .before .pre .6) i, omega (arith, c .before .before .before .before .before .before .before .before .before .pre .4), i .passed .size ∙ c .before .before .before .before .before .before .before .before .before .pre .5)
+step-requires c κs = let p = c .before .before .before .before .before .before .before .before .before .before .before .pre in let i = c .before .before .before .loop .inv .1 in let h = c .before .before .loop-test .taken in (p .0, safe-len (p .1) (i .size), p .2, p .3 ∙ sym (i .size), going-near (p .1) (omega (arith, p .4)) (p .6) i, omega (arith, p .4), i .passed .size ∙ p .5)
 
 add-r : tie.Need-add-r Inv-loop μ-loop
-add-r c = omega (arith, passed-low (c .before .before .before .before .before .before .loop .inv .1 .passed) (c .before .before .before .before .before .before .before .before .before .before .before .before .pre .5), lost-low _ _ _ (c .before .before .step .ensures .loses))
+add-r c = omega (arith, passed-low (c .before .before .before .before .before .before .loop .inv .1 .passed) (c .before .before .before .before .before .before .before .before .before .before .before .before .before .before .pre .5), lost-low _ _ _ (c .before .before .step .ensures .loses))
 
 add-p : tie.Need-add-p Inv-loop μ-loop
 add-p c = search needs
@@ -31,7 +36,7 @@ loop-less : tie.Need-loop-less Inv-loop μ-loop
 loop-less c = search needs
 
 loop-again : tie.Need-loop-again Inv-loop μ-loop
-loop-again c = (omega arith, going-more (c .before .before .before .before .before .before .before .before .before .before .before .before .pre .1) (omega (arith, c .before .before .before .before .before .before .before .before .before .before .before .before .pre .4, c .before .before .before .before .before .loop-test .taken)) (c .before .before .before .before .before .before .before .before .before .before .before .before .pre .6) (c .before .before .before .before .before .before .loop .inv .1) (c .before .before .step .ensures))
+loop-again c = let p = c .before .before .before .before .before .before .before .before .before .before .before .before .before .before .pre in (omega arith, going-more (p .1) (omega (arith, p .4, c .before .before .before .before .before .loop-test .taken)) (p .6) (c .before .before .before .before .before .before .loop .inv .1) (c .before .before .step .ensures))
 
 same-length : tie.Need-same-length Inv-loop μ-loop
 same-length c = c .before .loop .inv .1 .size
@@ -45,6 +50,8 @@ forward-spec =
     (tie.spec
     Inv-loop
     μ-loop
+    element-copy-out-bar
+    element-copy-out-sus
     loop-holds
     step-requires
     add-r

@@ -1,6 +1,7 @@
 -- `plan::forward::step` meets its contract. Assumes nothing.
 use native.Mathlib.Omega.{arith}
-use Rattle.plan.proofs.Forwarding.{forwarded, two-stamps}
+use Rattle.plan.proofs.Stamping.{writer-stamp}
+use Rattle.plan.proofs.Forwarding.{forwarded}
 use Rattle.plan.proofs.Wording.{written, readable}
 use borrow.Author.Needs.{needs}
 use Rattle.plan.proofs.forward.step.Statement.{statement}
@@ -16,7 +17,7 @@ mul-put-writes : tie.Need-mul-put-writes
 mul-put-writes c = search needs
 
 put-writes-requires : tie.Need-put-writes-requires
-put-writes-requires c κs = let p = c .before .before .before .before .before .before .before .before .before .pre in (p .0, written (p .1) (p .2) (p .5), two-stamps _ (omega (arith, p .1 .few, p .5)))
+put-writes-requires c κs = let p = c .before .before .before .before .before .before .before .before .before .pre in (p .0, written (p .1) (p .2) (p .5), writer-stamp _ (omega (arith, p .1 .few, p .5)))
 
 drop-unless-requires : tie.Need-drop-unless-requires
 drop-unless-requires c κs = search needs

@@ -1,6 +1,6 @@
 -- `plan::rules::rule1` meets its contract. Assumes nothing.
 use Prim.Native.Nat.{ℕ}
-use lib.Dec.{eqb}
+use lib.Dec.{leb}
 use lib.ListN.{getD}
 use Rattle.plan.proofs.Wording.{known-at, slots-at, slots-tested, word-low, word-tested}
 use borrow.Author.Needs.{needs}
@@ -17,7 +17,7 @@ free-requires : tie.Need-free-requires
 free-requires c κs = word-low (c .before .before .before .before .before .before .pre .1) (c .before .before .cell-at .ensures) (c .before .if1 .taken) (c .cell-at2 .ensures)
 
 returns : tie.Need-returns
-returns c = word-tested (c .before .before .before .before .before .before .before .pre .1) (c .before .before .before .cell-at .ensures) (c .before .before .if1 .taken) (c .before .cell-at2 .ensures) (λ (x : ℕ). eqb (getD (c .before .before .before .before .before .before .before .args .st .now) x 0) 0) (c .free .ensures)
+returns c = word-tested (c .before .before .before .before .before .before .before .pre .1) (c .before .before .before .cell-at .ensures) (c .before .before .if1 .taken) (c .before .cell-at2 .ensures) (λ (x : ℕ). leb (getD (c .before .before .before .before .before .before .before .args .st .now) x 0) 1023) (c .free .ensures)
 
 cell-at-requires-3 : tie.Need-cell-at-requires-3
 cell-at-requires-3 c κs = search needs
@@ -32,7 +32,7 @@ free-slots-requires : tie.Need-free-slots-requires
 free-slots-requires c κs = slots-at (c .before .before .before .before .before .before .before .before .pre .1) (c .before .before .cell-at3 .ensures) (c .before .wide .ensures) (c .uses .ensures)
 
 returns-2 : tie.Need-returns-2
-returns-2 c = slots-tested (c .before .before .before .before .before .before .before .before .before .pre .1) (λ (x : ℕ). eqb (getD (c .before .before .before .before .before .before .before .before .before .args .st .now) x 0) 0) (c .before .before .before .cell-at3 .ensures) (c .before .before .wide .ensures) (c .free-slots .ensures)
+returns-2 c = slots-tested (c .before .before .before .before .before .before .before .before .before .pre .1) (λ (x : ℕ). leb (getD (c .before .before .before .before .before .before .before .before .before .args .st .now) x 0) 1023) (c .before .before .before .cell-at3 .ensures) (c .before .before .wide .ensures) (c .free-slots .ensures)
 
 pub rule1-spec : {M : Type 1} → statement M
 rule1-spec =

@@ -1,5 +1,5 @@
 -- `plan::settle::look_back` meets its contract. Assumes nothing.
-use mathlib.Core.Path.{_∙_, sym}
+use mathlib.Core.Path.{refl, _∙_}
 use Rattle.plan.proofs.Summing.{safe-len}
 use Rattle.plan.proofs.Cycling.{cleared}
 use borrow.Author.Needs.{needs}
@@ -10,13 +10,19 @@ clear-requires : tie.Need-clear-requires
 clear-requires c κs = search needs
 
 backward-requires : tie.Need-backward-requires
-backward-requires c κs = let z = cleared (c .before .before .before .before .before .before .before .before .before .before .args .st .now) (c .before .before .before .before .clear .ensures) in (c .before .before .before .before .before .before .before .before .before .before .pre .0, safe-len (c .before .before .before .before .before .before .before .before .before .before .pre .1) (z .0), c .before .before .before .before .before .before .before .before .before .before .pre .2, c .before .before .before .before .before .before .before .before .before .before .pre .3, z .1)
+backward-requires c κs = let z = cleared (c .before .before .before .before .before .before .before .before .before .before .before .before .args .st .now) (c .before .before .before .before .before .before .clear .ensures) in let p = c .before .before .before .before .before .before .before .before .before .before .before .before .pre in (p .0, safe-len (p .1) (z .0), p .2, p .3, z .1, refl)
 
 same-length : tie.Need-same-length
-same-length c = search needs
+same-length c = c .before .before .backward .ensures .1 ∙ cleared (c .before .before .before .before .before .before .before .before .before .before .before .before .before .before .before .args .st .now) (c .before .before .before .before .before .before .before .before .before .clear .ensures) .0
 
 returns : tie.Need-returns
-returns c = search needs
+returns c = let e = c .before .before .backward .ensures in (e .0, e .1 ∙ cleared (c .before .before .before .before .before .before .before .before .before .before .before .before .before .before .before .args .st .now) (c .before .before .before .before .before .before .before .before .before .clear .ensures) .0, e .2)
 
 pub look-back-spec : {M : Type 1} → statement M
-look-back-spec = tie.close (tie.spec clear-requires backward-requires same-length returns)
+look-back-spec =
+    tie.close
+    (tie.spec
+    clear-requires
+    backward-requires
+    same-length
+    returns)

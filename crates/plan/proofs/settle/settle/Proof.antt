@@ -6,30 +6,30 @@ use Rattle.plan.proofs.settle.settle.Statement.{statement}
 use Rattle.plan.proofs.settle.settle.Tie as tie
 
 abbrev Inv-loop : tie.InvT-loop
-Inv-loop t recs ops w regs st₀ marks₀ m n least left₀ ahead₀ quiet₀ done₀ st marks left ahead quiet done =
-    Cycling recs ops w regs m n st₀ marks₀ st marks ahead quiet done left
+Inv-loop t recs ops w regs st₀ marks₀ m n least left₀ lasts₀ ahead₀ quiet₀ done₀ st marks left lasts ahead quiet done =
+    Cycling recs ops w regs m n st₀ marks₀ st lasts marks ahead quiet done left
 
 abbrev μ-loop : tie.MeasureT-loop
-μ-loop t recs ops w regs st₀ marks₀ m n least left₀ ahead₀ quiet₀ done₀ st marks left ahead quiet done =
+μ-loop t recs ops w regs st₀ marks₀ m n least left₀ lasts₀ ahead₀ quiet₀ done₀ st marks left lasts ahead quiet done =
     to-go marks quiet done
 
 count-requires : tie.Need-count-requires Inv-loop μ-loop
 count-requires c κs = let p = c .before .before .before .before .before .before .pre .1 in (p .marks-size, omega (arith, p .in-x, p .safe .few), c .before .before .before .before .before .before .pre .2)
 
 loop-holds : tie.Need-loop-holds Inv-loop μ-loop
-loop-holds c = cycling-none _ _ _ _ _ _ _ _ (c .count .ensures)
+loop-holds c = cycling-none _ _ _ _ _ _ _ _ _ (c .count .ensures)
 
 pass-requires : tie.Need-pass-requires Inv-loop μ-loop
-pass-requires c κs = let i = c .before .before .before .loop .inv in (c .before .before .before .before .before .before .before .before .before .before .before .pre .0, set-up-on (c .before .before .before .before .before .before .before .before .before .before .before .pre .1) (i .size) (i .settling .size))
+pass-requires c κs = let i = c .before .before .before .before .loop .inv in (c .before .before .before .before .before .before .before .before .before .before .before .before .pre .0, set-up-on (c .before .before .before .before .before .before .before .before .before .before .before .before .pre .1) (i .size) (i .settling .size), i .sum)
 
 sub-left : tie.Need-sub-left Inv-loop μ-loop
-sub-left c = omega (arith, c .before .before .before .before .before .before .loop .inv .settling .count, c .before .before .pass .ensures .0 .count)
+sub-left c = omega (arith, c .before .before .before .before .before .before .before .loop .inv .settling .count, c .before .before .pass .ensures .0 .count)
 
 loop-less : tie.Need-loop-less Inv-loop μ-loop
-loop-less c = to-go-less _ _ (c .before .before .before .before .before .before .loop .quiet) (c .before .before .before .before .before .before .loop .done) _ _ (c .before .before .pass .ensures .0 .count) (c .before .before .before .before .before .loop-test .taken)
+loop-less c = to-go-less _ _ (c .before .before .before .before .before .before .before .loop .quiet) (c .before .before .before .before .before .before .before .loop .done) _ _ (c .before .before .pass .ensures .0 .count) (c .before .before .before .before .before .before .loop-test .taken)
 
 loop-again : tie.Need-loop-again Inv-loop μ-loop
-loop-again c = cycling-more (c .before .before .before .before .before .before .loop .inv) (c .before .before .pass .ensures)
+loop-again c = cycling-more (c .before .before .before .before .before .before .before .loop .inv) (c .before .before .pass .ensures)
 
 same-length : tie.Need-same-length Inv-loop μ-loop
 same-length c = c .before .loop .inv .size

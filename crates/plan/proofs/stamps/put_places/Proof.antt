@@ -12,16 +12,16 @@ use Rattle.plan.proofs.stamps.put_places.Statement.{statement}
 use Rattle.plan.proofs.stamps.put_places.Tie as tie
 
 abbrev Inv-loop : tie.InvT-loop
-Inv-loop ops recs g uses st₀ keep v n k₀ st k = (k ≤ n) × Stamping (read-place ops (inst recs g)) keep v k st₀ st
+Inv-loop ops recs g uses st₀ keep lo v n k₀ st k = (k ≤ n) × Stamping (read-place ops (inst recs g)) keep lo v k st₀ st
 
 abbrev μ-loop : tie.MeasureT-loop
-μ-loop ops recs g uses st₀ keep v n k₀ st k = n - k
+μ-loop ops recs g uses st₀ keep lo v n k₀ st k = n - k
 
 places-requires : tie.Need-places-requires Inv-loop μ-loop
 places-requires c κs = search needs
 
 loop-holds : tie.Need-loop-holds Inv-loop μ-loop
-loop-holds c = (omega arith, stamping-none _ _ _ _)
+loop-holds c = (omega arith, stamping-none _ _ _ _ _)
 
 read-place-requires : tie.Need-read-place-requires Inv-loop μ-loop
 read-place-requires c κs = (c .before .before .before .before .before .before .pre .0, c .before .before .before .before .before .before .pre .1 .listed, omega (arith, c .before .before .places .ensures))

@@ -12,13 +12,13 @@ use Rattle.plan.proofs.stamps.put_slots.Statement.{statement}
 use Rattle.plan.proofs.stamps.put_slots.Tie as tie
 
 abbrev Inv-loop : tie.InvT-loop
-Inv-loop recs g uses st₀ keep v s₀ st s = (s ≤ 5) × Stamping (write-at (inst recs g)) keep v s st₀ st
+Inv-loop recs g uses st₀ keep lo v s₀ st s = (s ≤ 5) × Stamping (write-at (inst recs g)) keep lo v s st₀ st
 
 abbrev μ-loop : tie.MeasureT-loop
-μ-loop recs g uses st₀ keep v s₀ st s = 5 - s
+μ-loop recs g uses st₀ keep lo v s₀ st s = 5 - s
 
 loop-holds : tie.Need-loop-holds Inv-loop μ-loop
-loop-holds c = (omega arith, stamping-none _ _ _ _)
+loop-holds c = (omega arith, stamping-none _ _ _ _ _)
 
 write-at-requires : tie.Need-write-at-requires Inv-loop μ-loop
 write-at-requires c κs = search needs

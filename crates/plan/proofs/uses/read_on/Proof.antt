@@ -1,6 +1,6 @@
 -- `plan::uses::read_on` meets its contract. Assumes nothing.
 use native.Mathlib.Omega.{arith}
-use Rattle.plan.proofs.Summing.{whole-stamp}
+use Rattle.plan.proofs.Stamping.{whole-stamp}
 use Rattle.plan.proofs.Wording.{written, readable}
 use borrow.Author.Needs.{needs}
 use Rattle.plan.proofs.uses.read_on.Statement.{statement}
