@@ -10,7 +10,6 @@ use native.Mathlib.Omega.{arith}
 use borrow.Author.Tests.{eq-eqb, ne-eqb, le-leb, lt-leb}
 use lib.Dec.{eqb, leb}
 use lib.ListN.{getD, length, set, replicate}
-use lib.Seq.{getD-set-other}
 use Rattle.words.specs.Lists.{In, upto, all, mem, hit}
 use Rattle.model.specs.Picture.{inst, absent, reads, writes}
 use Rattle.inst.specs.Record.{write-at}
@@ -21,10 +20,10 @@ use Rattle.legalset.specs.Rules.{last-kept, pending, backward-ok}
 use Rattle.legalset.proofs.Dropping.{passed-none, passed-down}
 use Rattle.legalset.proofs.Easier.{behind, backward-mono}
 use Rattle.legalset.proofs.Pending.{pending-ext}
-use Rattle.plan.specs.Passes.{over, stamp, since, kept-word, noted, Stamped, Stamps, Awaits, Awaited, Notes, Noted, Backed, Summed}
+use Rattle.plan.specs.Passes.{over, stamp, since, writer-word, kept-word, noted, Stamped, Stamps, Awaits, Awaited, Notes, Noted, Backed, Summed}
 use Rattle.plan.proofs.Places.{Placed, all-placed, writes-placed}
 use Rattle.plan.proofs.Summing.{zero-at, since-low, since-ext, since-all, notes-none, notes-more, notes-writes, notes-barrier, notes-suspension}
-use Rattle.plan.proofs.Forwarding.{skip-sift, skip-lost}
+use Rattle.plan.proofs.Forwarding.{sifted-other, skip-sift, skip-lost}
 
 -- ---- what a record writes is not awaited
 
@@ -83,14 +82,6 @@ writes-low recs R g h r i =
     let a = writes-placed recs g (h .within) in
     let z = a .to r i in
     ⊎-elim (λ e. absurd (a .real r i (sym (z .2) ∙ e))) (λ l. subst (λ (x : ℕ). x < R) (z .2) l) (h .slot (z .0) (z .1))
-
-sifted-other : (S : List ℕ) (p : ℕ) (ok : Bool) (z : ℕ) → (z ≡ p → ⊥) → in-set (sifted S p ok) z ≡ in-set S z
-unfolding sifted in-set
-sifted-other S p ok z n = go (in-set S p && not ok)
-  where
-    go : (b : Bool) → in-set (cond b (set S p 0) S) z ≡ in-set S z
-    go true = ap (λ (x : ℕ). not (eqb x 0)) (getD-set-other S p z 0 0 n)
-    go false = refl
 
 hit-low : (b : Bool) → hit b ≤ 1
 hit-low true = omega arith
@@ -198,8 +189,8 @@ backing-more {recs} {ops} {w} {n} {q} {st₀} {marks₀} {st} {ls} {marks} s l h
     }
 
 -- what is awaited and noted at the end is the summary of the marks
-stamps-of : {recs ops w : List ℕ} {n R : ℕ} {L : ℕ → Bool} {st : List ℕ} → Safe recs ops w n R → Awaits (defs-of recs w) (reads-of recs ops w) L n 0 st → Stamps (defs-of recs w) L n 0 st
-unfolding last-kept writer last-below
+stamps-of : {recs ops w : List ℕ} {n R : ℕ} {L : ℕ → Bool} {st : List ℕ} → Safe recs ops w n R → Awaits (defs-of recs w) (reads-of recs ops w) L n 0 st → Stamps w (defs-of recs w) L L n 0 st
+unfolding last-kept writer last-below writer-word
 stamps-of {recs} {ops} {w} {n} {R} {L} {st} s i = record { kept = λ r h. parts r h .0; wrote = λ r h. parts r h .1 }
   where
     parts : (r : ℕ) → r < length st → (getD st r 0 % 1024 ≡ last-below (λ q. not (L q) && mem r (defs-of recs w q)) n) × (getD st r 0 / 2048 ≡ 0)

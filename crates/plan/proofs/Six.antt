@@ -31,7 +31,7 @@ module _ {recs ops w regs : List ℕ} {n p : ℕ} (s : Safe recs ops w n (length
 
   -- rules 3 to 5: the summary of the marks, and the writers before p
   module _ {st lasts : List ℕ} (e : length st ≡ length regs) (z : Summed recs w n p st lasts marks) where
-    pub rule3-tests : all (read-test st marks p) (reads-of recs ops w p) ≡ getD (tests run needed (in-set marks) p) 2 true
+    pub rule3-tests : all (read-test st p) (reads-of recs ops w p) ≡ getD (tests run needed (in-set marks) p) 2 true
     rule3-tests = reads-are regs marks s h e (z .stamps) (z .writes) (z .barrier) (z .suspension) ∙ rule3-is (view recs ops w regs) n run (t .stands) needed (in-set marks) p h
 
     pub rule4-tests : leb (getD lasts 2007 0) (p + 1) ≡ getD (tests run needed (in-set marks) p) 3 true

@@ -35,10 +35,10 @@ pub awaited-stamp : Beside 1024 0 1024
 unfolding over
 awaited-stamp = record { some = omega arith; small = omega arith; twice = λ x. omega arith }
 
--- the last writer
-pub writer-stamp : (v : ℕ) → v < 800 → Beside 2048 0 (2048 * (v + 1))
+-- what is asked of the last writer
+pub writer-stamp : {v x : ℕ} → v ≡ 2048 * x → x < 8020 → Beside 2048 0 v
 unfolding over
-writer-stamp v h = record { some = omega arith; small = omega arith; twice = λ x. omega arith }
+writer-stamp {v} {x} e h = record { some = omega arith; small = omega arith; twice = λ x. omega arith }
 
 -- ---- place by place
 

@@ -13,46 +13,36 @@ use lib.Seq.{drop-cons}
 use Rattle.words.specs.Lists.{upto, all, conj}
 use Rattle.words.proofs.Alls.{and-yes, and-nay}
 use Rattle.model.specs.Picture.{Inst, inst, absent, reads, list-of}
-use Rattle.legalset.specs.Chain.{cell, flag, reg-org, picked, origins, Good}
+use Rattle.legalset.specs.Chain.{cell, flag, reg-org, picked, Good}
 use Rattle.legalset.specs.Marks.{in-set}
-use Rattle.legalset.specs.Rules.{when-in, own-memory, read-fine, org-fine, still-fine}
-use Rattle.plan.specs.Passes.{read-place, read-test, place-test, org-test, piece-test, from-test, memory-test, stay-test, Near}
+use Rattle.legalset.specs.Rules.{own-memory, org-fine, still-fine}
+use Rattle.plan.specs.Passes.{read-place, read-test, place-test, word-org, org-test, piece-test, froms, from-test, memory-test, stay-test, Near}
 use Rattle.inst.proofs.Lists.{getD-any}
 use Rattle.plan.proofs.Places.{Placed, all-placed, reads-placed}
 
 -- ---- rule 3
 
-pub when-no : (L : ℕ → Bool) (d : ℕ) → d ≡ 0 → false ≡ when-in L d
-unfolding when-in
-when-no L d e = sym (ap (when-in L) e)
-
-pub when-yes : (L : ℕ → Bool) (d : ℕ) {b : Bool} → (d ≡ 0 → ⊥) → b ≡ L (d - 1) → b ≡ when-in L d
-unfolding when-in
-when-yes L zero n e = absurd (n refl)
-when-yes L (suc d) n e = let z : suc d - 1 ≡ d = omega arith in e ∙ ap L z
-
-module _ (st marks : List ℕ) (p r : ℕ) where
-  pub place-absent : r ≡ absent → true ≡ place-test st marks p r
+module _ (st : List ℕ) (p r : ℕ) where
+  pub place-absent : r ≡ absent → true ≡ place-test st p r
   unfolding place-test
-  place-absent e = sym (ap (λ (b : Bool). b || read-test st marks p r) (eq-eqb r absent e))
+  place-absent e = sym (ap (λ (b : Bool). b || read-test st p r) (eq-eqb r absent e))
 
-  pub place-there : {k : ℕ} {b : Bool} → (r ≡ absent → ⊥) → k ≡ r → b ≡ when-in (in-set marks) (getD st k 0 / 2048) → (b || leb (getD st k 0 % 1024) (p + 1)) ≡ place-test st marks p r
-  unfolding place-test read-test read-fine
-  place-there {k} {b} n e f =
-      ap (λ (x : Bool). x || leb (getD st k 0 % 1024) (p + 1)) f
-      ∙ ap (λ (j : ℕ). when-in (in-set marks) (getD st j 0 / 2048) || leb (getD st j 0 % 1024) (p + 1)) e
-      ∙ sym (ap (λ (x : Bool). x || (when-in (in-set marks) (getD st r 0 / 2048) || leb (getD st r 0 % 1024) (p + 1))) (ne-eqb r absent n))
+  pub place-there : {k : ℕ} → (r ≡ absent → ⊥) → k ≡ r → (eqb (getD st k 0 / 4096 % 2) 1 || leb (getD st k 0 % 1024) (p + 1)) ≡ place-test st p r
+  unfolding place-test read-test
+  place-there {k} n e =
+      ap (λ (j : ℕ). eqb (getD st j 0 / 4096 % 2) 1 || leb (getD st j 0 % 1024) (p + 1)) e
+      ∙ sym (ap (λ (x : Bool). x || (eqb (getD st r 0 / 4096 % 2) 1 || leb (getD st r 0 % 1024) (p + 1))) (ne-eqb r absent n))
 
-pub place-is : (st marks : List ℕ) (p r : ℕ) {b : Bool} → b ≡ place-test st marks p r → b ≡ (eqb r absent || read-test st marks p r)
+pub place-is : (st : List ℕ) (p r : ℕ) {b : Bool} → b ≡ place-test st p r → b ≡ (eqb r absent || read-test st p r)
 unfolding place-test
-place-is st marks p r e = e
+place-is st p r e = e
 
-pub reads-all : {recs ops : List ℕ} {R g n : ℕ} (st marks : List ℕ) (p : ℕ) → Good recs ops R g → n ≡ 5 + length (list-of ops (inst recs g))
-    → all (λ k. place-test st marks p (read-place ops (inst recs g) k)) (upto n) ≡ all (read-test st marks p) (reads ops (inst recs g))
+pub reads-all : {recs ops : List ℕ} {R g n : ℕ} (st : List ℕ) (p : ℕ) → Good recs ops R g → n ≡ 5 + length (list-of ops (inst recs g))
+    → all (λ k. place-test st p (read-place ops (inst recs g) k)) (upto n) ≡ all (read-test st p) (reads ops (inst recs g))
 unfolding place-test
-reads-all {recs} {ops} {R} {g} {n} st marks p h e =
-    ap (λ (m : ℕ). all (λ k. eqb (read-place ops (inst recs g) k) absent || read-test st marks p (read-place ops (inst recs g) k)) (upto m)) e
-    ∙ sym (all-placed (reads-placed recs ops R g h) (read-test st marks p))
+reads-all {recs} {ops} {R} {g} {n} st p h e =
+    ap (λ (m : ℕ). all (λ k. eqb (read-place ops (inst recs g) k) absent || read-test st p (read-place ops (inst recs g) k)) (upto m)) e
+    ∙ sym (all-placed (reads-placed recs ops R g h) (read-test st p))
 
 -- ---- rule 5
 
@@ -70,40 +60,36 @@ org-is lasts bar p o {k} e =
     ap (λ (j : ℕ). (((eqb o 1 || leb 3 o) && (leb bar (p + 1) || eqb o 1)) && leb (getD lasts 1 0) (p + 1)) && (leb o 2 || leb (getD lasts (j + 1) 0) (p + 1))) e
     ∙ and4 (eqb o 1 || leb 3 o) (leb bar (p + 1) || eqb o 1) (leb (getD lasts 1 0) (p + 1)) (leb o 2 || leb (getD lasts (o + 1) 0) (p + 1))
 
-module _ (regs : List ℕ) {w st : List ℕ} {n r k : ℕ} (h : Near w st n) (l : r < length st) (e : k ≡ r) where
-  pub near-room : (getD st k 0 / 2048 ≡ 0 → ⊥) → 10 * (getD st k 0 / 2048 - 1) + 10 ≤ length w
-  near-room z = let a = h .room in let b = h .writer k (subst (λ (x : ℕ). x < length st) (sym e) l) in omega arith
+module _ (regs : List ℕ) {st : List ℕ} {r k : ℕ} (h : Near st) (l : r < length st) (e : k ≡ r) where
+  pub reg-yes : 2048 ≤ getD st k 0 → (getD st k 0 / 8192 ≡ word-org regs r (getD st r 0)) × (getD st k 0 / 8192 < 2005)
+  unfolding word-org
+  reg-yes z = (
+    sym (ap (λ (b : Bool). cond b (getD st k 0 / 8192) (reg-org [] regs r 0)) (le-leb 2048 (getD st k 0) z)) ∙ ap (λ (j : ℕ). cond (leb 2048 (getD st j 0)) (getD st j 0 / 8192) (reg-org [] regs r 0)) e,
+    h .org k (subst (λ (x : ℕ). x < length st) (sym e) l),
+  )
 
-  pub reg-yes : {x : ℕ} → (getD st k 0 / 2048 ≡ 0 → ⊥) → x ≡ cell w (getD st k 0 / 2048 - 1) 2 → (x ≡ reg-org w regs r (getD st r 0 / 2048)) × (x < 2005)
-  unfolding reg-org
-  reg-yes {x} z f =
-      let b = h .writer k (subst (λ (x : ℕ). x < length st) (sym e) l) in
-      (f ∙ is (getD st k 0 / 2048) z ∙ ap (λ (j : ℕ). reg-org w regs r (getD st j 0 / 2048)) e, let o = h .org (getD st k 0 / 2048 - 1) (omega arith) in omega arith)
-    where
-      is : (d : ℕ) → (d ≡ 0 → ⊥) → cell w (d - 1) 2 ≡ reg-org w regs r d
-      is zero z = absurd (z refl)
-      is (suc d) z = let y : suc d - 1 ≡ d = omega arith in ap (λ (j : ℕ). cell w j 2) y
+  none-is : getD st k 0 < 2048 → word-org regs r (getD st r 0) ≡ cond (eqb (getD regs k 0 % 2) 1) 1 (cond (eqb (getD regs k 0 / 2 % 2) 1) 3 0)
+  unfolding word-org reg-org
+  none-is z =
+      ap (λ (j : ℕ). cond (leb 2048 (getD st j 0)) (getD st j 0 / 8192) (cond (eqb (getD regs j 0 % 2) 1) 1 (cond (eqb (getD regs j 0 / 2 % 2) 1) 3 0))) (sym e)
+      ∙ ap (λ (b : Bool). cond b (getD st k 0 / 8192) (cond (eqb (getD regs k 0 % 2) 1) 1 (cond (eqb (getD regs k 0 / 2 % 2) 1) 3 0))) (lt-leb 2048 (getD st k 0) z)
 
-  none-is : getD st k 0 / 2048 ≡ 0 → reg-org w regs r (getD st r 0 / 2048) ≡ cond (eqb (getD regs k 0 % 2) 1) 1 (cond (eqb (getD regs k 0 / 2 % 2) 1) 3 0)
-  unfolding reg-org
-  none-is z = ap (reg-org w regs r) (ap (λ (j : ℕ). getD st j 0 / 2048) (sym e) ∙ z) ∙ ap (λ (j : ℕ). cond (eqb (getD regs j 0 % 2) 1) 1 (cond (eqb (getD regs j 0 / 2 % 2) 1) 3 0)) (sym e)
-
-  pub reg-ro : getD st k 0 / 2048 ≡ 0 → getD regs k 0 % 2 ≡ 1 → (1 ≡ reg-org w regs r (getD st r 0 / 2048)) × (1 < 2005)
+  pub reg-ro : getD st k 0 < 2048 → getD regs k 0 % 2 ≡ 1 → (1 ≡ word-org regs r (getD st r 0)) × (1 < 2005)
   reg-ro z a = (sym (none-is z ∙ ap (λ (b : Bool). cond b 1 (cond (eqb (getD regs k 0 / 2 % 2) 1) 3 0)) (eq-eqb (getD regs k 0 % 2) 1 a)), omega arith)
 
-  pub reg-frame : getD st k 0 / 2048 ≡ 0 → (getD regs k 0 % 2 ≡ 1 → ⊥) → getD regs k 0 / 2 % 2 ≡ 1 → (3 ≡ reg-org w regs r (getD st r 0 / 2048)) × (3 < 2005)
+  pub reg-frame : getD st k 0 < 2048 → (getD regs k 0 % 2 ≡ 1 → ⊥) → getD regs k 0 / 2 % 2 ≡ 1 → (3 ≡ word-org regs r (getD st r 0)) × (3 < 2005)
   reg-frame z a b = (sym (none-is z ∙ ap₂ (λ (x y : Bool). cond x 1 (cond y 3 0)) (ne-eqb (getD regs k 0 % 2) 1 a) (eq-eqb (getD regs k 0 / 2 % 2) 1 b)), omega arith)
 
-  pub reg-none : getD st k 0 / 2048 ≡ 0 → (getD regs k 0 % 2 ≡ 1 → ⊥) → (getD regs k 0 / 2 % 2 ≡ 1 → ⊥) → (0 ≡ reg-org w regs r (getD st r 0 / 2048)) × (0 < 2005)
+  pub reg-none : getD st k 0 < 2048 → (getD regs k 0 % 2 ≡ 1 → ⊥) → (getD regs k 0 / 2 % 2 ≡ 1 → ⊥) → (0 ≡ word-org regs r (getD st r 0)) × (0 < 2005)
   reg-none z a b = (sym (none-is z ∙ ap₂ (λ (x y : Bool). cond x 1 (cond y 3 0)) (ne-eqb (getD regs k 0 % 2) 1 a) (ne-eqb (getD regs k 0 / 2 % 2) 1 b)), omega arith)
 
-module _ (w regs st lasts : List ℕ) (bar p : ℕ) where
-  pub piece-odd : (sc r : ℕ) → (sc % 2 ≡ 0 → ⊥) → true ≡ (not (eqb (sc % 2) 0) || piece-test w regs st lasts bar p r)
-  piece-odd sc r n = sym (ap (λ (b : Bool). not b || piece-test w regs st lasts bar p r) (ne-eqb (sc % 2) 0 n))
+module _ (regs st lasts : List ℕ) (bar p : ℕ) where
+  pub piece-odd : (sc r : ℕ) → (sc % 2 ≡ 0 → ⊥) → true ≡ (not (eqb (sc % 2) 0) || piece-test regs st lasts bar p r)
+  piece-odd sc r n = sym (ap (λ (b : Bool). not b || piece-test regs st lasts bar p r) (ne-eqb (sc % 2) 0 n))
 
-  pub piece-even : (sc r : ℕ) {o : ℕ} {b : Bool} → sc % 2 ≡ 0 → o ≡ reg-org w regs r (getD st r 0 / 2048) → b ≡ org-test lasts bar p o → b ≡ (not (eqb (sc % 2) 0) || piece-test w regs st lasts bar p r)
+  pub piece-even : (sc r : ℕ) {o : ℕ} {b : Bool} → sc % 2 ≡ 0 → o ≡ word-org regs r (getD st r 0) → b ≡ org-test lasts bar p o → b ≡ (not (eqb (sc % 2) 0) || piece-test regs st lasts bar p r)
   unfolding piece-test
-  piece-even sc r {o} e f g = g ∙ ap (org-test lasts bar p) f ∙ sym (ap (λ (b : Bool). not b || org-test lasts bar p (reg-org w regs r (getD st r 0 / 2048))) (eq-eqb (sc % 2) 0 e))
+  piece-even sc r {o} e f g = g ∙ ap (org-test lasts bar p) f ∙ sym (ap (λ (b : Bool). not b || org-test lasts bar p (word-org regs r (getD st r 0))) (eq-eqb (sc % 2) 0 e))
 
 -- a Cat's list from k on
 module _ (f : ℕ → Bool) (xs : List ℕ) (k sc : ℕ) where
@@ -139,33 +125,33 @@ all-map : {A B : Type 0} (f : B → Bool) (g : A → B) (xs : List A) → all f 
 all-map f g [] = refl
 all-map f g (x ∷ xs) = ap (λ (b : Bool). f (g x) && b) (all-map f g xs)
 
-one-origin : (w regs ops : List ℕ) (i : Inst) (d : ℕ → ℕ) (o : ℕ) → (suc o ≡ 4294967295 → ⊥) → origins w regs ops i d (suc o) ≡ o ∷ []
-unfolding origins
-one-origin w regs ops i d o n = ap (λ (b : Bool). cond b (map (λ r. reg-org w regs r (d r)) (picked (getD i 9 0) (list-of ops i))) (o ∷ [])) (ne-eqb (suc o) 4294967295 n)
+one-origin : (regs ops : List ℕ) (i : Inst) (st : List ℕ) (o : ℕ) → (suc o ≡ 4294967295 → ⊥) → froms regs ops i st (suc o) ≡ o ∷ []
+unfolding froms
+one-origin regs ops i st o n = ap (λ (b : Bool). cond b (map (λ r. word-org regs r (getD st r 0)) (picked (getD i 9 0) (list-of ops i))) (o ∷ [])) (ne-eqb (suc o) 4294967295 n)
 
 module _ (w regs ops : List ℕ) (i : Inst) (st lasts : List ℕ) (bar p : ℕ) where
   pub from-none : {x : ℕ} → x ≡ cell w p 5 → x ≡ 0 → true ≡ from-test w regs ops i st lasts bar p
-  unfolding from-test origins
-  from-none e z = sym (ap (λ (y : ℕ). all (org-test lasts bar p) (origins w regs ops i (λ r. getD st r 0 / 2048) y)) (sym e ∙ z))
+  unfolding from-test froms
+  from-none e z = sym (ap (λ (y : ℕ). all (org-test lasts bar p) (froms regs ops i st y)) (sym e ∙ z))
 
   pub from-one : {x : ℕ} {b : Bool} → x ≡ cell w p 5 → (x ≡ 0 → ⊥) → (x ≡ 4294967295 → ⊥) → b ≡ org-test lasts bar p (x - 1) → b ≡ from-test w regs ops i st lasts bar p
   unfolding from-test
-  from-one {x} {b} e z n f = f ∙ is x z n ∙ ap (λ (y : ℕ). all (org-test lasts bar p) (origins w regs ops i (λ r. getD st r 0 / 2048) y)) e
+  from-one {x} {b} e z n f = f ∙ is x z n ∙ ap (λ (y : ℕ). all (org-test lasts bar p) (froms regs ops i st y)) e
     where
       end : (a : Bool) → a ≡ (a && true)
       end true = refl
       end false = refl
 
-      is : (x : ℕ) → (x ≡ 0 → ⊥) → (x ≡ 4294967295 → ⊥) → org-test lasts bar p (x - 1) ≡ all (org-test lasts bar p) (origins w regs ops i (λ r. getD st r 0 / 2048) x)
+      is : (x : ℕ) → (x ≡ 0 → ⊥) → (x ≡ 4294967295 → ⊥) → org-test lasts bar p (x - 1) ≡ all (org-test lasts bar p) (froms regs ops i st x)
       is zero z n = absurd (z refl)
-      is (suc o) z n = let q : suc o - 1 ≡ o = omega arith in ap (org-test lasts bar p) q ∙ end (org-test lasts bar p o) ∙ sym (ap (all (org-test lasts bar p)) (one-origin w regs ops i (λ r. getD st r 0 / 2048) o n))
+      is (suc o) z n = let q : suc o - 1 ≡ o = omega arith in ap (org-test lasts bar p) q ∙ end (org-test lasts bar p o) ∙ sym (ap (all (org-test lasts bar p)) (one-origin regs ops i st o n))
 
-  pub from-cat : {x sc : ℕ} {xs : List ℕ} {b : Bool} → x ≡ cell w p 5 → x ≡ 4294967295 → xs ≡ list-of ops i → sc ≡ getD i 9 0 → b ≡ all (piece-test w regs st lasts bar p) (picked sc xs) → b ≡ from-test w regs ops i st lasts bar p
-  unfolding from-test origins piece-test
+  pub from-cat : {x sc : ℕ} {xs : List ℕ} {b : Bool} → x ≡ cell w p 5 → x ≡ 4294967295 → xs ≡ list-of ops i → sc ≡ getD i 9 0 → b ≡ all (piece-test regs st lasts bar p) (picked sc xs) → b ≡ from-test w regs ops i st lasts bar p
+  unfolding from-test froms piece-test
   from-cat {x} {sc} {xs} e z f g h =
-      h ∙ ap₂ (λ (s : ℕ) (l : List ℕ). all (λ r. org-test lasts bar p (reg-org w regs r (getD st r 0 / 2048))) (picked s l)) g f
-      ∙ sym (all-map (org-test lasts bar p) (λ r. reg-org w regs r (getD st r 0 / 2048)) (picked (getD i 9 0) (list-of ops i)))
-      ∙ ap (λ (y : ℕ). all (org-test lasts bar p) (origins w regs ops i (λ r. getD st r 0 / 2048) y)) (sym z ∙ e)
+      h ∙ ap₂ (λ (s : ℕ) (l : List ℕ). all (λ r. org-test lasts bar p (word-org regs r (getD st r 0))) (picked s l)) g f
+      ∙ sym (all-map (org-test lasts bar p) (λ r. word-org regs r (getD st r 0)) (picked (getD i 9 0) (list-of ops i)))
+      ∙ ap (λ (y : ℕ). all (org-test lasts bar p) (froms regs ops i st y)) (sym z ∙ e)
 
 -- ---- rule 6, and rule 5 for what creates or writes
 
@@ -233,7 +219,7 @@ list-low {recs} {ops} {R} {g} {xs} h e k l =
 
 module _ (recs ops w regs st lasts marks : List ℕ) (g sus bar p : ℕ) where
   abbrev three : Bool
-  three = all (read-test st marks p) (reads ops (inst recs g))
+  three = all (read-test st p) (reads ops (inst recs g))
 
   abbrev five : Bool
   five = memory-test recs ops w regs st lasts g bar p

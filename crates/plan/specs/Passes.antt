@@ -1,7 +1,7 @@
 -- What the parts of a pass require and ensure. Assumes nothing.
 use mathlib.Core.Path.{_≡_}
 use mathlib.Core.Bool.{Bool, true, false, not, _&&_, _||_, cond}
-use mathlib.Core.List.{List, [], _∷_, _++_}
+use mathlib.Core.List.{List, [], _∷_, _++_, map}
 use Prim.Native.Nat.{ℕ, zero, suc, _+_, _*_, _-_, _/_, _%_, _≤_, _<_, max}
 use lib.Dec.{eqb, leb, ltb}
 use lib.ListN.{getD, length, set, take, drop, replicate}
@@ -11,9 +11,9 @@ use Rattle.model.specs.Picture.{Inst, inst, absent, reads, writes, list-of}
 use Rattle.model.specs.Analyse.{Fact}
 use Rattle.model.specs.Legal.{greatest}
 use Rattle.inst.specs.Record.{Known, present, read-at}
-use Rattle.legalset.specs.Chain.{writer, cell, flag, defs-of, reads-of, origins, reg-org, Fits, Good, Safe, Brief, Told}
+use Rattle.legalset.specs.Chain.{writer, cell, flag, defs-of, reads-of, reg-org, picked, Fits, Good, Safe, Brief, Told}
 use Rattle.legalset.specs.Marks.{in-set, sifted, lost}
-use Rattle.legalset.specs.Rules.{last-kept, read-fine, org-fine, own-memory, still-fine, pending}
+use Rattle.legalset.specs.Rules.{last-kept, org-fine, own-memory, still-fine, pending}
 
 -- read k: slots 0 to 4, then the list; absent where there is none
 unfoldable pub read-place : List ℕ → Inst → ℕ → ℕ
@@ -55,10 +55,15 @@ pub record Stamped (l : List ℕ) (keep lo v : ℕ) (before after : List ℕ) : 
 
 -- ---- the summary of a set, and the writers so far
 
--- each register's last kept writer, below 1024, and its last writer before p, from 2048 on
-pub record Stamps (defs : ℕ → List ℕ) (L : ℕ → Bool) (n p : ℕ) (st : List ℕ) : Type 0 where
-  pub kept : (r : ℕ) → r < length st → getD st r 0 % 1024 ≡ last-kept L (λ q. mem r (defs q)) n
-  pub wrote : (r : ℕ) → r < length st → getD st r 0 / 2048 ≡ writer defs r p
+-- what is stamped of a writer d, given as d and 1: 0 for none, else 1, 2 if it is in L, and 4 times its origin
+unfoldable pub writer-word : List ℕ → (ℕ → Bool) → ℕ → ℕ
+writer-word w L zero = 0
+writer-word w L (suc d) = 1 + 2 * hit (L d) + 4 * cell w d 2
+
+-- each register's last writer kept by L₀, below 1024, and its last writer before p, from 2048 on
+pub record Stamps (w : List ℕ) (defs : ℕ → List ℕ) (L₀ L : ℕ → Bool) (n p : ℕ) (st : List ℕ) : Type 0 where
+  pub kept : (r : ℕ) → r < length st → getD st r 0 % 1024 ≡ last-kept L₀ (λ q. mem r (defs q)) n
+  pub wrote : (r : ℕ) → r < length st → getD st r 0 / 2048 ≡ writer-word w L (writer defs r p)
 
 -- the last kept write of each origin and 1
 pub record Writes (wrote : ℕ → ℕ) (L : ℕ → Bool) (n : ℕ) (lasts : List ℕ) : Type 0 where
@@ -87,16 +92,25 @@ pub record Notes (w : List ℕ) (L : ℕ → Bool) (n q : ℕ) (lasts : List ℕ
 -- ---- the tests at p by these words
 
 -- rule 3
-unfoldable pub read-test : List ℕ → List ℕ → ℕ → ℕ → Bool
-read-test st marks p r = read-fine (in-set marks) p (getD st r 0 / 2048) (getD st r 0 % 1024)
+unfoldable pub read-test : List ℕ → ℕ → ℕ → Bool
+read-test st p r = eqb (getD st r 0 / 4096 % 2) 1 || leb (getD st r 0 % 1024) (p + 1)
 
 -- rule 5 for an origin
 unfoldable pub org-test : List ℕ → ℕ → ℕ → ℕ → Bool
 org-test lasts bar p o = org-fine p bar (getD lasts 1 0) (getD lasts (o + 1) 0) o
 
+-- where register r points, by its word x: its writer's origin, or what was known before round 1
+unfoldable pub word-org : List ℕ → ℕ → ℕ → ℕ
+word-org regs r x = cond (leb 2048 x) (x / 8192) (reg-org [] regs r 0)
+
+-- the origins that p reads, by its word 5
+unfoldable pub froms : List ℕ → List ℕ → Inst → List ℕ → ℕ → List ℕ
+froms regs ops i st zero = []
+froms regs ops i st (suc o) = cond (eqb (suc o) 4294967295) (map (λ r. word-org regs r (getD st r 0)) (picked (getD i 9 0) (list-of ops i))) (o ∷ [])
+
 -- what p reads from
 unfoldable pub from-test : List ℕ → List ℕ → List ℕ → Inst → List ℕ → List ℕ → ℕ → ℕ → Bool
-from-test w regs ops i st lasts bar p = all (org-test lasts bar p) (origins w regs ops i (λ r. getD st r 0 / 2048) (cell w p 5))
+from-test w regs ops i st lasts bar p = all (org-test lasts bar p) (froms regs ops i st (cell w p 5))
 
 -- what is stamped fits, and a second stamp changes nothing
 pub record Beside (keep lo v : ℕ) : Type 0 where
@@ -105,18 +119,16 @@ pub record Beside (keep lo v : ℕ) : Type 0 where
   pub twice : (x : ℕ) → over keep lo v (over keep lo v x) ≡ over keep lo v x
 
 -- rule 3 for what stands in a place
-unfoldable pub place-test : List ℕ → List ℕ → ℕ → ℕ → Bool
-place-test st marks p r = eqb r absent || read-test st marks p r
+unfoldable pub place-test : List ℕ → ℕ → ℕ → Bool
+place-test st p r = eqb r absent || read-test st p r
 
 -- rule 5 for a register of a Cat's list
-unfoldable pub piece-test : List ℕ → List ℕ → List ℕ → List ℕ → ℕ → ℕ → ℕ → Bool
-piece-test w regs st lasts bar p r = org-test lasts bar p (reg-org w regs r (getD st r 0 / 2048))
+unfoldable pub piece-test : List ℕ → List ℕ → List ℕ → ℕ → ℕ → ℕ → Bool
+piece-test regs st lasts bar p r = org-test lasts bar p (word-org regs r (getD st r 0))
 
--- the writers so far are among the n positions of w, whose origins are small
-pub record Near (w st : List ℕ) (n : ℕ) : Type 0 where
-  pub room : 10 * n ≤ length w
-  pub writer : (r : ℕ) → r < length st → getD st r 0 / 2048 ≤ n
-  pub org : (p : ℕ) → p < n → cell w p 2 < 2004
+-- the origins that are stamped are small
+pub record Near (st : List ℕ) : Type 0 where
+  pub org : (r : ℕ) → r < length st → getD st r 0 / 8192 < 2005
 
 -- rule 5 for position p, record g
 unfoldable pub memory-test : List ℕ → List ℕ → List ℕ → List ℕ → List ℕ → List ℕ → ℕ → ℕ → ℕ → Bool
@@ -125,17 +137,17 @@ memory-test recs ops w regs st lasts g bar p = still-fine p bar (flag w 4 p) (ce
 -- rules 3 to 6 for position p, record g
 unfoldable pub stay-test : List ℕ → List ℕ → List ℕ → List ℕ → List ℕ → List ℕ → List ℕ → ℕ → ℕ → ℕ → ℕ → Bool
 stay-test recs ops w regs st lasts marks g sus bar p =
-    conj (all (read-test st marks p) (reads ops (inst recs g)) ∷ leb sus (p + 1) ∷ memory-test recs ops w regs st lasts g bar p ∷ own-memory (in-set marks) (cell w p 4) ∷ [])
+    conj (all (read-test st p) (reads ops (inst recs g)) ∷ leb sus (p + 1) ∷ memory-test recs ops w regs st lasts g bar p ∷ own-memory (in-set marks) (cell w p 4) ∷ [])
 
 -- position p was looked at: st and marks after those before
 pub record Forwarded (recs ops w regs lasts : List ℕ) (sus bar p : ℕ) (st marks st′ marks′ : List ℕ) (r : ℕ) : Type 0 where
-  pub stamped : Stamped (writes (inst recs (cell w p 0))) 2048 0 (2048 * (p + 1)) st st′
+  pub stamped : Stamped (writes (inst recs (cell w p 0))) 2048 0 (2048 * writer-word w (in-set marks′) (suc p)) st st′
   pub sifts : marks′ ≡ sifted marks p (stay-test recs ops w regs st lasts marks (cell w p 0) sus bar p)
   pub loses : r ≡ lost marks p (stay-test recs ops w regs st lasts marks (cell w p 0) sus bar p)
 
 -- the summary of the marks, with the writers before p
 pub record Summed (recs w : List ℕ) (n p : ℕ) (st lasts marks : List ℕ) : Type 0 where
-  pub stamps : Stamps (defs-of recs w) (in-set marks) n p st
+  pub stamps : Stamps w (defs-of recs w) (in-set marks) (in-set marks) n p st
   pub writes : Writes (λ q. cell w q 4) (in-set marks) n lasts
   pub barrier : getD lasts 2006 0 ≡ last-kept (in-set marks) (flag w 8) n
   pub suspension : getD lasts 2007 0 ≡ last-kept (in-set marks) (flag w 16) n

@@ -1,5 +1,6 @@
 // The six rules that a member keeps, each a function of its own (01, "The legal set"), against what the kept positions do. `st` holds a
-// word a register: below 1024 its last kept writer, 1024 if it is awaited, from 2048 on its last writer, of `backward` and `forward`.
+// word a register: below 1024 its last kept writer, 1024 if it is awaited, from 2048 on what is asked of its last writer, of `backward` and
+// `forward`.
 // `sus`, `bar` and `lasts` are of `notes`. Rules 1 to 3 ask of a position's own words where its word 9 is 0, else of its record.
 use crate::chain::cell_at;
 use crate::chain::places;
@@ -15,10 +16,10 @@ ghost use Rattle.words.specs.Lists.{all};
 ghost use Rattle.model.specs.Picture.{inst, absent, reads, writes};
 ghost use Rattle.inst.specs.Table.{rows};
 ghost use Rattle.inst.specs.Record.{Used};
-ghost use Rattle.legalset.specs.Chain.{cell, flag, defs-of, reads-of, reg-org, picked, Fits, Good};
+ghost use Rattle.legalset.specs.Chain.{cell, flag, defs-of, reads-of, picked, Fits, Good};
 ghost use Rattle.legalset.specs.Marks.{in-set};
-ghost use Rattle.legalset.specs.Rules.{when-in, own-memory, still-fine};
-ghost use Rattle.plan.specs.Passes.{result-test, read-test, place-test, org-test, piece-test, from-test, memory-test, Near, Written, Readable};
+ghost use Rattle.legalset.specs.Rules.{own-memory, still-fine};
+ghost use Rattle.plan.specs.Passes.{result-test, read-test, place-test, word-org, org-test, piece-test, from-test, memory-test, Near, Written, Readable};
 
 // Is register r, if it is one, not awaited?
 fn free(st: &[u64], r: u32) -> bool
@@ -116,48 +117,29 @@ pub fn rule2(
     unneeded_slots(recs, g, inst::access::uses(t, recs, g), regs, bits, o, p)
 }
 
-// Is the position before d, if there is one, in the set?
-fn before_in(marks: &[u32; 800], d: u64) -> bool
-    requires { ⌜ length (now marks) ≡ 800 ⌝ }
-    ensures { λ b. ⌜ b ≡ when-in (in-set (now (marks .entry))) d ⌝ }
-{
-    if d == 0 {
-        return false;
-    }
-    marked(marks, (d - 1) as usize)
-}
-
 // Rule 3 for register r, if it is one.
-fn read_ok(st: &[u64], marks: &[u32; 800], r: u32, p: usize) -> bool
-    requires { ⌜ ((r ≡ absent) ⊎ (r < length (now st))) × (length (now marks) ≡ 800) × (p < 800) ⌝ }
-    ensures { λ b. ⌜ b ≡ place-test (now (st .entry)) (now (marks .entry)) p r ⌝ }
+fn read_ok(st: &[u64], r: u32, p: usize) -> bool
+    requires { ⌜ ((r ≡ absent) ⊎ (r < length (now st))) × (p < 800) ⌝ }
+    ensures { λ b. ⌜ b ≡ place-test (now (st .entry)) p r ⌝ }
 {
     if r == 4294967295 {
         return true;
     }
     let k = inst::record::wide(r);
     let v = st[k];
-    before_in(marks, v / 2048) | (v % 1024 <= p as u64 + 1)
+    (v / 4096 % 2 == 1) | (v % 1024 <= p as u64 + 1)
 }
 
 // Rule 3 for what record g, at p, reads, place by place.
-fn places_ok(
-    ops: &[u32],
-    recs: &[u32],
-    g: usize,
-    uses: u32,
-    st: &[u64],
-    marks: &[u32; 800],
-    p: usize,
-) -> bool
-    requires { ⌜ Used (now recs) g uses × Good (now recs) (now ops) (length (now st)) g × (length (now marks) ≡ 800) × (p < 800) ⌝ }
-    ensures { λ b. ⌜ b ≡ all (read-test (now (st .entry)) (now (marks .entry)) p) (reads (now (ops .entry)) (inst (now (recs .entry)) g)) ⌝ }
+fn places_ok(ops: &[u32], recs: &[u32], g: usize, uses: u32, st: &[u64], p: usize) -> bool
+    requires { ⌜ Used (now recs) g uses × Good (now recs) (now ops) (length (now st)) g × (p < 800) ⌝ }
+    ensures { λ b. ⌜ b ≡ all (read-test (now (st .entry)) p) (reads (now (ops .entry)) (inst (now (recs .entry)) g)) ⌝ }
 {
     let n = places(ops, recs, g);
     let mut k = 0usize;
     while k < n {
         let r = read_place(ops, recs, g, uses, k);
-        if !read_ok(st, marks, r, p) {
+        if !read_ok(st, r, p) {
             return false;
         }
         k += 1;
@@ -166,23 +148,15 @@ fn places_ok(
 }
 
 // Rule 3: each register that position p reads has its writer in the set, or is written by no kept position after p.
-pub fn rule3(
-    t: &[u32; 202],
-    ops: &[u32],
-    recs: &[u32],
-    w: &[u32],
-    st: &[u64],
-    marks: &[u32; 800],
-    p: usize,
-) -> bool
-    requires { ⌜ (now t ≡ rows) × Readable (now recs) (now ops) (now w) (length (now st)) p × (length (now marks) ≡ 800) × (p < 800) ⌝ }
-    ensures { λ b. ⌜ b ≡ all (read-test (now (st .entry)) (now (marks .entry)) p) (reads-of (now (recs .entry)) (now (ops .entry)) (now (w .entry)) p) ⌝ }
+pub fn rule3(t: &[u32; 202], ops: &[u32], recs: &[u32], w: &[u32], st: &[u64], p: usize) -> bool
+    requires { ⌜ (now t ≡ rows) × Readable (now recs) (now ops) (now w) (length (now st)) p × (p < 800) ⌝ }
+    ensures { λ b. ⌜ b ≡ all (read-test (now (st .entry)) p) (reads-of (now (recs .entry)) (now (ops .entry)) (now (w .entry)) p) ⌝ }
 {
     if cell_at(w, p, 9) == 0 {
-        return read_ok(st, marks, cell_at(w, p, 7), p) & read_ok(st, marks, cell_at(w, p, 8), p);
+        return read_ok(st, cell_at(w, p, 7), p) & read_ok(st, cell_at(w, p, 8), p);
     }
     let g = inst::record::wide(cell_at(w, p, 0));
-    places_ok(ops, recs, g, inst::access::uses(t, recs, g), st, marks, p)
+    places_ok(ops, recs, g, inst::access::uses(t, recs, g), st, p)
 }
 
 // Rule 4: no kept position after p may suspend. `sus` is the last that may, and 1.
@@ -204,14 +178,14 @@ fn org_ok(lasts: &[u32; 2008], bar: u32, p: usize, o: u32) -> bool
 }
 
 // Where register r points that is read at this place.
-fn reg_org(w: &[u32], regs: &[u32], st: &[u64], r: u32, n: usize) -> u32
-    requires { ⌜ Near (now w) (now st) n × (r < length (now st)) × (length (now regs) ≡ length (now st)) ⌝ }
-    ensures { λ o. ⌜ (o ≡ reg-org (now (w .entry)) (now (regs .entry)) r (getD (now (st .entry)) r 0 / 2048)) × (o < 2005) ⌝ }
+fn reg_org(regs: &[u32], st: &[u64], r: u32) -> u32
+    requires { ⌜ Near (now st) × (r < length (now st)) × (length (now regs) ≡ length (now st)) ⌝ }
+    ensures { λ o. ⌜ (o ≡ word-org (now (regs .entry)) r (getD (now (st .entry)) r 0)) × (o < 2005) ⌝ }
 {
     let k = inst::record::wide(r);
-    let d = (st[k] / 2048) as usize;
-    if d != 0 {
-        return cell_at(w, d - 1, 2);
+    let v = st[k];
+    if 2048 <= v {
+        return (v / 8192) as u32;
     }
     if regs[k] % 2 == 1 {
         return 1;
@@ -224,39 +198,35 @@ fn reg_org(w: &[u32], regs: &[u32], st: &[u64], r: u32, n: usize) -> u32
 
 // Rule 5 for a Cat's piece, if its bit says that it is an address.
 fn piece_ok(
-    w: &[u32],
     regs: &[u32],
     st: &[u64],
     lasts: &[u32; 2008],
     bar: u32,
     p: usize,
-    n: usize,
     sc: u32,
     r: u32,
 ) -> bool
-    requires { ⌜ Near (now w) (now st) n × (r < length (now st)) × (length (now regs) ≡ length (now st)) × (p < 800) ⌝ }
-    ensures { λ b. ⌜ b ≡ (not (eqb (sc % 2) 0) || piece-test (now (w .entry)) (now (regs .entry)) (now (st .entry)) (now (lasts .entry)) bar p r) ⌝ }
+    requires { ⌜ Near (now st) × (r < length (now st)) × (length (now regs) ≡ length (now st)) × (p < 800) ⌝ }
+    ensures { λ b. ⌜ b ≡ (not (eqb (sc % 2) 0) || piece-test (now (regs .entry)) (now (st .entry)) (now (lasts .entry)) bar p r) ⌝ }
 {
     if sc % 2 != 0 {
         return true;
     }
-    org_ok(lasts, bar, p, reg_org(w, regs, st, r, n))
+    org_ok(lasts, bar, p, reg_org(regs, st, r))
 }
 
 // Rule 5 for all of a Cat's pieces, the registers xs.
 fn pieces_ok(
     xs: &[u32],
-    w: &[u32],
     regs: &[u32],
     st: &[u64],
     lasts: &[u32; 2008],
     bar: u32,
     p: usize,
-    n: usize,
     scalars: u32,
 ) -> bool
-    requires { ⌜ Near (now w) (now st) n × ((k : ℕ) → k < length (now xs) → getD (now xs) k 0 < length (now st)) × (length (now regs) ≡ length (now st)) × (p < 800) ⌝ }
-    ensures { λ b. ⌜ b ≡ all (piece-test (now (w .entry)) (now (regs .entry)) (now (st .entry)) (now (lasts .entry)) bar p) (picked scalars (now (xs .entry))) ⌝ }
+    requires { ⌜ Near (now st) × ((k : ℕ) → k < length (now xs) → getD (now xs) k 0 < length (now st)) × (length (now regs) ≡ length (now st)) × (p < 800) ⌝ }
+    ensures { λ b. ⌜ b ≡ all (piece-test (now (regs .entry)) (now (st .entry)) (now (lasts .entry)) bar p) (picked scalars (now (xs .entry))) ⌝ }
 {
     let mut k = 0usize;
     let mut sc = scalars;
@@ -264,7 +234,7 @@ fn pieces_ok(
         if xs.len() - k < 2 {
             return true;
         }
-        if !piece_ok(w, regs, st, lasts, bar, p, n, sc, xs[k]) {
+        if !piece_ok(regs, st, lasts, bar, p, sc, xs[k]) {
             return false;
         }
         k += 2;
@@ -283,9 +253,8 @@ fn froms_ok(
     lasts: &[u32; 2008],
     bar: u32,
     p: usize,
-    n: usize,
 ) -> bool
-    requires { ⌜ Good (now recs) (now ops) (length (now st)) (cell (now w) p 0) × Near (now w) (now st) n × (length (now regs) ≡ length (now st)) × (p < n) × (n ≤ 800) × ((cell (now w) p 5 ≤ 2004) ⊎ (cell (now w) p 5 ≡ 4294967295)) ⌝ }
+    requires { ⌜ Good (now recs) (now ops) (length (now st)) (cell (now w) p 0) × (10 * p + 10 ≤ length (now w)) × Near (now st) × (length (now regs) ≡ length (now st)) × (p < 800) × ((cell (now w) p 5 ≤ 2004) ⊎ (cell (now w) p 5 ≡ 4294967295)) ⌝ }
     ensures { λ b. ⌜ b ≡ from-test (now (w .entry)) (now (regs .entry)) (now (ops .entry)) (inst (now (recs .entry)) (cell (now (w .entry)) p 0)) (now (st .entry)) (now (lasts .entry)) bar p ⌝ }
 {
     let f = cell_at(w, p, 5);
@@ -297,17 +266,7 @@ fn froms_ok(
     }
     let g = inst::record::wide(cell_at(w, p, 0));
     let xs = inst::access::list(ops, recs, g);
-    pieces_ok(
-        xs,
-        w,
-        regs,
-        st,
-        lasts,
-        bar,
-        p,
-        n,
-        inst::record::word(recs, g, 9),
-    )
+    pieces_ok(xs, regs, st, lasts, bar, p, inst::record::word(recs, g, 9))
 }
 
 // Rule 5 for what position p creates or writes.
@@ -331,15 +290,14 @@ pub fn rule5(
     lasts: &[u32; 2008],
     bar: u32,
     p: usize,
-    n: usize,
 ) -> bool
-    requires { ⌜ Good (now recs) (now ops) (length (now st)) (cell (now w) p 0) × Near (now w) (now st) n × (length (now regs) ≡ length (now st)) × (p < n) × (n ≤ 800) × ((cell (now w) p 5 ≤ 2004) ⊎ (cell (now w) p 5 ≡ 4294967295)) ⌝ }
+    requires { ⌜ Good (now recs) (now ops) (length (now st)) (cell (now w) p 0) × (10 * p + 10 ≤ length (now w)) × Near (now st) × (length (now regs) ≡ length (now st)) × (p < 800) × ((cell (now w) p 5 ≤ 2004) ⊎ (cell (now w) p 5 ≡ 4294967295)) ⌝ }
     ensures { λ b. ⌜ b ≡ memory-test (now (recs .entry)) (now (ops .entry)) (now (w .entry)) (now (regs .entry)) (now (st .entry)) (now (lasts .entry)) (cell (now (w .entry)) p 0) bar p ⌝ }
 {
     if !still(w, bar, p) {
         return false;
     }
-    froms_ok(ops, recs, w, regs, st, lasts, bar, p, n)
+    froms_ok(ops, recs, w, regs, st, lasts, bar, p)
 }
 
 // Rule 6 by the number of the memory written.

@@ -38,7 +38,7 @@ word-requires : tie.Need-word-requires
 word-requires c κs = (good-of (c .before .before .before .before .before .before .before .before .before .before .before .pre .0) (c .before .before .cell-at2 .ensures) (c .before .wide .ensures) .known .within, omega arith)
 
 pieces-ok-requires : tie.Need-pieces-ok-requires
-pieces-ok-requires c κs = (c .before .before .before .before .before .before .before .before .before .before .before .before .pre .1, list-low (good-of (c .before .before .before .before .before .before .before .before .before .before .before .before .pre .0) (c .before .before .before .cell-at2 .ensures) (c .before .before .wide .ensures)) (c .before .list .ensures), c .before .before .before .before .before .before .before .before .before .before .before .before .pre .2, omega arith)
+pieces-ok-requires c κs = (c .before .before .before .before .before .before .before .before .before .before .before .before .pre .2, list-low (good-of (c .before .before .before .before .before .before .before .before .before .before .before .before .pre .0) (c .before .before .before .cell-at2 .ensures) (c .before .before .wide .ensures)) (c .before .list .ensures), c .before .before .before .before .before .before .before .before .before .before .before .before .pre .3, omega arith)
 
 returns-3 : tie.Need-returns-3
 returns-3 c = let a = c .before .before .before .before .before .before .before .before .before .before .before .before .before .args in let e = c .before .before .before .wide .ensures ∙ c .before .before .before .before .cell-at2 .ensures in from-cat _ _ _ _ _ _ _ _ (c .before .before .before .before .before .before .before .cell-at .ensures) (c .before .before .before .before .before .if2 .left) (c .before .before .list .ensures ∙ ap (λ (j : ℕ). list-of (a .ops .now) (inst (a .recs .now) j)) e) (c .before .word .ensures ∙ ap (λ (j : ℕ). word (a .recs .now) j 9) e) (c .pieces-ok .ensures)

@@ -12,10 +12,10 @@ use Rattle.plan.proofs.rules.pieces_ok.Statement.{statement}
 use Rattle.plan.proofs.rules.pieces_ok.Tie as tie
 
 abbrev Inv-loop : tie.InvT-loop
-Inv-loop xs w regs st lasts bar p n scalars k₀ sc₀ k sc = (k ≤ length xs) × (all (piece-test w regs st lasts bar p) (picked sc (drop k xs)) ≡ all (piece-test w regs st lasts bar p) (picked scalars xs))
+Inv-loop xs regs st lasts bar p scalars k₀ sc₀ k sc = (k ≤ length xs) × (all (piece-test regs st lasts bar p) (picked sc (drop k xs)) ≡ all (piece-test regs st lasts bar p) (picked scalars xs))
 
 abbrev μ-loop : tie.MeasureT-loop
-μ-loop xs w regs st lasts bar p n scalars k₀ sc₀ k sc = length xs - k
+μ-loop xs regs st lasts bar p scalars k₀ sc₀ k sc = length xs - k
 
 loop-holds : tie.Need-loop-holds Inv-loop μ-loop
 loop-holds c = (omega arith, refl)
@@ -33,10 +33,10 @@ shared-slice-read-piece-ok : tie.Need-shared-slice-read-piece-ok Inv-loop μ-loo
 shared-slice-read-piece-ok c = search needs
 
 piece-ok-requires : tie.Need-piece-ok-requires Inv-loop μ-loop
-piece-ok-requires c κs = (c .before .before .before .before .before .before .before .before .pre .0, c .before .before .before .before .before .before .before .before .pre .1 _ (c .before .before .loop-test .taken), c .before .before .before .before .before .before .before .before .pre .2, c .before .before .before .before .before .before .before .before .pre .3)
+piece-ok-requires c κs = (c .before .before .before .before .before .before .before .pre .0, c .before .before .before .before .before .before .before .pre .1 _ (c .before .before .loop-test .taken), c .before .before .before .before .before .before .before .pre .2, c .before .before .before .before .before .before .before .pre .3)
 
 returns-2 : tie.Need-returns-2 Inv-loop μ-loop
-returns-2 c = pick-no _ (c .before .before .before .before .before .before .before .before .before .before .args .xs .now) (c .before .before .before .before .before .loop .k) (c .before .before .before .before .before .loop .sc) (c .before .before .before .before .loop-test .taken) (c .before .before .before .if1 .left) (c .before .before .before .before .before .loop .inv .1) (c .before .piece-ok .ensures) (c .if2 .taken)
+returns-2 c = pick-no _ (c .before .before .before .before .before .before .before .before .before .args .xs .now) (c .before .before .before .before .before .loop .k) (c .before .before .before .before .before .loop .sc) (c .before .before .before .before .loop-test .taken) (c .before .before .before .if1 .left) (c .before .before .before .before .before .loop .inv .1) (c .before .piece-ok .ensures) (c .if2 .taken)
 
 add-k : tie.Need-add-k Inv-loop μ-loop
 add-k c = search needs
@@ -45,10 +45,10 @@ loop-less : tie.Need-loop-less Inv-loop μ-loop
 loop-less c = search needs
 
 loop-again : tie.Need-loop-again Inv-loop μ-loop
-loop-again c = (omega arith, pick-on _ (c .before .before .before .before .before .before .before .before .before .before .args .xs .now) (c .before .before .before .before .before .loop .k) (c .before .before .before .before .before .loop .sc) (c .before .before .before .before .loop-test .taken) (c .before .before .before .if1 .left) (c .before .before .before .before .before .loop .inv .1) (c .before .piece-ok .ensures) (c .if2 .left))
+loop-again c = (omega arith, pick-on _ (c .before .before .before .before .before .before .before .before .before .args .xs .now) (c .before .before .before .before .before .loop .k) (c .before .before .before .before .before .loop .sc) (c .before .before .before .before .loop-test .taken) (c .before .before .before .if1 .left) (c .before .before .before .before .before .loop .inv .1) (c .before .piece-ok .ensures) (c .if2 .left))
 
 returns-3 : tie.Need-returns-3 Inv-loop μ-loop
-returns-3 c = pick-end _ (c .before .before .before .before .before .before .args .xs .now) (c .before .loop .k) (c .before .loop .sc) (c .loop-test .left) (c .before .loop .inv .1)
+returns-3 c = pick-end _ (c .before .before .before .before .before .args .xs .now) (c .before .loop .k) (c .before .loop .sc) (c .loop-test .left) (c .before .loop .inv .1)
 
 pub pieces-ok-spec : {M : Type 1} → statement M
 pieces-ok-spec =

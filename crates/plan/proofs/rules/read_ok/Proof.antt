@@ -1,5 +1,4 @@
 -- `plan::rules::read_ok` meets its contract. Assumes nothing.
-use native.Mathlib.Omega.{arith}
 use Rattle.plan.proofs.Stamping.{put-room}
 use Rattle.plan.proofs.Testing.{place-absent, place-there}
 use borrow.Author.Needs.{needs}
@@ -7,7 +6,7 @@ use Rattle.plan.proofs.rules.read_ok.Statement.{statement}
 use Rattle.plan.proofs.rules.read_ok.Tie as tie
 
 returns : tie.Need-returns
-returns c = place-absent _ _ _ _ (c .if1 .taken)
+returns c = place-absent _ _ _ (c .if1 .taken)
 
 wide-requires : tie.Need-wide-requires
 wide-requires c κs = search needs
@@ -18,14 +17,11 @@ mul-v c = search needs
 shared-slice-read-v : tie.Need-shared-slice-read-v
 shared-slice-read-v c = put-room (c .before .before .before .before .args .st .now) (c .before .before .before .before .pre .0) (c .before .before .if1 .left) (c .before .wide .ensures)
 
-before-in-requires : tie.Need-before-in-requires
-before-in-requires c κs = search needs
-
 add-result : tie.Need-add-result
 add-result c = search needs
 
 returns-2 : tie.Need-returns-2
-returns-2 c = place-there _ _ _ _ (c .before .before .before .if1 .left) (c .before .before .wide .ensures) (c .before-in .ensures)
+returns-2 c = place-there _ _ _ (c .before .before .if1 .left) (c .before .wide .ensures)
 
 pub read-ok-spec : {M : Type 1} → statement M
 read-ok-spec =
@@ -35,6 +31,5 @@ read-ok-spec =
     wide-requires
     mul-v
     shared-slice-read-v
-    before-in-requires
     add-result
     returns-2)

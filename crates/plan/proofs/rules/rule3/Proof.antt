@@ -15,16 +15,16 @@ cell-at-requires-2 : tie.Need-cell-at-requires-2
 cell-at-requires-2 c κs = search needs
 
 read-ok-requires : tie.Need-read-ok-requires
-read-ok-requires c κs = (words-low (c .before .before .before .before .before .before .before .pre .1) (c .before .before .cell-at .ensures) (c .before .if1 .taken) 0 (omega arith) (c .cell-at2 .ensures), c .before .before .before .before .before .before .before .pre .2, c .before .before .before .before .before .before .before .pre .3)
+read-ok-requires c κs = (words-low (c .before .before .before .before .before .before .before .pre .1) (c .before .before .cell-at .ensures) (c .before .if1 .taken) 0 (omega arith) (c .cell-at2 .ensures), c .before .before .before .before .before .before .before .pre .2)
 
 cell-at-requires-3 : tie.Need-cell-at-requires-3
 cell-at-requires-3 c κs = search needs
 
 read-ok-requires-2 : tie.Need-read-ok-requires-2
-read-ok-requires-2 c κs = (words-low (c .before .before .before .before .before .before .before .before .before .pre .1) (c .before .before .before .before .cell-at .ensures) (c .before .before .before .if1 .taken) 1 (omega arith) (c .cell-at3 .ensures), c .before .before .before .before .before .before .before .before .before .pre .2, c .before .before .before .before .before .before .before .before .before .pre .3)
+read-ok-requires-2 c κs = (words-low (c .before .before .before .before .before .before .before .before .before .pre .1) (c .before .before .before .before .cell-at .ensures) (c .before .before .before .if1 .taken) 1 (omega arith) (c .cell-at3 .ensures), c .before .before .before .before .before .before .before .before .before .pre .2)
 
 returns : tie.Need-returns
-returns c = let a = c .before .before .before .before .before .before .before .before .before .before .args in words-tested (c .before .before .before .before .before .before .before .before .before .before .pre .1) (c .before .before .before .before .before .cell-at .ensures) (c .before .before .before .before .if1 .taken) (read-test (a .st .now) (a .marks .now) (a .p)) (c .before .before .before .cell-at2 .ensures) (place-is _ _ _ _ (c .before .before .read-ok .ensures)) (c .before .cell-at3 .ensures) (place-is _ _ _ _ (c .read-ok2 .ensures))
+returns c = let a = c .before .before .before .before .before .before .before .before .before .before .args in words-tested (c .before .before .before .before .before .before .before .before .before .before .pre .1) (c .before .before .before .before .before .cell-at .ensures) (c .before .before .before .before .if1 .taken) (read-test (a .st .now) (a .p)) (c .before .before .before .cell-at2 .ensures) (place-is _ _ _ (c .before .before .read-ok .ensures)) (c .before .cell-at3 .ensures) (place-is _ _ _ (c .read-ok2 .ensures))
 
 cell-at-requires-4 : tie.Need-cell-at-requires-4
 cell-at-requires-4 c κs = search needs
@@ -36,10 +36,10 @@ uses-requires : tie.Need-uses-requires
 uses-requires c κs = (c .before .before .before .before .before .before .before .before .pre .0, good-of (c .before .before .before .before .before .before .before .before .pre .1 .good) (c .before .cell-at4 .ensures) (c .wide .ensures) .known)
 
 places-ok-requires : tie.Need-places-ok-requires
-places-ok-requires c κs = let k = places-at (c .before .before .before .before .before .before .before .before .before .pre .1) (c .before .before .cell-at4 .ensures) (c .before .wide .ensures) (c .uses .ensures) in (k .0, k .1, c .before .before .before .before .before .before .before .before .before .pre .2, c .before .before .before .before .before .before .before .before .before .pre .3)
+places-ok-requires c κs = let k = places-at (c .before .before .before .before .before .before .before .before .before .pre .1) (c .before .before .cell-at4 .ensures) (c .before .wide .ensures) (c .uses .ensures) in (k .0, k .1, c .before .before .before .before .before .before .before .before .before .pre .2)
 
 returns-2 : tie.Need-returns-2
-returns-2 c = let a = c .before .before .before .before .before .before .before .before .before .before .args in places-tested (c .before .before .before .before .before .before .before .before .before .before .pre .1) (read-test (a .st .now) (a .marks .now) (a .p)) (c .before .before .before .cell-at4 .ensures) (c .before .before .wide .ensures) (c .places-ok .ensures)
+returns-2 c = let a = c .before .before .before .before .before .before .before .before .before .before .args in places-tested (c .before .before .before .before .before .before .before .before .before .before .pre .1) (read-test (a .st .now) (a .p)) (c .before .before .before .cell-at4 .ensures) (c .before .before .wide .ensures) (c .places-ok .ensures)
 
 pub rule3-spec : {M : Type 1} → statement M
 rule3-spec =

@@ -1,53 +1,31 @@
 -- `plan::settle::settle` meets its contract. Assumes nothing.
 use native.Mathlib.Omega.{arith}
-use Rattle.plan.proofs.Cycling.{Cycling, cycling-none, cycling-more, cycling-end, to-go, to-go-less, set-up-on}
+use Rattle.plan.proofs.Cycling.{too-few}
 use borrow.Author.Needs.{needs}
 use Rattle.plan.proofs.settle.settle.Statement.{statement}
 use Rattle.plan.proofs.settle.settle.Tie as tie
 
-abbrev Inv-loop : tie.InvT-loop
-Inv-loop t recs ops w regs st₀ marks₀ m n least left₀ lasts₀ ahead₀ quiet₀ done₀ st marks left lasts ahead quiet done =
-    Cycling recs ops w regs m n st₀ marks₀ st lasts marks ahead quiet done left
-
-abbrev μ-loop : tie.MeasureT-loop
-μ-loop t recs ops w regs st₀ marks₀ m n least left₀ lasts₀ ahead₀ quiet₀ done₀ st marks left lasts ahead quiet done =
-    to-go marks quiet done
-
-count-requires : tie.Need-count-requires Inv-loop μ-loop
+count-requires : tie.Need-count-requires
 count-requires c κs = let p = c .before .before .before .before .before .before .pre .1 in (p .marks-size, omega (arith, p .in-x, p .safe .few), c .before .before .before .before .before .before .pre .2)
 
-loop-holds : tie.Need-loop-holds Inv-loop μ-loop
-loop-holds c = cycling-none _ _ _ _ _ _ _ _ _ (c .count .ensures)
+returns : tie.Need-returns
+returns c = let a = c .before .before .before .before .before .before .before .before .args in too-few (a .recs .now) (a .ops .now) (a .w .now) (a .regs .now) (a .m) (a .n) (a .st .now) (a .marks .now) (c .before .count .ensures) (c .if1 .taken)
 
-pass-requires : tie.Need-pass-requires Inv-loop μ-loop
-pass-requires c κs = let i = c .before .before .before .before .loop .inv in (c .before .before .before .before .before .before .before .before .before .before .before .before .pre .0, set-up-on (c .before .before .before .before .before .before .before .before .before .before .before .before .pre .1) (i .size) (i .settling .size), i .sum)
+passes-requires : tie.Need-passes-requires
+passes-requires c κs = let p = c .before .before .before .before .before .before .before .before .before .before .pre in (p .0, p .1, c .before .before .before .count .ensures)
 
-sub-left : tie.Need-sub-left Inv-loop μ-loop
-sub-left c = omega (arith, c .before .before .before .before .before .before .before .loop .inv .settling .count, c .before .before .pass .ensures .0 .count)
+same-length : tie.Need-same-length
+same-length c = c .before .before .passes .ensures .1
 
-loop-less : tie.Need-loop-less Inv-loop μ-loop
-loop-less c = to-go-less _ _ (c .before .before .before .before .before .before .before .loop .quiet) (c .before .before .before .before .before .before .before .loop .done) _ _ (c .before .before .pass .ensures .0 .count) (c .before .before .before .before .before .before .loop-test .taken)
-
-loop-again : tie.Need-loop-again Inv-loop μ-loop
-loop-again c = cycling-more (c .before .before .before .before .before .before .before .loop .inv) (c .before .before .pass .ensures)
-
-same-length : tie.Need-same-length Inv-loop μ-loop
-same-length c = c .before .loop .inv .size
-
-returns : tie.Need-returns Inv-loop μ-loop
-returns c = cycling-end (c .before .loop .inv) (c .loop-test .left)
+returns-2 : tie.Need-returns-2
+returns-2 c = c .before .before .passes .ensures
 
 pub settle-spec : {M : Type 1} → statement M
 settle-spec =
     tie.close
     (tie.spec
-    Inv-loop
-    μ-loop
     count-requires
-    loop-holds
-    pass-requires
-    sub-left
-    loop-less
-    loop-again
+    returns
+    passes-requires
     same-length
-    returns)
+    returns-2)
