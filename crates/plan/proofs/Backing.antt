@@ -11,11 +11,12 @@ use borrow.Author.Tests.{eq-eqb, ne-eqb, le-leb, lt-leb}
 use lib.Dec.{eqb, leb}
 use lib.ListN.{getD, length, set, replicate}
 use Rattle.words.specs.Lists.{In, upto, all, mem, hit}
+use Rattle.words.proofs.Bools.{bool?, true-T}
 use Rattle.model.specs.Picture.{inst, absent, reads, writes}
 use Rattle.inst.specs.Record.{write-at}
 use Rattle.words.specs.Last.{last-below}
 use Rattle.legalset.specs.Chain.{view, cell, flag, defs-of, reads-of, writer, Fits, Good, Safe}
-use Rattle.legalset.specs.Marks.{in-set, sifted, lost, own, Passed}
+use Rattle.legalset.specs.Marks.{in-set, sifted, lost, own, Inside, Passed}
 use Rattle.legalset.specs.Rules.{last-kept, pending, backward-ok}
 use Rattle.legalset.proofs.Dropping.{passed-none, passed-down}
 use Rattle.legalset.proofs.Easier.{behind, backward-mono}
@@ -164,15 +165,18 @@ pub record Backing (recs ops w : List ℕ) (n q : ℕ) (st₀ marks₀ st ls mar
   pub notes : Notes w (in-set marks) n q ls
   pub passed : Passed (backward-ok (defs-of recs w) (reads-of recs ops w) n) q n marks₀ marks r
 
-pub backing-none : (recs ops w : List ℕ) (n : ℕ) (st : List ℕ) {ls : List ℕ} (marks : List ℕ) → st ≡ replicate (length st) 0 → ls ≡ replicate 2008 0 → Backing recs ops w n n st marks st ls marks 0
+outside : {n : ℕ} {S : List ℕ} → Inside n S → (x : ℕ) → n ≤ x → in-set S x ≡ false
+outside {n} {S} i x h = ⊎-elim (λ (e : in-set S x ≡ true). let z = i .low x (true-T (in-set S x) e) in absurd (omega arith)) (λ (e : in-set S x ≡ false). e) (bool? (in-set S x))
+
+pub backing-none : (recs ops w : List ℕ) (n : ℕ) (st : List ℕ) {ls : List ℕ} (marks : List ℕ) → st ≡ replicate (length st) 0 → ls ≡ replicate 2008 0 → Inside n marks → Backing recs ops w n n st marks st ls marks 0
 unfolding pending since
-backing-none recs ops w n st marks e f = record {
+backing-none recs ops w n st marks e f g = record {
   size = refl;
   awaits = record {
     each = λ r h. let z : 0 ≡ n - n = omega arith in
         zero-at e r ∙ ap (λ (y : ℕ). since (λ z. not (in-set marks z) && mem r (defs-of recs w z)) n y + 1024 * hit (pending (defs-of recs w) (reads-of recs ops w) (in-set marks) r n y)) z;
   };
-  notes = notes-none w (in-set marks) n f;
+  notes = notes-none w (in-set marks) n f (outside g);
   passed = passed-none (behind (view recs ops w []) n) n marks;
 }
 
@@ -211,7 +215,9 @@ backing-end {recs} {ops} {w} {n} {q} {marks₀ = marks₀} {st = st} {ls = ls} {
       i .size,
       record {
         stamps = stamps-of s (subst (λ (y : ℕ). Awaits (defs-of recs w) (reads-of recs ops w) (in-set marks) n y st) e (i .awaits));
+        size = a .size;
         writes = notes-writes s a;
+        flags = λ j l. a .flags j (omega arith);
         barrier = notes-barrier s a;
         suspension = notes-suspension s a;
       },

@@ -10,7 +10,7 @@ use lib.ListN.{length, replicate, length-replicate}
 use Rattle.words.specs.Lists.{hit}
 use Rattle.words.proofs.Bools.{clash}
 use Rattle.legalset.specs.Chain.{view, Safe}
-use Rattle.legalset.specs.Marks.{members, Passed, Settled}
+use Rattle.legalset.specs.Marks.{in-set, members, Inside, Passed, Settled, _⊑_}
 use Rattle.legalset.specs.Rules.{cycle-ok, pass-ok}
 use Rattle.legalset.proofs.Settling.{Settling, settling-start, settling-more, settled}
 use Rattle.plan.specs.Passes.{Set-up, Summed}
@@ -22,6 +22,9 @@ cleared st e = let l = ap length e ∙ length-replicate (length st) 0 in (l, e �
 -- with the words of registers and marks as they are later
 pub set-up-on : {recs ops w regs st st′ marks marks′ : List ℕ} {m n : ℕ} → Set-up recs ops w regs st marks m n → length st′ ≡ length st → length marks′ ≡ length marks → Set-up recs ops w regs st′ marks′ m n
 set-up-on s a b = record { safe = safe-len (s .safe) a; brief = s .brief; regs-size = s .regs-size ∙ sym a; in-x = s .in-x; marks-size = b ∙ s .marks-size }
+
+pub inside-on : {m n : ℕ} {S U : List ℕ} → m ≤ n → Inside m S → in-set U ⊑ in-set S → Inside n U
+inside-on h i s = record { low = λ p t. let z = i .low p (s p t) in omega arith }
 
 -- S and st came to marks and st in passes, of which `ahead` comes next; r members are left
 pub record Cycling (recs ops w regs : List ℕ) (m n : ℕ) (st₀ S st ls marks : List ℕ) (first ahead quiet done : Bool) (r : ℕ) : Type 0 where

@@ -6,21 +6,23 @@ use mathlib.Core.List.{List, [], _∷_, map}
 use Prim.Native.Nat.{ℕ, zero, suc, _+_, _*_, _-_, _/_, _%_, _≤_, _<_, max}
 use native.Mathlib.Numerals.{add-one}
 use native.Mathlib.Omega.{arith}
-use borrow.Author.Tests.{le-leb, lt-leb}
-use lib.Dec.{eqb, leb}
-use lib.ListN.{getD, length, set}
-use lib.Seq.{getD-set-other}
+use borrow.Author.Tests.{eq-eqb, ne-eqb, eqb-true, le-leb, lt-leb}
+use lib.Dec.{eqb, leb, leb→le}
+use lib.ListN.{getD, length, set, length-set}
+use lib.Seq.{getD-set-same, getD-set-other}
 use Rattle.words.specs.Lists.{In, all, mem, conj, hit}
 use Rattle.words.specs.Last.{last-below}
+use Rattle.words.proofs.Bools.{eq?, true-T}
 use Rattle.words.proofs.Members.{in-map, map-on, in-index}
 use Rattle.model.specs.Picture.{Inst, inst, absent, reads, writes, list-of}
 use Rattle.legalset.specs.Chain.{View, view, cell, flag, defs-of, writer, reg-org, picked, origins, Good, Safe}
 use Rattle.legalset.specs.Marks.{in-set, members, sifted, lost, own, Passed}
 use Rattle.legalset.specs.Rules.{last-kept, when-in, read-fine, org-fine, own-memory, still-fine, reads-ok, origins-ok, suspends-ok, memory-ok, own-ok, forward-ok}
 use Rattle.legalset.proofs.Lasting.{writer-low, last-low, last-step}
-use Rattle.legalset.proofs.Dropping.{passed-none, passed-up}
+use Rattle.legalset.proofs.Dropping.{Sifts, keeps, drops, sifts, passed-none, passed-up}
 use Rattle.legalset.proofs.Easier.{forward-mono}
-use Rattle.plan.specs.Passes.{over, stamp, writer-word, Stamped, Stamps, Writes, read-test, word-org, org-test, froms, from-test, memory-test, stay-test, Near, Forwarded, Summed}
+use Rattle.plan.specs.Passes.{over, stamp, writer-word, Stamped, Stamps, Writes, read-test, word-org, org-test, froms, from-test, memory-test, member-at, own-test, stay-test, forgot, Near, Forwarded, Summed}
+use Rattle.plan.proofs.Summing.{at-parts, same-at}
 use Rattle.plan.proofs.Places.{Placed, reads-placed, read-low}
 
 all-on : {A : Type 0} (f g : A → Bool) (xs : List A) → ((a : A) → In a xs → f a ≡ g a) → all f xs ≡ all g xs
@@ -102,13 +104,25 @@ module _ (w regs ops : List ℕ) (i : Inst) where
       go false e (inl q) = ⊎-elim (λ u. omega arith) (λ u. absurd (borrow.Author.Tests.eqb-false (suc x) 4294967295 e u)) b
       go false e (inr j) = absurd j
 
+-- the member's flag
+own-same : (L : ℕ → Bool) (lasts : List ℕ) (o : ℕ) → getD lasts o 0 / 1024 ≡ hit (member-at L 0 o) → own-test lasts o ≡ own-memory L o
+unfolding own-test own-memory member-at
+own-same L lasts o e =
+    ap (λ (b : Bool). eqb o 0 || b) (big (getD lasts o 0) ((leb 5 o && eqb (o % 2) 1) && (leb 0 ((o - 5) / 2) && L ((o - 5) / 2))) e
+    ∙ ap (λ (b : Bool). (leb 5 o && eqb (o % 2) 1) && (b && L ((o - 5) / 2))) (le-leb 0 ((o - 5) / 2) (omega arith)))
+  where
+    big : (x : ℕ) (b : Bool) → x / 1024 ≡ hit b → leb 1024 x ≡ b
+    big x true e = le-leb 1024 x (omega arith)
+    big x false e = lt-leb 1024 x (omega arith)
+
 points-low : {recs ops w : List ℕ} {n R : ℕ} → Safe recs ops w n R → (L : ℕ → Bool) (d y : ℕ) → y / 2048 ≡ writer-word w L d → d ≤ n → y / 8192 < 2005
 unfolding writer-word
 points-low s L zero y e h = omega arith
 points-low s L (suc d) y e h = let k = hit-low (L d) in let o = s .org d (omega arith) in omega arith
 
 module _ (regs marks : List ℕ) {recs ops w : List ℕ} {n R p : ℕ} (s : Safe recs ops w n R) (h : p < n) {L₀ : ℕ → Bool} {st lasts : List ℕ} {sus bar : ℕ} (size : length st ≡ R)
-    (x : Stamps w (defs-of recs w) L₀ (in-set marks) n p st) (y : Writes (λ q. cell w q 4) L₀ n lasts) (eb : bar ≡ last-kept L₀ (flag w 8) n) (es : sus ≡ last-kept L₀ (flag w 16) n) where
+    (x : Stamps w (defs-of recs w) L₀ (in-set marks) n p st) (y : Writes (λ q. cell w q 4) L₀ n lasts) (eb : bar ≡ last-kept L₀ (flag w 8) n) (es : sus ≡ last-kept L₀ (flag w 16) n)
+    (fs : (j : ℕ) → j < 2006 → getD lasts j 0 / 1024 ≡ hit (member-at (in-set marks) 0 j)) where
   writer-at : (r : ℕ) → r < R → getD st r 0 / 2048 ≡ writer-word w (in-set marks) (writer (defs-of recs w) r p)
   writer-at r l = x .wrote r (subst (λ (m : ℕ). r < m) (sym size) l)
 
@@ -133,7 +147,7 @@ module _ (regs marks : List ℕ) {recs ops w : List ℕ} {n R p : ℕ} (s : Safe
           → org-test lasts bar p o ≡ org-fine p (last-kept L₀ (flag w 8) n) (last-kept L₀ (λ q. eqb (cell w q 4) 1) n) (last-kept L₀ (λ q. eqb (cell w q 4) (o + 1)) n) o
       one o i =
           let l = origins-low w regs ops (inst recs (cell w p 0)) n (s .org) (λ r. writer (defs-of recs w) r p) (λ r. let z = writer-low (defs-of recs w) r p in omega arith) (cell w p 5) (s .from p h) o i in
-          ap (λ (z : ℕ). org-fine p z (getD lasts 1 0) (getD lasts (o + 1) 0) o) eb
+          ap (λ (z : ℕ). org-fine p z (getD lasts 1 0 % 1024) (getD lasts (o + 1) 0 % 1024) o) eb
           ∙ ap₂ (λ (a b : ℕ). org-fine p (last-kept L₀ (flag w 8) n) a b o) (y .each 1 (omega arith)) (y .each (o + 1) (omega arith))
 
   pub memory-are : memory-test recs ops w regs st lasts (cell w p 0) bar p ≡ memory-ok (view recs ops w regs) n L₀ p
@@ -144,11 +158,14 @@ module _ (regs marks : List ℕ) {recs ops w : List ℕ} {n R p : ℕ} (s : Safe
   unfolding suspends-ok
   suspends-are = ap (λ (z : ℕ). leb z (p + 1)) es
 
-  pub stay-is : stay-test recs ops w regs st lasts marks (cell w p 0) sus bar p ≡ forward-ok (view recs ops w regs) n L₀ (in-set marks) p
+  pub own-is : own-test lasts (cell w p 4) ≡ own-memory (in-set marks) (cell w p 4)
+  own-is = let k = s .wrote p h in own-same (in-set marks) lasts (cell w p 4) (fs (cell w p 4) (omega arith))
+
+  pub stay-is : stay-test recs ops w regs st lasts (cell w p 0) sus bar p ≡ forward-ok (view recs ops w regs) n L₀ (in-set marks) p
   unfolding stay-test forward-ok own-ok
   stay-is =
-      ap₂ (λ (a b : Bool). conj (a ∷ leb sus (p + 1) ∷ b ∷ own-memory (in-set marks) (cell w p 4) ∷ [])) reads-are memory-are
-      ∙ ap (λ (a : Bool). conj (reads-ok (view recs ops w regs) n L₀ (in-set marks) p ∷ a ∷ memory-ok (view recs ops w regs) n L₀ p ∷ own-memory (in-set marks) (cell w p 4) ∷ [])) suspends-are
+      ap₂ (λ (a b : Bool). conj (a ∷ leb sus (p + 1) ∷ b ∷ own-test lasts (cell w p 4) ∷ [])) reads-are memory-are
+      ∙ ap₂ (λ (a b : Bool). conj (reads-ok (view recs ops w regs) n L₀ (in-set marks) p ∷ a ∷ memory-ok (view recs ops w regs) n L₀ p ∷ b ∷ [])) suspends-are own-is
 
   pub near-is : Near st
   near-is = record { org = λ r l. points-low s (in-set marks) (writer (defs-of recs w) r p) (getD st r 0) (writer-at r (subst (λ (m : ℕ). r < m) size l)) (let z = writer-low (defs-of recs w) r p in omega arith) }
@@ -189,29 +206,99 @@ stamps-more {w} {defs} {L₀} {L} {M} {n} {p} {st} {st′} same i k = record { k
     above r h = ap (λ (y : ℕ). y / 2048) (k .each r h) ∙ high r (mem r (defs p)) (i .wrote r h) (last-low (λ q. mem r (defs q)) p)
         ∙ ap (writer-word w M) (sym (ap (last-below (λ q. mem r (defs q))) (add-one p) ∙ last-step (λ q. mem r (defs q)) p))
 
+-- one member less
+member-less : (L M : ℕ → Bool) (p j : ℕ) → ((z : ℕ) → (z ≡ p → ⊥) → L z ≡ M z) → M p ≡ false → cond (eqb (2 * p + 5) j) 0 (hit (member-at L 0 j)) ≡ hit (member-at M 0 j)
+unfolding member-at
+member-less L M p j same out = go (eq? (2 * p + 5) j)
+  where
+    none : (a b : Bool) → 0 ≡ hit (a && (b && false))
+    none true true = refl
+    none true false = refl
+    none false b = refl
+
+    other : (a b : Bool) → leb 5 j ≡ a → eqb (j % 2) 1 ≡ b → (2 * p + 5 ≡ j → ⊥) → hit ((a && b) && (leb 0 ((j - 5) / 2) && L ((j - 5) / 2))) ≡ hit ((a && b) && (leb 0 ((j - 5) / 2) && M ((j - 5) / 2)))
+    other false b e f n = refl
+    other true false e f n = refl
+    other true true e f n =
+        let h = leb→le 5 j (true-T (leb 5 j) e) in
+        let o = eqb-true (j % 2) 1 f in
+        ap (λ (c : Bool). hit (leb 0 ((j - 5) / 2) && c)) (same ((j - 5) / 2) (λ u. n (omega arith)))
+
+    go : (2 * p + 5 ≡ j) ⊎ (2 * p + 5 ≡ j → ⊥) → cond (eqb (2 * p + 5) j) 0 (hit ((leb 5 j && eqb (j % 2) 1) && (leb 0 ((j - 5) / 2) && L ((j - 5) / 2)))) ≡ hit ((leb 5 j && eqb (j % 2) 1) && (leb 0 ((j - 5) / 2) && M ((j - 5) / 2)))
+    go (inl e) =
+        let x : (j - 5) / 2 ≡ p = omega arith in
+        ap (λ (b : Bool). cond b 0 (hit ((leb 5 j && eqb (j % 2) 1) && (leb 0 ((j - 5) / 2) && L ((j - 5) / 2))))) (eq-eqb (2 * p + 5) j e)
+        ∙ none (leb 5 j && eqb (j % 2) 1) (leb 0 ((j - 5) / 2)) ∙ ap (λ (c : Bool). hit ((leb 5 j && eqb (j % 2) 1) && (leb 0 ((j - 5) / 2) && c))) (sym (ap M x ∙ out))
+    go (inr n) = ap (λ (b : Bool). cond b 0 (hit ((leb 5 j && eqb (j % 2) 1) && (leb 0 ((j - 5) / 2) && L ((j - 5) / 2))))) (ne-eqb (2 * p + 5) j n) ∙ other (leb 5 j) (eqb (j % 2) 1) refl refl n
+
+forgot-low : (d p : ℕ) (ls : List ℕ) (j : ℕ) → p < 800 → length ls ≡ 2008 → getD (forgot d p ls) j 0 % 1024 ≡ getD ls j 0 % 1024
+unfolding forgot
+forgot-low d p ls j h s = go (eqb d 0)
+  where
+    go : (b : Bool) → getD (cond b ls (set ls (2 * p + 5) (getD ls (2 * p + 5) 0 % 1024))) j 0 % 1024 ≡ getD ls j 0 % 1024
+    go true = refl
+    go false = let z : getD ls (2 * p + 5) 0 % 1024 % 1024 ≡ getD ls (2 * p + 5) 0 % 1024 = omega arith in
+        at-parts ls (2 * p + 5) (getD ls (2 * p + 5) 0 % 1024) j (omega arith) .0 ∙ same-at ls (2 * p + 5) j (λ x. x % 1024) z
+
+forgot-size : (d p : ℕ) (ls : List ℕ) → length (forgot d p ls) ≡ length ls
+unfolding forgot
+forgot-size d p ls = go (eqb d 0)
+  where
+    go : (b : Bool) → length (cond b ls (set ls (2 * p + 5) (getD ls (2 * p + 5) 0 % 1024))) ≡ length ls
+    go true = refl
+    go false = length-set ls (2 * p + 5) _
+
+module _ (S ls : List ℕ) (p : ℕ) (ok : Bool) (h : p < 800) (long : length S ≡ 800) (s : length ls ≡ 2008) (f : (j : ℕ) → j < 2006 → getD ls j 0 / 1024 ≡ hit (member-at (in-set S) 0 j)) where
+  still : (z : ℕ) → (z ≡ p → ⊥) → in-set S z ≡ in-set (set S p 0) z
+  unfolding in-set
+  still z n = sym (ap (λ (x : ℕ). not (eqb x 0)) (getD-set-other S p z 0 0 n))
+
+  gone : in-set (set S p 0) p ≡ false
+  unfolding in-set
+  gone = ap (λ (x : ℕ). not (eqb x 0)) (getD-set-same S p 0 0 (omega arith))
+
+  forgot-by : {W : List ℕ} {d : ℕ} → Sifts S p ok W d → (j : ℕ) → j < 2006 → getD (forgot d p ls) j 0 / 1024 ≡ hit (member-at (in-set W) 0 j)
+  unfolding forgot
+  forgot-by (keeps k) j l = f j l
+  forgot-by (drops m e) j l = let z : getD ls (2 * p + 5) 0 % 1024 / 1024 ≡ 0 = omega arith in
+      at-parts ls (2 * p + 5) (getD ls (2 * p + 5) 0 % 1024) j (omega arith) .1 ∙ ap₂ (cond (eqb (2 * p + 5) j)) z (f j l) ∙ member-less (in-set S) (in-set (set S p 0)) p j still gone
+
+  forgot-flags : {W ls′ : List ℕ} {d : ℕ} → W ≡ sifted S p ok → d ≡ lost S p ok → ls′ ≡ forgot d p ls → (j : ℕ) → j < 2006 → getD ls′ j 0 / 1024 ≡ hit (member-at (in-set W) 0 j)
+  forgot-flags {W} {ls′} {d} a b c j l =
+      ap (λ (x : List ℕ). getD x j 0 / 1024) (c ∙ ap (λ (y : ℕ). forgot y p ls) b) ∙ forgot-by (sifts S p ok) j l ∙ ap (λ (x : List ℕ). hit (member-at (in-set x) 0 j)) (sym a)
+
 -- the first p positions are done
-pub record Going (recs ops w regs : List ℕ) (n p : ℕ) (st₀ marks₀ st marks : List ℕ) (r : ℕ) : Type 0 where
+pub record Going (recs ops w regs : List ℕ) (n p : ℕ) (st₀ ls₀ marks₀ st ls marks : List ℕ) (r : ℕ) : Type 0 where
   pub size : length st ≡ length st₀
   pub stamps : Stamps w (defs-of recs w) (in-set marks₀) (in-set marks) n p st
+  pub ls-size : length ls ≡ 2008
+  pub lows : (j : ℕ) → getD ls j 0 % 1024 ≡ getD ls₀ j 0 % 1024
+  pub flags : (j : ℕ) → j < 2006 → getD ls j 0 / 1024 ≡ hit (member-at (in-set marks) 0 j)
   pub passed : Passed (own (forward-ok (view recs ops w regs) n)) 0 p marks₀ marks r
 
-pub going-none : {recs ops w regs : List ℕ} {n : ℕ} {st lasts marks : List ℕ} → Summed recs w n 0 st lasts marks → Going recs ops w regs n 0 st marks st marks 0
-going-none {recs} {ops} {w} {regs} {n} {st} {lasts} {marks} s = record { size = refl; stamps = s .stamps; passed = passed-none (forward-ok (view recs ops w regs) n) 0 marks }
+pub going-none : {recs ops w regs : List ℕ} {n : ℕ} {st lasts marks : List ℕ} → Summed recs w n 0 st lasts marks → Going recs ops w regs n 0 st lasts marks st lasts marks 0
+going-none {recs} {ops} {w} {regs} {n} {st} {lasts} {marks} s = record { size = refl; stamps = s .stamps; ls-size = s .size; lows = λ j. refl; flags = s .flags; passed = passed-none (forward-ok (view recs ops w regs) n) 0 marks }
 
-pub going-more : {recs ops w regs : List ℕ} {n p : ℕ} {st₀ marks₀ st marks lasts st′ marks′ : List ℕ} {r d : ℕ} → Safe recs ops w n (length st₀) → p < n
-    → Summed recs w n 0 st₀ lasts marks₀ → Going recs ops w regs n p st₀ marks₀ st marks r → Forwarded recs ops w regs lasts (getD lasts 2007 0) (getD lasts 2006 0) p st marks st′ marks′ d
-    → Going recs ops w regs n (p + 1) st₀ marks₀ st′ marks′ (r + d)
-going-more {recs} {ops} {w} {regs} {n} {marks = marks} s h z i f = record {
-  size = f .stamped .size ∙ i .size;
-  stamps = stamps-more (λ z l. sym (ap (λ (S : List ℕ). in-set S z) (f .sifts) ∙ sifted-other marks _ _ z (λ e. omega arith))) (i .stamps) (f .stamped);
-  passed = passed-up (forward-ok (view recs ops w regs) n) (forward-mono (view recs ops w regs) n) (i .passed) (stay-is regs marks s h (i .size) (i .stamps) (z .writes) (z .barrier) (z .suspension)) (f .sifts) (f .loses);
-}
+-- the last kept writes are as they were
+writes-on : (w : List ℕ) {L : ℕ → Bool} {n : ℕ} {ls₀ ls : List ℕ} → ((j : ℕ) → getD ls j 0 % 1024 ≡ getD ls₀ j 0 % 1024) → Writes (λ q. cell w q 4) L n ls₀ → Writes (λ q. cell w q 4) L n ls
+writes-on w f z = record { each = λ o h. f o ∙ z .each o h }
 
-pub going-near : {recs ops w regs : List ℕ} {n p : ℕ} {st₀ marks₀ st marks lasts : List ℕ} {r : ℕ} → Safe recs ops w n (length st₀) → p < n
-    → Summed recs w n 0 st₀ lasts marks₀ → Going recs ops w regs n p st₀ marks₀ st marks r → Near st
-going-near {recs} {ops} {w} {regs} {marks = marks} s h z i = near-is regs marks s h (i .size) (i .stamps) (z .writes) (z .barrier) (z .suspension)
+module _ {recs ops w regs : List ℕ} {n p : ℕ} {st₀ ls₀ marks₀ st ls marks : List ℕ} {r : ℕ} (s : Safe recs ops w n (length st₀)) (h : p < n) (z : Summed recs w n 0 st₀ ls₀ marks₀) (i : Going recs ops w regs n p st₀ ls₀ marks₀ st ls marks r) where
+  pub going-more : {st′ ls′ marks′ : List ℕ} {d : ℕ} → length marks₀ ≡ 800 → Forwarded recs ops w regs (getD ls₀ 2007 0 % 1024) (getD ls₀ 2006 0 % 1024) p st ls marks st′ ls′ marks′ d
+      → Going recs ops w regs n (p + 1) st₀ ls₀ marks₀ st′ ls′ marks′ (r + d)
+  going-more {d = d} long f = let few = s .few in record {
+    size = f .stamped .size ∙ i .size;
+    stamps = stamps-more (λ z l. sym (ap (λ (S : List ℕ). in-set S z) (f .sifts) ∙ sifted-other marks _ _ z (λ e. omega arith))) (i .stamps) (f .stamped);
+    ls-size = ap length (f .forgets) ∙ forgot-size d p ls ∙ i .ls-size;
+    lows = λ j. ap (λ (x : List ℕ). getD x j 0 % 1024) (f .forgets) ∙ forgot-low d p ls j (omega arith) (i .ls-size) ∙ i .lows j;
+    flags = forgot-flags marks ls p _ (omega arith) (i .passed .size ∙ long) (i .ls-size) (i .flags) (f .sifts) (f .loses) (f .forgets);
+    passed = passed-up (forward-ok (view recs ops w regs) n) (forward-mono (view recs ops w regs) n) (i .passed) (stay-is regs marks s h (i .size) (i .stamps) (writes-on w (i .lows) (z .writes)) (z .barrier) (z .suspension) (i .flags)) (f .sifts) (f .loses);
+  }
 
-pub going-end : {recs ops w regs : List ℕ} {n p m : ℕ} {st₀ marks₀ st marks : List ℕ} {r : ℕ} → Going recs ops w regs n p st₀ marks₀ st marks r → p ≤ m → m ≤ p
+  pub going-near : Near st
+  going-near = near-is regs marks s h {lasts = ls} (i .size) (i .stamps) (writes-on w (i .lows) (z .writes)) (z .barrier) (z .suspension) (i .flags)
+
+pub going-end : {recs ops w regs : List ℕ} {n p m : ℕ} {st₀ ls₀ marks₀ st ls marks : List ℕ} {r : ℕ} → Going recs ops w regs n p st₀ ls₀ marks₀ st ls marks r → p ≤ m → m ≤ p
     → Passed (own (forward-ok (view recs ops w regs) n)) 0 m marks₀ marks r × (length st ≡ length st₀)
 going-end {recs} {ops} {w} {regs} {n} {p} {m} {marks₀ = marks₀} {marks = marks} {r = r} i a b =
     let e : p ≡ m = omega arith in (subst (λ (k : ℕ). Passed (own (forward-ok (view recs ops w regs) n)) 0 k marks₀ marks r) e (i .passed), i .size)
@@ -247,12 +334,13 @@ module _ (S : List ℕ) (p : ℕ) (ok : Bool) {b : Bool} (e : b ≡ (not (in-set
   unfolding lost
   skip-lost = ap hit skip
 
-pub forwarded : {recs ops w regs lasts st marks st′ marks′ : List ℕ} {sus bar p r v : ℕ} {b : Bool} → b ≡ (not (in-set marks p) || stay-test recs ops w regs st lasts marks (cell w p 0) sus bar p)
-    → (marks′ ≡ sifted marks p b) × (r ≡ lost marks p b) → v ≡ 2048 * writer-word w (in-set marks′) (suc p) → Stamped (writes (inst recs (cell w p 0))) 2048 0 v st st′
-    → Forwarded recs ops w regs lasts sus bar p st marks st′ marks′ r
-forwarded {recs} {w = w} {st = st} {marks = marks} {st′ = st′} {p = p} t d e k = record {
+pub forwarded : {recs ops w regs ls st marks st′ ls′ marks′ : List ℕ} {sus bar p r v : ℕ} {b : Bool} → b ≡ (not (in-set marks p) || stay-test recs ops w regs st ls (cell w p 0) sus bar p)
+    → (marks′ ≡ sifted marks p b) × (r ≡ lost marks p b) → ls′ ≡ forgot r p ls → v ≡ 2048 * writer-word w (in-set marks′) (suc p) → Stamped (writes (inst recs (cell w p 0))) 2048 0 v st st′
+    → Forwarded recs ops w regs sus bar p st ls marks st′ ls′ marks′ r
+forwarded {recs} {w = w} {st = st} {marks = marks} {st′ = st′} {p = p} t d g e k = record {
   stamped = subst (λ (x : ℕ). Stamped (writes (inst recs (cell w p 0))) 2048 0 x st st′) e k;
   sifts = d .0 ∙ skip-sift marks p _ t;
+  forgets = g;
   loses = d .1 ∙ skip-lost marks p _ t;
 }
 

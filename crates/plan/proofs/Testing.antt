@@ -15,8 +15,8 @@ use Rattle.words.proofs.Alls.{and-yes, and-nay}
 use Rattle.model.specs.Picture.{Inst, inst, absent, reads, list-of}
 use Rattle.legalset.specs.Chain.{cell, flag, reg-org, picked, Good}
 use Rattle.legalset.specs.Marks.{in-set}
-use Rattle.legalset.specs.Rules.{own-memory, org-fine, still-fine}
-use Rattle.plan.specs.Passes.{read-place, read-test, place-test, word-org, org-test, piece-test, froms, from-test, memory-test, stay-test, Near}
+use Rattle.legalset.specs.Rules.{org-fine, still-fine}
+use Rattle.plan.specs.Passes.{read-place, read-test, place-test, word-org, org-test, piece-test, froms, from-test, memory-test, own-test, stay-test, Near}
 use Rattle.inst.proofs.Lists.{getD-any}
 use Rattle.plan.proofs.Places.{Placed, all-placed, reads-placed}
 
@@ -54,11 +54,11 @@ and4 true false c d = refl
 and4 false b c d = refl
 
 pub org-is : (lasts : List ℕ) (bar p o : ℕ) {k : ℕ} → k ≡ o
-    → ((((eqb o 1 || leb 3 o) && (leb bar (p + 1) || eqb o 1)) && leb (getD lasts 1 0) (p + 1)) && (leb o 2 || leb (getD lasts (k + 1) 0) (p + 1))) ≡ org-test lasts bar p o
+    → ((((eqb o 1 || leb 3 o) && (leb bar (p + 1) || eqb o 1)) && leb (getD lasts 1 0 % 1024) (p + 1)) && (leb o 2 || leb (getD lasts (k + 1) 0 % 1024) (p + 1))) ≡ org-test lasts bar p o
 unfolding org-test org-fine
 org-is lasts bar p o {k} e =
-    ap (λ (j : ℕ). (((eqb o 1 || leb 3 o) && (leb bar (p + 1) || eqb o 1)) && leb (getD lasts 1 0) (p + 1)) && (leb o 2 || leb (getD lasts (j + 1) 0) (p + 1))) e
-    ∙ and4 (eqb o 1 || leb 3 o) (leb bar (p + 1) || eqb o 1) (leb (getD lasts 1 0) (p + 1)) (leb o 2 || leb (getD lasts (o + 1) 0) (p + 1))
+    ap (λ (j : ℕ). (((eqb o 1 || leb 3 o) && (leb bar (p + 1) || eqb o 1)) && leb (getD lasts 1 0 % 1024) (p + 1)) && (leb o 2 || leb (getD lasts (j + 1) 0 % 1024) (p + 1))) e
+    ∙ and4 (eqb o 1 || leb 3 o) (leb bar (p + 1) || eqb o 1) (leb (getD lasts 1 0 % 1024) (p + 1)) (leb o 2 || leb (getD lasts (o + 1) 0 % 1024) (p + 1))
 
 module _ (regs : List ℕ) {st : List ℕ} {r k : ℕ} (h : Near st) (l : r < length st) (e : k ≡ r) where
   pub reg-yes : 2048 ≤ getD st k 0 → (getD st k 0 / 8192 ≡ word-org regs r (getD st r 0)) × (getD st k 0 / 8192 < 2005)
@@ -155,22 +155,9 @@ module _ (w regs ops : List ℕ) (i : Inst) (st lasts : List ℕ) (bar p : ℕ) 
 
 -- ---- rule 6, and rule 5 for what creates or writes
 
-module _ (L : ℕ → Bool) (o : ℕ) where
-  pub own-none : o ≡ 0 → true ≡ own-memory L o
-  unfolding own-memory
-  own-none e = sym (ap (λ (b : Bool). b || (leb 5 o && eqb (o % 2) 1 && L ((o - 5) / 2))) (eq-eqb o 0 e))
-
-  pub own-small : (o ≡ 0 → ⊥) → o < 5 → false ≡ own-memory L o
-  unfolding own-memory
-  own-small n h = sym (ap₂ (λ (a b : Bool). a || (b && eqb (o % 2) 1 && L ((o - 5) / 2))) (ne-eqb o 0 n) (lt-leb 5 o h))
-
-  pub own-even : (o ≡ 0 → ⊥) → 5 ≤ o → (o % 2 ≡ 1 → ⊥) → false ≡ own-memory L o
-  unfolding own-memory
-  own-even n h k = sym (ap₂ (λ (a b : Bool). a || (b && eqb (o % 2) 1 && L ((o - 5) / 2))) (ne-eqb o 0 n) (le-leb 5 o h) ∙ ap (λ (b : Bool). b && L ((o - 5) / 2)) (ne-eqb (o % 2) 1 k))
-
-  pub own-odd : {b : Bool} {k : ℕ} → (o ≡ 0 → ⊥) → 5 ≤ o → o % 2 ≡ 1 → k ≡ (o - 5) / 2 → b ≡ L k → b ≡ own-memory L o
-  unfolding own-memory
-  own-odd n h k e f = f ∙ ap L e ∙ sym (ap₂ (λ (a b : Bool). a || (b && eqb (o % 2) 1 && L ((o - 5) / 2))) (ne-eqb o 0 n) (le-leb 5 o h) ∙ ap (λ (b : Bool). b && L ((o - 5) / 2)) (eq-eqb (o % 2) 1 k))
+pub own-words : (lasts : List ℕ) {o k x : ℕ} → o ≡ x → k ≡ o → (eqb o 0 || leb 1024 (getD lasts k 0)) ≡ own-test lasts x
+unfolding own-test
+own-words lasts e f = ap₂ (λ (a b : ℕ). eqb a 0 || leb 1024 (getD lasts b 0)) e (f ∙ e)
 
 pub still-is : (w : List ℕ) (p bar : ℕ) {f o : ℕ} → f ≡ cell w p 3 → o ≡ cell w p 4 → (leb bar (p + 1) || (not (eqb (f / 4 % 2) 1) && eqb o 0)) ≡ still-fine p bar (flag w 4 p) (cell w p 4)
 unfolding still-fine flag
@@ -217,7 +204,7 @@ list-low {recs} {ops} {R} {g} {xs} h e k l =
     let m : k < length (list-of ops (inst recs g)) = subst (λ (y : List ℕ). k < length y) e l in
     subst (λ (x : ℕ). x < R) (sym (ap (λ (y : List ℕ). getD y k 0) e ∙ getD-any (list-of ops (inst recs g)) k 0 absent m)) (h .list k m)
 
-module _ (recs ops w regs st lasts marks : List ℕ) (g sus bar p : ℕ) where
+module _ (recs ops w regs st lasts : List ℕ) (g sus bar p : ℕ) where
   abbrev three : Bool
   three = all (read-test st p) (reads ops (inst recs g))
 
@@ -225,21 +212,21 @@ module _ (recs ops w regs st lasts marks : List ℕ) (g sus bar p : ℕ) where
   five = memory-test recs ops w regs st lasts g bar p
 
   abbrev six : Bool
-  six = own-memory (in-set marks) (cell w p 4)
+  six = own-test lasts (cell w p 4)
 
-  pub no-rule4 : {x : Bool} → x ≡ leb sus (p + 1) → not x ≡ true → false ≡ stay-test recs ops w regs st lasts marks g sus bar p
+  pub no-rule4 : {x : Bool} → x ≡ leb sus (p + 1) → not x ≡ true → false ≡ stay-test recs ops w regs st lasts g sus bar p
   unfolding stay-test
   no-rule4 {x} e t = no-second three five six ∙ ap (λ (y : Bool). conj (three ∷ y ∷ five ∷ six ∷ [])) (sym (not-true x t) ∙ e)
 
-  pub no-rule6 : {x : Bool} → x ≡ six → not x ≡ true → false ≡ stay-test recs ops w regs st lasts marks g sus bar p
+  pub no-rule6 : {x : Bool} → x ≡ six → not x ≡ true → false ≡ stay-test recs ops w regs st lasts g sus bar p
   unfolding stay-test
   no-rule6 {x} e t = no-last three (leb sus (p + 1)) five ∙ ap (λ (y : Bool). conj (three ∷ leb sus (p + 1) ∷ five ∷ y ∷ [])) (sym (not-true x t) ∙ e)
 
-  pub no-rule5 : {x : Bool} → x ≡ five → not x ≡ true → false ≡ stay-test recs ops w regs st lasts marks g sus bar p
+  pub no-rule5 : {x : Bool} → x ≡ five → not x ≡ true → false ≡ stay-test recs ops w regs st lasts g sus bar p
   unfolding stay-test
   no-rule5 {x} e t = no-third three (leb sus (p + 1)) six ∙ ap (λ (y : Bool). conj (three ∷ leb sus (p + 1) ∷ y ∷ six ∷ [])) (sym (not-true x t) ∙ e)
 
-  pub by-rule3 : {x y z v : Bool} → x ≡ leb sus (p + 1) → not x ≡ false → y ≡ six → not y ≡ false → z ≡ five → not z ≡ false → v ≡ three → v ≡ stay-test recs ops w regs st lasts marks g sus bar p
+  pub by-rule3 : {x y z v : Bool} → x ≡ leb sus (p + 1) → not x ≡ false → y ≡ six → not y ≡ false → z ≡ five → not z ≡ false → v ≡ three → v ≡ stay-test recs ops w regs st lasts g sus bar p
   unfolding stay-test
   by-rule3 {x} {y} {z} e a f b k d m =
       m ∙ only-first three

@@ -13,7 +13,7 @@ use Rattle.model.specs.Legal.{greatest}
 use Rattle.inst.specs.Record.{Known, present, read-at}
 use Rattle.legalset.specs.Chain.{writer, cell, flag, defs-of, reads-of, reg-org, picked, Fits, Good, Safe, Brief, Told}
 use Rattle.legalset.specs.Marks.{in-set, sifted, lost}
-use Rattle.legalset.specs.Rules.{last-kept, org-fine, own-memory, still-fine, pending}
+use Rattle.legalset.specs.Rules.{last-kept, org-fine, still-fine, pending}
 
 -- read k: slots 0 to 4, then the list; absent where there is none
 unfoldable pub read-place : List ℕ → Inst → ℕ → ℕ
@@ -67,7 +67,7 @@ pub record Stamps (w : List ℕ) (defs : ℕ → List ℕ) (L₀ L : ℕ → Boo
 
 -- the last kept write of each origin and 1
 pub record Writes (wrote : ℕ → ℕ) (L : ℕ → Bool) (n : ℕ) (lasts : List ℕ) : Type 0 where
-  pub each : (o : ℕ) → o < 2006 → getD lasts o 0 ≡ last-kept L (λ q. eqb (wrote q) o) n
+  pub each : (o : ℕ) → o < 2006 → getD lasts o 0 % 1024 ≡ last-kept L (λ q. eqb (wrote q) o) n
 
 -- ---- the same from behind
 
@@ -84,10 +84,15 @@ pub record Awaits (defs reads : ℕ → List ℕ) (L : ℕ → Bool) (n q : ℕ)
 unfoldable pub noted : List ℕ → ℕ → ℕ → Bool
 noted w j z = (eqb (cell w z 4) j || (eqb 2006 j && flag w 8 z)) || (eqb 2007 j && flag w 16 z)
 
--- the last kept position from q on, and 1, in each word
+-- j is the number of Temp of a position from q on that is in L, as memory written
+unfoldable pub member-at : (ℕ → Bool) → ℕ → ℕ → Bool
+member-at L q j = (leb 5 j && eqb (j % 2) 1) && (leb q ((j - 5) / 2) && L ((j - 5) / 2))
+
+-- the last kept position from q on, and 1, in each word, and 1024 if it is of Temp of a member from q on
 pub record Notes (w : List ℕ) (L : ℕ → Bool) (n q : ℕ) (lasts : List ℕ) : Type 0 where
   pub size : length lasts ≡ 2008
-  pub each : (j : ℕ) → j < 2008 → getD lasts j 0 ≡ since (λ z. not (L z) && noted w j z) q (n - q)
+  pub each : (j : ℕ) → j < 2008 → getD lasts j 0 % 1024 ≡ since (λ z. not (L z) && noted w j z) q (n - q)
+  pub flags : (j : ℕ) → j < 2008 → getD lasts j 0 / 1024 ≡ hit (member-at L q j)
 
 -- ---- the tests at p by these words
 
@@ -97,7 +102,7 @@ read-test st p r = eqb (getD st r 0 / 4096 % 2) 1 || leb (getD st r 0 % 1024) (p
 
 -- rule 5 for an origin
 unfoldable pub org-test : List ℕ → ℕ → ℕ → ℕ → Bool
-org-test lasts bar p o = org-fine p bar (getD lasts 1 0) (getD lasts (o + 1) 0) o
+org-test lasts bar p o = org-fine p bar (getD lasts 1 0 % 1024) (getD lasts (o + 1) 0 % 1024) o
 
 -- where register r points, by its word x: its writer's origin, or what was known before round 1
 unfoldable pub word-org : List ℕ → ℕ → ℕ → ℕ
@@ -134,23 +139,34 @@ pub record Near (st : List ℕ) : Type 0 where
 unfoldable pub memory-test : List ℕ → List ℕ → List ℕ → List ℕ → List ℕ → List ℕ → ℕ → ℕ → ℕ → Bool
 memory-test recs ops w regs st lasts g bar p = still-fine p bar (flag w 4 p) (cell w p 4) && from-test w regs ops (inst recs g) st lasts bar p
 
--- rules 3 to 6 for position p, record g
-unfoldable pub stay-test : List ℕ → List ℕ → List ℕ → List ℕ → List ℕ → List ℕ → List ℕ → ℕ → ℕ → ℕ → ℕ → Bool
-stay-test recs ops w regs st lasts marks g sus bar p =
-    conj (all (read-test st p) (reads ops (inst recs g)) ∷ leb sus (p + 1) ∷ memory-test recs ops w regs st lasts g bar p ∷ own-memory (in-set marks) (cell w p 4) ∷ [])
+-- rule 6 for the number of memory written
+unfoldable pub own-test : List ℕ → ℕ → Bool
+own-test lasts o = eqb o 0 || leb 1024 (getD lasts o 0)
 
--- position p was looked at: st and marks after those before
-pub record Forwarded (recs ops w regs lasts : List ℕ) (sus bar p : ℕ) (st marks st′ marks′ : List ℕ) (r : ℕ) : Type 0 where
+-- rules 3 to 6 for position p, record g
+unfoldable pub stay-test : List ℕ → List ℕ → List ℕ → List ℕ → List ℕ → List ℕ → ℕ → ℕ → ℕ → ℕ → Bool
+stay-test recs ops w regs st lasts g sus bar p =
+    conj (all (read-test st p) (reads ops (inst recs g)) ∷ leb sus (p + 1) ∷ memory-test recs ops w regs st lasts g bar p ∷ own-test lasts (cell w p 4) ∷ [])
+
+-- a member that was dropped, r of them, is none
+unfoldable pub forgot : ℕ → ℕ → List ℕ → List ℕ
+forgot r p lasts = cond (eqb r 0) lasts (set lasts (2 * p + 5) (getD lasts (2 * p + 5) 0 % 1024))
+
+-- position p was looked at: st, lasts and marks after those before
+pub record Forwarded (recs ops w regs : List ℕ) (sus bar p : ℕ) (st lasts marks st′ lasts′ marks′ : List ℕ) (r : ℕ) : Type 0 where
   pub stamped : Stamped (writes (inst recs (cell w p 0))) 2048 0 (2048 * writer-word w (in-set marks′) (suc p)) st st′
-  pub sifts : marks′ ≡ sifted marks p (stay-test recs ops w regs st lasts marks (cell w p 0) sus bar p)
-  pub loses : r ≡ lost marks p (stay-test recs ops w regs st lasts marks (cell w p 0) sus bar p)
+  pub sifts : marks′ ≡ sifted marks p (stay-test recs ops w regs st lasts (cell w p 0) sus bar p)
+  pub forgets : lasts′ ≡ forgot r p lasts
+  pub loses : r ≡ lost marks p (stay-test recs ops w regs st lasts (cell w p 0) sus bar p)
 
 -- the summary of the marks, with the writers before p
 pub record Summed (recs w : List ℕ) (n p : ℕ) (st lasts marks : List ℕ) : Type 0 where
   pub stamps : Stamps w (defs-of recs w) (in-set marks) (in-set marks) n p st
+  pub size : length lasts ≡ 2008
   pub writes : Writes (λ q. cell w q 4) (in-set marks) n lasts
-  pub barrier : getD lasts 2006 0 ≡ last-kept (in-set marks) (flag w 8) n
-  pub suspension : getD lasts 2007 0 ≡ last-kept (in-set marks) (flag w 16) n
+  pub flags : (j : ℕ) → j < 2006 → getD lasts j 0 / 1024 ≡ hit (member-at (in-set marks) 0 j)
+  pub barrier : getD lasts 2006 0 % 1024 ≡ last-kept (in-set marks) (flag w 8) n
+  pub suspension : getD lasts 2007 0 % 1024 ≡ last-kept (in-set marks) (flag w 16) n
 
 -- q and 1, if q is kept
 unfoldable pub kept-word : Bool → ℕ → ℕ
@@ -158,12 +174,17 @@ kept-word in? q = cond in? 0 (q + 1)
 
 -- a later position in word k stays
 unfoldable pub later-in : ℕ → ℕ → List ℕ → List ℕ
-later-in k v ls = set ls k (max (getD ls k 0) v)
+later-in k v ls = set ls k (1024 * (getD ls k 0 / 1024) + max (getD ls k 0 % 1024) v)
 
--- what q does is noted, if q is kept
+-- q is a member
+unfoldable pub member-in : ℕ → List ℕ → List ℕ
+member-in q ls = set ls (2 * q + 5) (getD ls (2 * q + 5) 0 % 1024 + 1024)
+
+-- what q does is noted, if q is kept, else that it is a member
 pub record Noted (w : List ℕ) (L : ℕ → Bool) (q : ℕ) (before after : List ℕ) : Type 0 where
   pub size : length after ≡ length before
-  pub each : (j : ℕ) → j < 2008 → getD after j 0 ≡ max (getD before j 0) (cond (not (L q) && noted w j q) (q + 1) 0)
+  pub each : (j : ℕ) → j < 2008 → getD after j 0 % 1024 ≡ max (getD before j 0 % 1024) (cond (not (L q) && noted w j q) (q + 1) 0)
+  pub flags : (j : ℕ) → j < 2008 → getD after j 0 / 1024 ≡ cond (L q && eqb (2 * q + 5) j) 1 (getD before j 0 / 1024)
 
 -- what q reads is awaited, if q is kept
 pub record Awaited (reads : ℕ → List ℕ) (L : ℕ → Bool) (q : ℕ) (before after : List ℕ) : Type 0 where

@@ -4,6 +4,7 @@
 use crate::marks::drop_unless;
 use crate::marks::marked;
 use crate::notes::note_all;
+use crate::notes::note_member;
 use crate::rules::rule1;
 use crate::stamps::put_reads;
 use crate::stamps::put_writes;
@@ -15,7 +16,7 @@ ghost use lib.ListN.{length, getD, replicate};
 ghost use Rattle.words.specs.Lists.{all};
 ghost use Rattle.inst.specs.Table.{rows};
 ghost use Rattle.legalset.specs.Chain.{cell, defs-of, reads-of, Safe, Brief};
-ghost use Rattle.legalset.specs.Marks.{in-set, Passed};
+ghost use Rattle.legalset.specs.Marks.{in-set, Inside, Passed};
 ghost use Rattle.legalset.specs.Rules.{backward-ok};
 ghost use Rattle.plan.specs.Passes.{kept-word, Awaited, Noted, Backed, Summed, Written, Readable};
 
@@ -48,7 +49,7 @@ fn kept_at(marks: &[u32; 800], q: usize) -> u64
     q as u64 + 1
 }
 
-// If position q is kept, what it reads is awaited, and what it does is noted.
+// If position q is kept, what it reads is awaited, and what it does is noted; else that it is a member is.
 fn keep(
     t: &[u32; 202],
     ops: &[u32],
@@ -63,6 +64,7 @@ fn keep(
     ensures { λ _. ⌜ Awaited (reads-of (now (recs .entry)) (now (ops .entry)) (now (w .entry))) (in-set (now (marks .entry))) q (now (st .entry)) (now (st .exit)) × Noted (now (w .entry)) (in-set (now (marks .entry))) q (now (lasts .entry)) (now (lasts .exit)) ⌝ }
 {
     if marked(marks, q) {
+        note_member(lasts, q);
         return;
     }
     put_reads(t, ops, recs, w, q, st, 1024, 0, 1024);
@@ -102,7 +104,7 @@ pub fn backward(
     marks: &mut [u32; 800],
     n: usize,
 ) -> u32
-    requires { ⌜ (now t ≡ rows) × Safe (now recs) (now ops) (now w) n (length (now st)) × Brief (now recs) (now ops) (now w) n × (length (now marks) ≡ 800) × (now st ≡ replicate (length (now st)) 0) × (now lasts ≡ replicate 2008 0) ⌝ }
+    requires { ⌜ (now t ≡ rows) × Safe (now recs) (now ops) (now w) n (length (now st)) × Brief (now recs) (now ops) (now w) n × (length (now marks) ≡ 800) × (now st ≡ replicate (length (now st)) 0) × (now lasts ≡ replicate 2008 0) × Inside n (now marks) ⌝ }
     ensures { λ r. ⌜ Passed (backward-ok (defs-of (now (recs .entry)) (now (w .entry))) (reads-of (now (recs .entry)) (now (ops .entry)) (now (w .entry))) n) 0 n (now (marks .entry)) (now (marks .exit)) r × (length (now (st .exit)) ≡ length (now (st .entry))) × Summed (now (recs .entry)) (now (w .entry)) n 0 (now (st .exit)) (now (lasts .exit)) (now (marks .exit)) ⌝ }
 {
     let mut r = 0u32;

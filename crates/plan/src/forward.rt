@@ -2,6 +2,7 @@
 use crate::chain::cell_at;
 use crate::marks::drop_unless;
 use crate::marks::marked;
+use crate::notes::forget;
 use crate::rules::rule3;
 use crate::rules::rule4;
 use crate::rules::rule5;
@@ -27,18 +28,17 @@ fn stays(
     regs: &[u32],
     st: &[u64],
     lasts: &[u32; 2008],
-    marks: &[u32; 800],
     sus: u32,
     bar: u32,
     p: usize,
 ) -> bool
-    requires { ⌜ (now t ≡ rows) × Readable (now recs) (now ops) (now w) (length (now st)) p × Near (now st) × (length (now regs) ≡ length (now st)) × (p < 800) × ((cell (now w) p 5 ≤ 2004) ⊎ (cell (now w) p 5 ≡ 4294967295)) × (length (now marks) ≡ 800) ⌝ }
-    ensures { λ b. ⌜ b ≡ stay-test (now (recs .entry)) (now (ops .entry)) (now (w .entry)) (now (regs .entry)) (now (st .entry)) (now (lasts .entry)) (now (marks .entry)) (cell (now (w .entry)) p 0) sus bar p ⌝ }
+    requires { ⌜ (now t ≡ rows) × Readable (now recs) (now ops) (now w) (length (now st)) p × Near (now st) × (length (now regs) ≡ length (now st)) × (p < 800) × ((cell (now w) p 5 ≤ 2004) ⊎ (cell (now w) p 5 ≡ 4294967295)) × (cell (now w) p 4 ≤ 2004) ⌝ }
+    ensures { λ b. ⌜ b ≡ stay-test (now (recs .entry)) (now (ops .entry)) (now (w .entry)) (now (regs .entry)) (now (st .entry)) (now (lasts .entry)) (cell (now (w .entry)) p 0) sus bar p ⌝ }
 {
     if !rule4(sus, p) {
         return false;
     }
-    if !rule6(w, marks, p) {
+    if !rule6(w, lasts, p) {
         return false;
     }
     if !rule5(ops, recs, w, regs, st, lasts, bar, p) {
@@ -61,13 +61,13 @@ fn may_stay(
     bar: u32,
     p: usize,
 ) -> bool
-    requires { ⌜ (now t ≡ rows) × Readable (now recs) (now ops) (now w) (length (now st)) p × Near (now st) × (length (now regs) ≡ length (now st)) × (p < 800) × ((cell (now w) p 5 ≤ 2004) ⊎ (cell (now w) p 5 ≡ 4294967295)) × (length (now marks) ≡ 800) ⌝ }
-    ensures { λ b. ⌜ b ≡ (not (in-set (now (marks .entry)) p) || stay-test (now (recs .entry)) (now (ops .entry)) (now (w .entry)) (now (regs .entry)) (now (st .entry)) (now (lasts .entry)) (now (marks .entry)) (cell (now (w .entry)) p 0) sus bar p) ⌝ }
+    requires { ⌜ (now t ≡ rows) × Readable (now recs) (now ops) (now w) (length (now st)) p × Near (now st) × (length (now regs) ≡ length (now st)) × (p < 800) × ((cell (now w) p 5 ≤ 2004) ⊎ (cell (now w) p 5 ≡ 4294967295)) × (cell (now w) p 4 ≤ 2004) × (length (now marks) ≡ 800) ⌝ }
+    ensures { λ b. ⌜ b ≡ (not (in-set (now (marks .entry)) p) || stay-test (now (recs .entry)) (now (ops .entry)) (now (w .entry)) (now (regs .entry)) (now (st .entry)) (now (lasts .entry)) (cell (now (w .entry)) p 0) sus bar p) ⌝ }
 {
     if !marked(marks, p) {
         return true;
     }
-    stays(t, ops, recs, w, regs, st, lasts, marks, sus, bar, p)
+    stays(t, ops, recs, w, regs, st, lasts, sus, bar, p)
 }
 
 // What is stamped of position p where it writes: whether it is in the set, and its origin.
@@ -89,8 +89,8 @@ fn step(
     ops: &[u32],
     w: &[u32],
     regs: &[u32],
-    lasts: &[u32; 2008],
     st: &mut [u64],
+    lasts: &mut [u32; 2008],
     marks: &mut [u32; 800],
     sus: u32,
     bar: u32,
@@ -98,10 +98,11 @@ fn step(
     n: usize,
 ) -> u32
     requires { ⌜ (now t ≡ rows) × Safe (now recs) (now ops) (now w) n (length (now st)) × Brief (now recs) (now ops) (now w) n × (length (now regs) ≡ length (now st)) × Near (now st) × (p < n) × (length (now marks) ≡ 800) ⌝ }
-    ensures { λ r. ⌜ Forwarded (now (recs .entry)) (now (ops .entry)) (now (w .entry)) (now (regs .entry)) (now (lasts .entry)) sus bar p (now (st .entry)) (now (marks .entry)) (now (st .exit)) (now (marks .exit)) r ⌝ }
+    ensures { λ r. ⌜ Forwarded (now (recs .entry)) (now (ops .entry)) (now (w .entry)) (now (regs .entry)) sus bar p (now (st .entry)) (now (lasts .entry)) (now (marks .entry)) (now (st .exit)) (now (lasts .exit)) (now (marks .exit)) r ⌝ }
 {
     let ok = may_stay(t, ops, recs, w, regs, st, lasts, marks, sus, bar, p);
     let d = drop_unless(marks, p, ok);
+    forget(lasts, d, p);
     put_writes(t, recs, w, p, st, 2048, 0, stamp_of(w, marks, p));
     d
 }
@@ -113,8 +114,8 @@ pub fn forward(
     ops: &[u32],
     w: &[u32],
     regs: &[u32],
-    lasts: &[u32; 2008],
     st: &mut [u64],
+    lasts: &mut [u32; 2008],
     marks: &mut [u32; 800],
     m: usize,
     n: usize,
@@ -122,12 +123,12 @@ pub fn forward(
     requires { ⌜ (now t ≡ rows) × Safe (now recs) (now ops) (now w) n (length (now st)) × Brief (now recs) (now ops) (now w) n × (length (now regs) ≡ length (now st)) × (m ≤ n) × (length (now marks) ≡ 800) × Summed (now recs) (now w) n 0 (now st) (now lasts) (now marks) ⌝ }
     ensures { λ r. ⌜ Passed (own (forward-ok (view (now (recs .entry)) (now (ops .entry)) (now (w .entry)) (now (regs .entry))) n)) 0 m (now (marks .entry)) (now (marks .exit)) r × (length (now (st .exit)) ≡ length (now (st .entry))) ⌝ }
 {
-    let bar = lasts[2006];
-    let sus = lasts[2007];
+    let bar = lasts[2006] % 1024;
+    let sus = lasts[2007] % 1024;
     let mut r = 0u32;
     let mut p = 0usize;
     while p < m {
-        r += step(t, recs, ops, w, regs, lasts, st, marks, sus, bar, p, n);
+        r += step(t, recs, ops, w, regs, st, lasts, marks, sus, bar, p, n);
         p += 1;
     }
     r

@@ -1,5 +1,6 @@
 // What the kept positions of a set do, noted from behind (01, "The legal set": "kept" is outside the set in the whole chain): the last
-// kept write of each origin, in 2006 the last kept barrier, in 2007 the last kept position that may suspend, each and 1.
+// kept write of each origin, in 2006 the last kept barrier, in 2007 the last kept position that may suspend, each and 1. The word of
+// Temp of a member, as memory written, has 1024 besides.
 use crate::chain::cell_at;
 ghost use mathlib.Core.Path.{_≡_};
 ghost use mathlib.Core.Bool.{cond};
@@ -7,21 +8,22 @@ ghost use Prim.Native.Nat.{_+_, _*_, _/_, _%_, _<_, _≤_, max};
 ghost use lib.Dec.{eqb};
 ghost use lib.ListN.{length};
 ghost use Rattle.legalset.specs.Chain.{cell, flag};
-ghost use Rattle.plan.specs.Passes.{later-in};
+ghost use Rattle.plan.specs.Passes.{later-in, member-in, forgot};
 
-// The later of two positions.
+// The word x with the later of two positions, v and the one that stands there.
 fn later(x: u32, v: u32) -> u32
-    ensures { λ r. ⌜ r ≡ max x v ⌝ }
+    requires { ⌜ v ≤ 800 ⌝ }
+    ensures { λ r. ⌜ r ≡ 1024 * (x / 1024) + max (x % 1024) v ⌝ }
 {
-    if x < v {
-        return v;
+    if x % 1024 < v {
+        return 1024 * (x / 1024) + v;
     }
     x
 }
 
 // Position v - 1 is noted in word k, unless a later one is.
 fn note(lasts: &mut [u32; 2008], k: usize, v: u32)
-    requires { ⌜ k < 2008 ⌝ }
+    requires { ⌜ (k < 2008) × (v ≤ 800) ⌝ }
     ensures { λ _. ⌜ now (lasts .exit) ≡ later-in k v (now (lasts .entry)) ⌝ }
 {
     lasts[k] = later(lasts[k], v);
@@ -48,4 +50,25 @@ pub fn note_all(w: &[u32], lasts: &mut [u32; 2008], q: usize)
     note(lasts, inst::record::wide(cell_at(w, q, 4)), e);
     note(lasts, 2006, where_flag(f, 8, e));
     note(lasts, 2007, where_flag(f, 16, e));
+}
+
+// Position q is a member.
+pub fn note_member(lasts: &mut [u32; 2008], q: usize)
+    requires { ⌜ q < 800 ⌝ }
+    ensures { λ _. ⌜ now (lasts .exit) ≡ member-in q (now (lasts .entry)) ⌝ }
+{
+    let k = 2 * q + 5;
+    lasts[k] = lasts[k] % 1024 + 1024;
+}
+
+// Position p is none, if d, how many were dropped there, is not 0.
+pub fn forget(lasts: &mut [u32; 2008], d: u32, p: usize)
+    requires { ⌜ p < 800 ⌝ }
+    ensures { λ _. ⌜ now (lasts .exit) ≡ forgot d p (now (lasts .entry)) ⌝ }
+{
+    if d == 0 {
+        return;
+    }
+    let k = 2 * p + 5;
+    lasts[k] = lasts[k] % 1024;
 }

@@ -5,7 +5,6 @@
 use crate::chain::cell_at;
 use crate::chain::places;
 use crate::chain::read_place;
-use crate::marks::marked;
 ghost use mathlib.Core.Path.{_≡_};
 ghost use mathlib.Core.Logic.{_⊎_};
 ghost use mathlib.Core.Bool.{not, _||_};
@@ -17,9 +16,8 @@ ghost use Rattle.model.specs.Picture.{inst, absent, reads, writes};
 ghost use Rattle.inst.specs.Table.{rows};
 ghost use Rattle.inst.specs.Record.{Used};
 ghost use Rattle.legalset.specs.Chain.{cell, flag, defs-of, reads-of, picked, Fits, Good};
-ghost use Rattle.legalset.specs.Marks.{in-set};
-ghost use Rattle.legalset.specs.Rules.{own-memory, still-fine};
-ghost use Rattle.plan.specs.Passes.{result-test, read-test, place-test, word-org, org-test, piece-test, from-test, memory-test, Near, Written, Readable};
+ghost use Rattle.legalset.specs.Rules.{still-fine};
+ghost use Rattle.plan.specs.Passes.{result-test, read-test, place-test, word-org, org-test, piece-test, from-test, memory-test, own-test, Near, Written, Readable};
 
 // Is register r, if it is one, not awaited?
 fn free(st: &[u64], r: u32) -> bool
@@ -174,7 +172,10 @@ fn org_ok(lasts: &[u32; 2008], bar: u32, p: usize, o: u32) -> bool
 {
     let e = p as u32 + 1;
     let k = inst::record::wide(o) + 1;
-    ((o == 1) | (3 <= o)) & ((bar <= e) | (o == 1)) & (lasts[1] <= e) & ((o <= 2) | (lasts[k] <= e))
+    ((o == 1) | (3 <= o))
+        & ((bar <= e) | (o == 1))
+        & (lasts[1] % 1024 <= e)
+        & ((o <= 2) | (lasts[k] % 1024 <= e))
 }
 
 // Where register r points that is read at this place.
@@ -300,27 +301,12 @@ pub fn rule5(
     froms_ok(ops, recs, w, regs, st, lasts, bar, p)
 }
 
-// Rule 6 by the number of the memory written.
-fn own_ok(marks: &[u32; 800], o: u32) -> bool
-    requires { ⌜ length (now marks) ≡ 800 ⌝ }
-    ensures { λ b. ⌜ b ≡ own-memory (in-set (now (marks .entry))) o ⌝ }
-{
-    if o == 0 {
-        return true;
-    }
-    if o < 5 {
-        return false;
-    }
-    if o % 2 != 1 {
-        return false;
-    }
-    marked(marks, inst::record::wide((o - 5) / 2))
-}
-
 // Rule 6: the memory that position p writes is Temp of a member.
-pub fn rule6(w: &[u32], marks: &[u32; 800], p: usize) -> bool
-    requires { ⌜ (10 * p + 10 ≤ length (now w)) × (length (now marks) ≡ 800) ⌝ }
-    ensures { λ b. ⌜ b ≡ own-memory (in-set (now (marks .entry))) (cell (now (w .entry)) p 4) ⌝ }
+pub fn rule6(w: &[u32], lasts: &[u32; 2008], p: usize) -> bool
+    requires { ⌜ (10 * p + 10 ≤ length (now w)) × (cell (now w) p 4 ≤ 2004) ⌝ }
+    ensures { λ b. ⌜ b ≡ own-test (now (lasts .entry)) (cell (now (w .entry)) p 4) ⌝ }
 {
-    own_ok(marks, cell_at(w, p, 4))
+    let o = cell_at(w, p, 4);
+    let k = inst::record::wide(o);
+    (o == 0) | (1024 <= lasts[k])
 }

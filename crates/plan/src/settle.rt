@@ -35,7 +35,7 @@ fn look_back(
     marks: &mut [u32; 800],
     n: usize,
 ) -> u32
-    requires { ⌜ (now t ≡ rows) × Safe (now recs) (now ops) (now w) n (length (now st)) × Brief (now recs) (now ops) (now w) n × (length (now marks) ≡ 800) × (first ≡ true → now lasts ≡ replicate 2008 0) ⌝ }
+    requires { ⌜ (now t ≡ rows) × Safe (now recs) (now ops) (now w) n (length (now st)) × Brief (now recs) (now ops) (now w) n × (length (now marks) ≡ 800) × (first ≡ true → now lasts ≡ replicate 2008 0) × Inside n (now marks) ⌝ }
     ensures { λ r. ⌜ Passed (backward-ok (defs-of (now (recs .entry)) (now (w .entry))) (reads-of (now (recs .entry)) (now (ops .entry)) (now (w .entry))) n) 0 n (now (marks .entry)) (now (marks .exit)) r × (length (now (st .exit)) ≡ length (now (st .entry))) × Summed (now (recs .entry)) (now (w .entry)) n 0 (now (st .exit)) (now (lasts .exit)) (now (marks .exit)) ⌝ }
 {
     words::bits::clear(st);
@@ -58,11 +58,11 @@ fn pass(
     m: usize,
     n: usize,
 ) -> u32
-    requires { ⌜ (now t ≡ rows) × Set-up (now recs) (now ops) (now w) (now regs) (now st) (now marks) m n × (ahead ≡ true → Summed (now recs) (now w) n 0 (now st) (now lasts) (now marks)) × (first ≡ true → now lasts ≡ replicate 2008 0) ⌝ }
+    requires { ⌜ (now t ≡ rows) × Set-up (now recs) (now ops) (now w) (now regs) (now st) (now marks) m n × (ahead ≡ true → Summed (now recs) (now w) n 0 (now st) (now lasts) (now marks)) × (first ≡ true → now lasts ≡ replicate 2008 0) × Inside n (now marks) ⌝ }
     ensures { λ r. ⌜ Passed (pass-ok (view (now (recs .entry)) (now (ops .entry)) (now (w .entry)) (now (regs .entry))) n ahead) 0 m (now (marks .entry)) (now (marks .exit)) r × (length (now (st .exit)) ≡ length (now (st .entry))) × (ahead ≡ false → Summed (now (recs .entry)) (now (w .entry)) n 0 (now (st .exit)) (now (lasts .exit)) (now (marks .exit))) ⌝ }
 {
     if ahead {
-        return forward(t, recs, ops, w, regs, lasts, st, marks, m, n);
+        return forward(t, recs, ops, w, regs, st, lasts, marks, m, n);
     }
     look_back(first, t, recs, ops, w, st, lasts, marks, n)
 }
@@ -81,7 +81,7 @@ fn passes(
     least: u32,
     all: u32,
 ) -> u32
-    requires { ⌜ (now t ≡ rows) × Set-up (now recs) (now ops) (now w) (now regs) (now st) (now marks) m n × (all ≡ members (now marks)) ⌝ }
+    requires { ⌜ (now t ≡ rows) × Set-up (now recs) (now ops) (now w) (now regs) (now st) (now marks) m n × (all ≡ members (now marks)) × Inside m (now marks) ⌝ }
     ensures { λ r. ⌜ Settled (cycle-ok (view (now (recs .entry)) (now (ops .entry)) (now (w .entry)) (now (regs .entry))) n) m least (now (marks .entry)) (now (marks .exit)) r × (length (now (st .exit)) ≡ length (now (st .entry))) ⌝ }
 {
     let mut left = all;

@@ -16,7 +16,7 @@ abbrev μ-loop : tie.MeasureT-loop
 μ-loop t recs ops w st₀ lasts₀ marks₀ n r₀ q₀ st lasts marks r q = q
 
 loop-holds : tie.Need-loop-holds Inv-loop μ-loop
-loop-holds c = let p = c .before .before .before .before .pre in (omega arith, backing-none _ _ _ _ _ _ (p .4) (p .5))
+loop-holds c = let p = c .before .before .before .before .pre in (omega arith, backing-none _ _ _ _ _ _ (p .4) (p .5) (p .6))
 
 sub-back : tie.Need-sub-back Inv-loop μ-loop
 sub-back c = search needs

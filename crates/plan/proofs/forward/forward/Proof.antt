@@ -9,10 +9,10 @@ use Rattle.plan.proofs.forward.forward.Statement.{statement}
 use Rattle.plan.proofs.forward.forward.Tie as tie
 
 abbrev Inv-loop : tie.InvT-loop
-Inv-loop t recs ops w regs lasts st₀ marks₀ m n bar₀ sus₀ r₀ p₀ st marks r p = (p ≤ m) × Going recs ops w regs n p st₀ marks₀ st marks r
+Inv-loop t recs ops w regs st₀ lasts₀ marks₀ m n bar₀ sus₀ r₀ p₀ st lasts marks r p = (p ≤ m) × Going recs ops w regs n p st₀ lasts₀ marks₀ st lasts marks r
 
 abbrev μ-loop : tie.MeasureT-loop
-μ-loop t recs ops w regs lasts st₀ marks₀ m n bar₀ sus₀ r₀ p₀ st marks r p = m - p
+μ-loop t recs ops w regs st₀ lasts₀ marks₀ m n bar₀ sus₀ r₀ p₀ st lasts marks r p = m - p
 
 element-copy-out-bar : tie.Need-element-copy-out-bar Inv-loop μ-loop
 element-copy-out-bar c = search needs
@@ -24,10 +24,10 @@ loop-holds : tie.Need-loop-holds Inv-loop μ-loop
 loop-holds c = (omega arith, going-none (c .before .before .before .before .before .before .before .pre .6))
 
 step-requires : tie.Need-step-requires Inv-loop μ-loop
-step-requires c κs = let p = c .before .before .before .before .before .before .before .before .before .before .before .pre in let i = c .before .before .before .loop .inv .1 in let h = c .before .before .loop-test .taken in (p .0, safe-len (p .1) (i .size), p .2, p .3 ∙ sym (i .size), going-near (p .1) (omega (arith, p .4)) (p .6) i, omega (arith, p .4), i .passed .size ∙ p .5)
+step-requires c κs = let p = c .before .before .before .before .before .before .before .before .before .before .before .before .pre in let i = c .before .before .before .before .loop .inv .1 in let h = c .before .before .before .loop-test .taken in (p .0, safe-len (p .1) (i .size), p .2, p .3 ∙ sym (i .size), going-near (p .1) (omega (arith, p .4)) (p .6) i, omega (arith, p .4), i .passed .size ∙ p .5)
 
 add-r : tie.Need-add-r Inv-loop μ-loop
-add-r c = omega (arith, passed-low (c .before .before .before .before .before .before .loop .inv .1 .passed) (c .before .before .before .before .before .before .before .before .before .before .before .before .before .before .pre .5), lost-low _ _ _ (c .before .before .step .ensures .loses))
+add-r c = omega (arith, passed-low (c .before .before .before .before .before .before .before .loop .inv .1 .passed) (c .before .before .before .before .before .before .before .before .before .before .before .before .before .before .before .pre .5), lost-low _ _ _ (c .before .before .step .ensures .loses))
 
 add-p : tie.Need-add-p Inv-loop μ-loop
 add-p c = search needs
@@ -36,7 +36,7 @@ loop-less : tie.Need-loop-less Inv-loop μ-loop
 loop-less c = search needs
 
 loop-again : tie.Need-loop-again Inv-loop μ-loop
-loop-again c = let p = c .before .before .before .before .before .before .before .before .before .before .before .before .before .before .pre in (omega arith, going-more (p .1) (omega (arith, p .4, c .before .before .before .before .before .loop-test .taken)) (p .6) (c .before .before .before .before .before .before .loop .inv .1) (c .before .before .step .ensures))
+loop-again c = let p = c .before .before .before .before .before .before .before .before .before .before .before .before .before .before .before .pre in (omega arith, going-more (p .1) (omega (arith, p .4, c .before .before .before .before .before .before .loop-test .taken)) (p .6) (c .before .before .before .before .before .before .before .loop .inv .1) (p .5) (c .before .before .step .ensures))
 
 same-length : tie.Need-same-length Inv-loop μ-loop
 same-length c = c .before .loop .inv .1 .size

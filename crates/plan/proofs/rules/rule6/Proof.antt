@@ -1,7 +1,5 @@
 -- `plan::rules::rule6` meets its contract. Assumes nothing.
-use mathlib.Core.Path.{ap, _∙_}
-use Rattle.legalset.specs.Marks.{in-set}
-use Rattle.legalset.specs.Rules.{own-memory}
+use Rattle.plan.proofs.Testing.{own-words}
 use borrow.Author.Needs.{needs}
 use Rattle.plan.proofs.rules.rule6.Statement.{statement}
 use Rattle.plan.proofs.rules.rule6.Tie as tie
@@ -9,11 +7,24 @@ use Rattle.plan.proofs.rules.rule6.Tie as tie
 cell-at-requires : tie.Need-cell-at-requires
 cell-at-requires c κs = search needs
 
-own-ok-requires : tie.Need-own-ok-requires
-own-ok-requires c κs = search needs
+wide-requires : tie.Need-wide-requires
+wide-requires c κs = search needs
+
+mul-result : tie.Need-mul-result
+mul-result c = search needs
+
+element-copy-out-result : tie.Need-element-copy-out-result
+element-copy-out-result c = search needs
 
 returns : tie.Need-returns
-returns c = c .own-ok .ensures ∙ ap (own-memory (in-set (c .before .before .before .args .marks .now))) (c .before .cell-at .ensures)
+returns c = own-words _ (c .before .before .cell-at .ensures) (c .before .wide .ensures)
 
 pub rule6-spec : {M : Type 1} → statement M
-rule6-spec = tie.close (tie.spec cell-at-requires own-ok-requires returns)
+rule6-spec =
+    tie.close
+    (tie.spec
+    cell-at-requires
+    wide-requires
+    mul-result
+    element-copy-out-result
+    returns)

@@ -13,7 +13,7 @@ renew-requires : tie.Need-renew-requires
 renew-requires c κs = c .before .before .before .before .before .before .before .before .before .pre .4
 
 backward-requires : tie.Need-backward-requires
-backward-requires c κs = let z = cleared (c .before .before .before .before .before .before .before .before .before .before .before .before .before .args .st .now) (c .before .before .before .before .before .before .before .clear .ensures) in let p = c .before .before .before .before .before .before .before .before .before .before .before .before .before .pre in (p .0, safe-len (p .1) (z .0), p .2, p .3, z .1, c .before .before .before .renew .ensures)
+backward-requires c κs = let z = cleared (c .before .before .before .before .before .before .before .before .before .before .before .before .before .args .st .now) (c .before .before .before .before .before .before .before .clear .ensures) in let p = c .before .before .before .before .before .before .before .before .before .before .before .before .before .pre in (p .0, safe-len (p .1) (z .0), p .2, p .3, z .1, c .before .before .before .renew .ensures, p .5)
 
 same-length : tie.Need-same-length
 same-length c = c .before .before .backward .ensures .1 ∙ cleared (c .before .before .before .before .before .before .before .before .before .before .before .before .before .before .before .before .args .st .now) (c .before .before .before .before .before .before .before .before .before .before .clear .ensures) .0

@@ -16,7 +16,7 @@ returns : tie.Need-returns
 returns c = let a = c .before .before .before .before .before .before .before .before .before .before .before .before .args in let p = c .before .before .before .before .before .before .before .before .before .before .before .before .pre in (ahead-passed (view (a .recs .now) (a .ops .now) (a .w .now) (a .regs .now)) (a .n) (a .m) (c .before .before .before .before .before .before .if1 .taken) (c .before .before .forward .ensures .0), c .before .before .forward .ensures .1, λ e. clash (c .before .before .before .before .before .before .if1 .taken) e)
 
 look-back-requires : tie.Need-look-back-requires
-look-back-requires c κs = let p = c .before .before .before .before .before .before .before .before .before .pre in (p .0, p .1 .safe, p .1 .brief, p .1 .marks-size, p .3)
+look-back-requires c κs = let p = c .before .before .before .before .before .before .before .before .before .pre in (p .0, p .1 .safe, p .1 .brief, p .1 .marks-size, p .3, p .4)
 
 same-length-2 : tie.Need-same-length-2
 same-length-2 c = c .before .before .look-back .ensures .1

@@ -1,6 +1,6 @@
 -- `plan::settle::passes` meets its contract. Assumes nothing.
 use native.Mathlib.Omega.{arith}
-use Rattle.plan.proofs.Cycling.{Cycling, cycling-none, cycling-more, cycling-end, to-go, to-go-less, set-up-on}
+use Rattle.plan.proofs.Cycling.{Cycling, cycling-none, cycling-more, cycling-end, to-go, to-go-less, set-up-on, inside-on}
 use borrow.Author.Needs.{needs}
 use Rattle.plan.proofs.settle.passes.Statement.{statement}
 use Rattle.plan.proofs.settle.passes.Tie as tie
@@ -17,7 +17,7 @@ loop-holds : tie.Need-loop-holds Inv-loop μ-loop
 loop-holds c = cycling-none _ _ _ _ _ _ _ _ (c .before .before .before .before .before .pre .2)
 
 pass-requires : tie.Need-pass-requires Inv-loop μ-loop
-pass-requires c κs = let i = c .before .before .before .before .loop .inv in (c .before .before .before .before .before .before .before .before .before .before .pre .0, set-up-on (c .before .before .before .before .before .before .before .before .before .before .pre .1) (i .size) (i .settling .size), i .sum, i .fresh)
+pass-requires c κs = let i = c .before .before .before .before .loop .inv in (c .before .before .before .before .before .before .before .before .before .before .pre .0, set-up-on (c .before .before .before .before .before .before .before .before .before .before .pre .1) (i .size) (i .settling .size), i .sum, i .fresh, inside-on (c .before .before .before .before .before .before .before .before .before .before .pre .1 .in-x) (c .before .before .before .before .before .before .before .before .before .before .pre .3) (i .settling .within))
 
 sub-left : tie.Need-sub-left Inv-loop μ-loop
 sub-left c = omega (arith, c .before .before .before .before .before .before .before .loop .inv .settling .count, c .before .before .pass .ensures .0 .count)

@@ -12,7 +12,7 @@ returns : tie.Need-returns
 returns c = let a = c .before .before .before .before .before .before .before .before .args in too-few (a .recs .now) (a .ops .now) (a .w .now) (a .regs .now) (a .m) (a .n) (a .st .now) (a .marks .now) (c .before .count .ensures) (c .if1 .taken)
 
 passes-requires : tie.Need-passes-requires
-passes-requires c κs = let p = c .before .before .before .before .before .before .before .before .before .before .pre in (p .0, p .1, c .before .before .before .count .ensures)
+passes-requires c κs = let p = c .before .before .before .before .before .before .before .before .before .before .pre in (p .0, p .1, c .before .before .before .count .ensures, p .2)
 
 same-length : tie.Need-same-length
 same-length c = c .before .before .passes .ensures .1
