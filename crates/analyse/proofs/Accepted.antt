@@ -29,7 +29,7 @@ use Rattle.analyse.specs.Written.{Fits}
 use Rattle.analyse.specs.Flags.{Found, Seen}
 use Rattle.analyse.specs.State.{Readable}
 use Rattle.analyse.specs.Step.{Good}
-use Rattle.analyse.proofs.Puts.{fits-more}
+use Rattle.analyse.proofs.Learned.{fits-more}
 use Rattle.analyse.proofs.First.{first-seen}
 
 -- ---- slots

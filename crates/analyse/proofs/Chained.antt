@@ -20,20 +20,27 @@ use Rattle.chains.proofs.Laid.{part-step}
 use Rattle.analyse.specs.Flags.{Seen}
 use Rattle.analyse.specs.State.{cell, opt-at, State, Safe}
 use Rattle.analyse.specs.Step.{Forgot, Holds, Part, Ran, RanPart, Ready, Analysed}
-use Rattle.analyse.proofs.Puts.{seen-kept}
+use Rattle.analyse.proofs.Learned.{seen-kept}
+use Rattle.analyse.proofs.Marking.{ranges-none}
 use Rattle.analyse.proofs.Run.{ran-none, ran-append}
 
 -- ---- before the first position
 
-pub forgot-flags : {R : ℕ} {xs ys : List ℕ} → Forgot R xs ys → (r : ℕ) → getD ys r 0 % 16 ≡ getD xs r 0 % 16
+forgot-flags : {R : ℕ} {xs ys : List ℕ} → Forgot R xs ys → (r : ℕ) → getD ys r 0 % 16 ≡ getD xs r 0 % 16
 forgot-flags {R} {xs} {ys} f r = ⊎-elim (λ (h : r < R). let e = f .low r h in omega (arith, e)) (λ (h : R ≤ r). ap (λ (x : ℕ). x % 16) (f .high r h)) (lt? r R)
 
-pub none-yet : {R : ℕ} {xs ys : List ℕ} → Forgot R xs ys → (r : ℕ) → r < R → getD ys r 0 / 16 ≡ 0
+none-yet : {R : ℕ} {xs ys : List ℕ} → Forgot R xs ys → (r : ℕ) → r < R → getD ys r 0 < 16
 none-yet f r h = let e = f .low r h in omega (arith, e)
+
+no-writer : {R : ℕ} {xs ys : List ℕ} → Forgot R xs ys → (r : ℕ) → r < R → getD ys r 0 / 16 % 1024 ≡ 0
+no-writer f r h = let e = none-yet f r h in omega (arith, e)
 
 fresh-state : {G : Facts} {R : ℕ} {xs ys : List ℕ} (w : List ℕ) → Forgot R xs ys → Seen G R xs → State G [] R ys w
 unfolding opt-at
-fresh-state w f s = record { seen = seen-kept (forgot-flags f) s; writer = λ r h. ap opt-at (none-yet f r h); each = λ p h. absurd (not-suc-le-zero h) }
+fresh-state w f s = record {
+  marked = record { seen = seen-kept (forgot-flags f) s; writer = λ r h. ap opt-at (no-writer f r h); left = λ r h d e. absurd (omega (arith, no-writer f r h, e)) };
+  each = λ p h. absurd (not-suc-le-zero h);
+}
 
 -- ---- so many blocks
 
@@ -54,11 +61,13 @@ module _ {t recs ops regs w bounds : List ℕ} {c : Chain} {B R n : ℕ} (y : Re
     places = [];
     at = refl;
     ran = ran-none recs ops (record {
-      in-use = omega (arith, f .size, y .in-use);
-      lent = omega (arith, f .size, y .lent);
+      ranged = record {
+        in-use = omega (arith, f .size, y .in-use);
+        lent = omega (arith, f .size, y .lent);
+        few = omega arith;
+        each = λ r h. ranges-none 0 (getD regs₀ r 0) (none-yet f r h);
+      };
       room = omega arith;
-      few = omega arith;
-      within = λ r h. omega (arith, none-yet f r h);
       near = λ p h. absurd (not-suc-le-zero h);
     });
     rest = λ P e. refl;

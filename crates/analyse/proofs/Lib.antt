@@ -1,14 +1,16 @@
 pub mod Writing
 pub mod Soles
 pub mod Turned
+pub mod Layouts
+pub mod Leads
 pub mod Looked
 pub mod Alike
 pub mod Verdict
 pub mod Marking
+pub mod Learned
 pub mod Puts
 pub mod Run
 pub mod Chained
 pub mod First
 pub mod Accepted
-pub mod Again
 pub mod RunOf

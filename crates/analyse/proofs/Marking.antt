@@ -1,4 +1,4 @@
--- The last writers in the words of registers: marked and forgotten. Assumes nothing.
+-- The last writers in the words of registers, and what they left: marked and forgotten. Assumes nothing.
 use mathlib.Core.Bool.{Bool, true, false, cond}
 use mathlib.Core.List.{List, [], _∷_, _++_}
 use mathlib.Core.Option.{Option, none, some}
@@ -7,13 +7,16 @@ use Prim.Native.Nat.{ℕ, suc, _+_, _*_, _/_, _%_, _≤_, _<_}
 use native.Mathlib.Decide.{ℕ-discrete}
 use native.Mathlib.Nat.{not-suc-le-zero, add-zero, add-suc, suc-add}
 use native.Mathlib.Omega.{arith}
+use lib.Dec.{eqb}
 use lib.ListN.{getD, length, set, length-set}
 use lib.Seq.{getD-set-same, getD-set-other}
 use Rattle.words.specs.Lists.{mem}
 use Rattle.model.specs.Analyse.{Fact, last-writer}
 use Rattle.analyse.specs.Written.{settle}
-use Rattle.analyse.specs.State.{opt-at}
-use Rattle.analyse.specs.Step.{marked, Forgot}
+use Rattle.effects.specs.Origin.{num}
+use Rattle.analyse.specs.State.{opt-at, left-in, Ranges}
+use Rattle.analyse.specs.Step.{stamp, marked, Forgot}
+use Rattle.analyse.proofs.Looked.{num-small, num-bit}
 
 pub marked-twice : (p v : ℕ) → marked p (marked p v) ≡ marked p v
 unfolding marked
@@ -34,20 +37,54 @@ last-more k (g ∷ past) f r =
     go true o = ap some (suc-add k (length past) ∙ sym (add-suc k (length past)))
     go false o = refl
 
-pub opt-settle : (p : ℕ) (b : Bool) (v : ℕ) → opt-at (settle (marked p) b v / 16) ≡ cond b (some p) (opt-at (v / 16))
-unfolding settle marked opt-at
-opt-settle p true v = let e : (16 * (p + 1) + v % 16) / 16 ≡ suc p = omega arith in ap opt-at e
-opt-settle p false v = refl
-
-pub settle-flags : (p : ℕ) (b : Bool) (v : ℕ) → settle (marked p) b v % 16 ≡ v % 16
+pub settle-flags : (d : ℕ) (b : Bool) (v : ℕ) → settle (marked d) b v % 16 ≡ v % 16
 unfolding settle marked
-settle-flags p true v = omega arith
-settle-flags p false v = refl
+settle-flags d true v = omega arith
+settle-flags d false v = refl
 
-pub settle-within : (p : ℕ) (b : Bool) (v : ℕ) → v / 16 ≤ p → settle (marked p) b v / 16 ≤ p + 1
-unfolding settle marked
-settle-within p true v h = omega arith
-settle-within p false v h = omega arith
+-- a word with no writer
+pub ranges-none : (n v : ℕ) → v < 16 → Ranges n v
+ranges-none n v h = record { writer = let z : v / 16 % 1024 ≡ 0 = omega arith in omega (arith, z); org = let z : v / 16384 % 2048 ≡ 0 = omega arith in omega (arith, z); none = λ e. h }
+
+-- one that position p has written
+module _ (p o : ℕ) (l y : Bool) (few : p + 1 < 1000) (low : o < 6 + 2 * p) where
+  abbrev d : ℕ
+  d = stamp p o l y
+
+  abbrev h : ℕ
+  h = o + 2048 * num l + 4096 * num y
+
+  pub writer-new : (v : ℕ) → marked d v / 16 % 1024 ≡ suc p
+  unfolding marked stamp
+  writer-new v = omega (arith, few)
+
+  over : (v : ℕ) → marked d v / 16384 ≡ h
+  unfolding marked stamp
+  over v = omega (arith, few)
+
+  org-new : (v : ℕ) → marked d v / 16384 % 2048 ≡ o
+  org-new v = ap (λ (n : ℕ). n % 2048) (over v) ∙ omega (arith, few, low)
+
+  pub left-new : (v : ℕ) → left-in (marked d v) ≡ record { org = o; len = l; layout = y }
+  unfolding left-in
+  left-new v =
+      let a : eqb (marked d v / 16384 / 2048 % 2) 1 ≡ l = num-bit l (marked d v / 16384 / 2048 % 2) (ap (λ (n : ℕ). n / 2048 % 2) (over v) ∙ omega (arith, few, low, num-small l)) in
+      let b : eqb (marked d v / 16384 / 4096 % 2) 1 ≡ y = num-bit y (marked d v / 16384 / 4096 % 2) (ap (λ (n : ℕ). n / 4096 % 2) (over v) ∙ omega (arith, few, low, num-small l, num-small y)) in
+      rw (org-new v, a, b)
+
+  pub ranges-settle : (b : Bool) (v : ℕ) → Ranges p v → Ranges (p + 1) (settle (marked d) b v)
+  unfolding settle
+  ranges-settle true v g = record {
+    writer = let e = writer-new v in omega (arith, e);
+    org = let e = org-new v in omega (arith, e, low);
+    none = λ z. let e = writer-new v in absurd (omega (arith, e, z));
+  }
+  ranges-settle false v g = record { writer = omega (arith, g .writer); org = omega (arith, g .org); none = g .none }
+
+  pub opt-settle : (b : Bool) (v : ℕ) → opt-at (settle (marked d) b v / 16 % 1024) ≡ cond b (some p) (opt-at (v / 16 % 1024))
+  unfolding settle opt-at
+  opt-settle true v = ap opt-at (writer-new v)
+  opt-settle false v = refl
 
 -- ---- forgetting
 

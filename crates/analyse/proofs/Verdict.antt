@@ -1,9 +1,9 @@
 -- The numbers of one position stand for its fact. Assumes nothing.
 use mathlib.Core.Bool.{Bool, true, false, cond, _||_}
-use mathlib.Core.List.{List, [], _∷_, map}
+use mathlib.Core.List.{List, [], _∷_, _++_, map}
 use mathlib.Core.Logic.{inl, inr, ⊎-elim}
 use mathlib.Core.Option.{none}
-use mathlib.Core.Path.{_≡_, refl, sym, ap, _∙_}
+use mathlib.Core.Path.{_≡_, refl, sym, ap, _∙_, subst}
 use Prim.Native.Nat.{ℕ, zero, suc, _≤_, _<_}
 use native.Mathlib.Nat.{le-of-suc-le-suc, lt-of-not-le}
 use native.Mathlib.Decide.{decLt}
@@ -14,18 +14,20 @@ use lib.ListN.{getD, length, drop, List·getD-eq-default}
 use Rattle.model.specs.Kinds.{row, cat}
 use Rattle.model.specs.Picture.{Inst, inst, absent, reads, kind}
 use Rattle.model.specs.Analyse as M
-use Rattle.model.specs.Analyse.{Facts, Fact, Org, Unknown, Read, unread, last-writer, org-of, len-of, is-layout, when-some, known-of, positive, arm, pieces, placed, movable, fact}
+use Rattle.model.specs.Analyse.{Facts, Fact, Org, Unknown, Read, unread, last-writer, org-of, len-of, is-layout, when-some, known-of, positive, arm, pieces, placed, movable, sized, fact}
 use Rattle.inst.specs.Table.{packed, arm-at}
 use Rattle.inst.specs.Table as T
 use Rattle.inst.specs.declared.access.Firsts.{Firsts}
 use Rattle.inst.specs.Firsts.{Heads}
-use Rattle.inst.proofs.Rows.{arm-back, quiet-is}
+use Rattle.inst.proofs.Rows.{arm-is, arm-back, quiet-is}
 use Rattle.effects.specs.Origin.{org-at, class-at, wrote-at, from-at}
-use Rattle.effects.specs.Arms.{does, three, three-tests, asked, Right}
+use Rattle.effects.specs.Arms.{does, three, three-tests, asked, Right, leads}
 use Rattle.effects.specs.declared.arms.Effect.{Effect}
 use Rattle.effects.specs.declared.arms.Input.{Input}
 use Rattle.analyse.specs.State.{org-reg, len-reg, Reg?, Below, Readable, Asked, Low, Judged, fill-in}
 use Rattle.analyse.proofs.Alike.{arm-ext}
+use Rattle.analyse.proofs.Layouts.{after-fact}
+use Rattle.analyse.proofs.Leads.{leads-right}
 
 pub reads-reg : {recs ops : List ℕ} {R g : ℕ} → Readable recs ops R g → (k : ℕ) → Reg? R (getD (reads ops (inst recs g)) k absent)
 reads-reg {recs} {ops} {R} {g} r k = go (decLt k (length (reads ops (inst recs g))))
@@ -68,7 +70,7 @@ module _ (e : Effect) (q n : Bool) where
 -- ---- small numbers
 
 pub low-is : (i : Inst) {x : Input} {r : Effect} {v : ℕ} → Right r (T.arm (packed (kind i))) x → v ≤ 2004
-    → Low i (record { class = r .class; org = r .org; len = r .len; layout = r .layout; creates = r .creates; wrote = v; barrier = r .barrier; from = r .from })
+    → Low (x .p) i (record { class = r .class; org = r .org; len = r .len; layout = r .layout; creates = r .creates; wrote = v; barrier = r .barrier; from = r .from })
 low-is i {x} {r} {v} t h = record {
   org = t .near;
   wrote = h;
@@ -104,7 +106,7 @@ from-self (suc n) ps X e = go (eqb (suc n) 4294967295) e
     go true e = refl
     go false e = e
 
-module _ (G : Facts) (past : List Fact) (ops : List ℕ) (R : ℕ) (i : Inst) (x : Input) (r : Effect) (small-R : R ≤ 65536) (rd : (k : ℕ) → k < length (reads ops i) → getD (reads ops i) k absent < R) (q : Asked G past ops i x) (t : Right r (T.arm (packed (kind i))) x) where
+module _ (G : Facts) (past : List Fact) (ops : List ℕ) (R : ℕ) (i : Inst) (x : Input) (small-R : R ≤ 65536) (rd : (k : ℕ) → k < length (reads ops i) → getD (reads ops i) k absent < R) (q : Asked G past ops i x) where
   us : List Read
   us = map (λ r. record { reg = r; writer = last-writer 0 past r }) (reads ops i)
 
@@ -114,29 +116,51 @@ module _ (G : Facts) (past : List Fact) (ops : List ℕ) (R : ℕ) (i : Inst) (x
   effect : M.Effect
   effect = arm i (length past) (when-some positive (known-of G (getD us 1 unread .reg) .konst)) (λ k. getD (map (org-of G past) us) k Unknown) (λ k. getD (map (len-of G past) us) k false) (is-layout past) (drop 3 (map (org-of G past) us)) (row (kind i) .arm)
 
-  stands : does r (pieces (getD i 9 0) (drop 3 (map (org-of G past) us))) ≡ effect
-  unfolding asked three three-tests us effect
-  stands =
-      t .right i (drop 3 (map (org-of G past) us)) (q .form) (q .list) (q .small)
-      ∙ ap (arm i (x .p) (x .divisor) (three (x .o0) (x .o1) (x .o2)) (three-tests (x .l0) (x .l1) (x .l2)) (λ k. x .layout) (drop 3 (map (org-of G past) us))) (arm-back (getD i 0 0))
-      ∙ arm-ext i (x .p) (drop 3 (map (org-of G past) us)) (x .divisor) (when-some positive (known-of G (getD us 1 unread .reg) .konst))
-      (three (x .o0) (x .o1) (x .o2)) (λ k. getD (map (org-of G past) us) k Unknown) (three-tests (x .l0) (x .l1) (x .l2)) (λ k. getD (map (len-of G past) us) k false) (λ k. x .layout) (is-layout past)
-      (q .divisor ∙ sym (ap (λ (r : ℕ). when-some positive (known-of G r .konst)) (divisor-at-read G past (reads ops i) 1)))
-      (q .o0 ∙ sym (org-at-read G past (reads ops i) 0 here)) (q .o1 ∙ sym (org-at-read G past (reads ops i) 1 here)) (q .o2 ∙ sym (org-at-read G past (reads ops i) 2 here))
-      (q .l0 ∙ sym (len-at-read G past (reads ops i) 0 here)) (q .l1 ∙ sym (len-at-read G past (reads ops i) 1 here)) (q .l2 ∙ sym (len-at-read G past (reads ops i) 2 here))
-      (q .layout) (row (kind i) .arm)
-      ∙ ap (λ (n : ℕ). arm i n (when-some positive (known-of G (getD us 1 unread .reg) .konst)) (λ k. getD (map (org-of G past) us) k Unknown) (λ k. getD (map (len-of G past) us) k false) (is-layout past) (drop 3 (map (org-of G past) us)) (row (kind i) .arm)) (q .p)
+  first : org-at (x .o0) ≡ getD (map (org-of G past) us) 0 Unknown
+  unfolding us
+  first = q .o0 ∙ sym (org-at-read G past (reads ops i) 0 here)
 
-  pub judged : {v : ℕ} → wrote-at v ≡ fill-in (wrote-at (r .wrote)) (movable (class-at (r .class)) || r .barrier || T.quiet (packed (kind i)) || eqb (getD i 0 0) 58)
-      → Judged (record { class = r .class; org = r .org; len = r .len; layout = r .layout; creates = r .creates; wrote = v; barrier = r .barrier; from = r .from }) (fact G ops past i)
-  unfolding does fill-in us effect
-  judged {v} w = record {
-    class = ap (λ (e : M.Effect). e .class) stands;
-    org = ap (λ (e : M.Effect). e .org) stands;
-    len = ap (λ (e : M.Effect). e .len) stands;
-    layout = ap (λ (e : M.Effect). e .layout) stands;
-    creates = ap (λ (e : M.Effect). e .creates) stands;
-    barrier = ap (λ (e : M.Effect). e .barrier) stands;
-    wrote = w ∙ ap (λ (b : Bool). fill-in (wrote-at (r .wrote)) (movable (class-at (r .class)) || r .barrier || b || eqb (getD i 0 0) 58)) (quiet-is (getD i 0 0)) ∙ ap (λ (e : M.Effect). placed i e) stands;
-    from = from-self (r .from) (pieces (getD i 9 0) (drop 3 (map (org-of G past) us))) _ (ap (λ (e : M.Effect). e .from) stands);
-  }
+  second : org-at (x .o1) ≡ getD (map (org-of G past) us) 1 Unknown
+  unfolding us
+  second = q .o1 ∙ sym (org-at-read G past (reads ops i) 1 here)
+
+  -- what is left points to a layout, or not
+  pub led : (e : Effect) (a : ℕ) → a ≡ T.arm (packed (kind i)) → org-at (e .org) ≡ fact G ops past i .does .org → e .layout ≡ fact G ops past i .does .layout
+      → sized (λ k. leads a x e) (org-at (e .org)) ≡ sized (is-layout (past ++ (fact G ops past i ∷ []))) (org-at (e .org))
+  unfolding us effect
+  led e a ea eo ey =
+      let f = fact G ops past i in
+      let y′ = is-layout (past ++ (f ∷ [])) in
+      subst (λ (o : Org). sized (λ k. leads a x e) o ≡ sized y′ o) (sym eo)
+      (subst (λ (n : ℕ). sized (λ k. leads n x e) (effect .org) ≡ sized y′ (effect .org)) (sym (ea ∙ arm-is (getD i 0 0)))
+      (leads-right i (length past) (drop 3 (map (org-of G past) us)) (when-some positive (known-of G (getD us 1 unread .reg) .konst)) (λ k. getD (map (org-of G past) us) k Unknown) (λ k. getD (map (len-of G past) us) k false) (is-layout past) y′ x e
+      (subst (λ (o : Org). sized (λ k. x .layout) o ≡ sized (is-layout past) o) first (q .layout)) (subst (λ (o : Org). sized (λ k. x .layout1) o ≡ sized (is-layout past) o) second (q .layout1))
+      (row (kind i) .arm) ey (after-fact past f)))
+
+  module _ (r : Effect) (t : Right r (T.arm (packed (kind i))) x) where
+    stands : does r (pieces (getD i 9 0) (drop 3 (map (org-of G past) us))) ≡ effect
+    unfolding asked three three-tests us effect
+    stands =
+        t .right i (drop 3 (map (org-of G past) us)) (q .form) (q .list) (q .small)
+        ∙ ap (arm i (x .p) (x .divisor) (three (x .o0) (x .o1) (x .o2)) (three-tests (x .l0) (x .l1) (x .l2)) (λ k. x .layout) (drop 3 (map (org-of G past) us))) (arm-back (getD i 0 0))
+        ∙ arm-ext i (x .p) (drop 3 (map (org-of G past) us)) (x .divisor) (when-some positive (known-of G (getD us 1 unread .reg) .konst))
+        (three (x .o0) (x .o1) (x .o2)) (λ k. getD (map (org-of G past) us) k Unknown) (three-tests (x .l0) (x .l1) (x .l2)) (λ k. getD (map (len-of G past) us) k false) (λ k. x .layout) (is-layout past)
+        (q .divisor ∙ sym (ap (λ (r : ℕ). when-some positive (known-of G r .konst)) (divisor-at-read G past (reads ops i) 1)))
+        first second (q .o2 ∙ sym (org-at-read G past (reads ops i) 2 here))
+        (q .l0 ∙ sym (len-at-read G past (reads ops i) 0 here)) (q .l1 ∙ sym (len-at-read G past (reads ops i) 1 here)) (q .l2 ∙ sym (len-at-read G past (reads ops i) 2 here))
+        (q .layout) (row (kind i) .arm)
+        ∙ ap (λ (n : ℕ). arm i n (when-some positive (known-of G (getD us 1 unread .reg) .konst)) (λ k. getD (map (org-of G past) us) k Unknown) (λ k. getD (map (len-of G past) us) k false) (is-layout past) (drop 3 (map (org-of G past) us)) (row (kind i) .arm)) (q .p)
+
+    pub judged : {v : ℕ} → wrote-at v ≡ fill-in (wrote-at (r .wrote)) (movable (class-at (r .class)) || r .barrier || T.quiet (packed (kind i)) || eqb (getD i 0 0) 58)
+        → Judged (record { class = r .class; org = r .org; len = r .len; layout = r .layout; creates = r .creates; wrote = v; barrier = r .barrier; from = r .from }) (fact G ops past i)
+    unfolding does fill-in us effect
+    judged {v} w = record {
+      class = ap (λ (e : M.Effect). e .class) stands;
+      org = ap (λ (e : M.Effect). e .org) stands;
+      len = ap (λ (e : M.Effect). e .len) stands;
+      layout = ap (λ (e : M.Effect). e .layout) stands;
+      creates = ap (λ (e : M.Effect). e .creates) stands;
+      barrier = ap (λ (e : M.Effect). e .barrier) stands;
+      wrote = w ∙ ap (λ (b : Bool). fill-in (wrote-at (r .wrote)) (movable (class-at (r .class)) || r .barrier || b || eqb (getD i 0 0) 58)) (quiet-is (getD i 0 0)) ∙ ap (λ (e : M.Effect). placed i e) stands;
+      from = from-self (r .from) (pieces (getD i 9 0) (drop 3 (map (org-of G past) us))) _ (ap (λ (e : M.Effect). e .from) stands);
+    }

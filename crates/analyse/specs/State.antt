@@ -5,7 +5,7 @@ use mathlib.Core.Logic.{_⊎_}
 use mathlib.Core.Bool.{Bool, false, cond}
 use mathlib.Core.List.{List}
 use mathlib.Core.Option.{Option, none, some}
-use Prim.Native.Nat.{ℕ, zero, suc, _+_, _*_, _/_, _≤_, _<_}
+use Prim.Native.Nat.{ℕ, zero, suc, _+_, _*_, _/_, _%_, _≤_, _<_}
 use lib.Dec.{eqb}
 use lib.ListN.{getD, length, drop}
 use Rattle.model.specs.Kinds.{row, cat}
@@ -18,8 +18,9 @@ use Rattle.effects.specs.Origin.{org-at, class-at, wrote-at, from-at, num}
 use Rattle.effects.specs.declared.arms.Input.{Input}
 use Rattle.effects.specs.declared.arms.Effect.{Effect}
 use Rattle.analyse.specs.Flags.{Seen}
+use Rattle.analyse.specs.declared.look.Value.{Value}
 
--- ---- words
+-- ---- a position's words
 
 -- a position and 1, or 0 for none
 unfoldable pub opt-at : ℕ → Option ℕ
@@ -43,11 +44,45 @@ pub record Words (w : List ℕ) (p : ℕ) (f : Fact) : Type 0 where
   pub from : from-at (cell w p 5) (f .does .from) ≡ f .does .from
   pub written : cell w p 6 ≡ getD (f .defs) 0 absent
 
--- the words of the first R registers and of the positions so far stand for the facts G and for those of the past
-pub record State (G : Facts) (past : List Fact) (R : ℕ) (regs w : List ℕ) : Type 0 where
+-- ---- a register's word
+
+-- what it says of the value that the last writer left: where it points, whether it is a length, and whether it points to a layout
+unfoldable pub left-in : ℕ → Value
+left-in v = record { org = v / 16384 % 2048; len = eqb (v / 16384 / 2048 % 2) 1; layout = eqb (v / 16384 / 4096 % 2) 1 }
+
+-- the word without that: 16 times the last writer's position and 1, or 0, and the flags
+abbrev pub plain : ℕ → ℕ
+plain v = v % 16384
+
+-- x is what the fact f left, after the facts of the past
+pub record Left (past : List Fact) (x : Value) (f : Fact) : Type 0 where
+  pub org : org-at (x .org) ≡ f .does .org
+  pub len : x .len ≡ f .does .len
+  pub layout : sized (λ k. x .layout) (org-at (x .org)) ≡ sized (is-layout past) (org-at (x .org))
+
+-- the words of the first R registers stand for the facts G, and for what the facts of the past left in them
+pub record Marked (G : Facts) (past : List Fact) (R : ℕ) (regs : List ℕ) : Type 0 where
   pub seen : Seen G R regs
-  pub writer : (r : ℕ) → r < R → opt-at (getD regs r 0 / 16) ≡ last-writer 0 past r
+  pub writer : (r : ℕ) → r < R → opt-at (getD regs r 0 / 16 % 1024) ≡ last-writer 0 past r
+  pub left : (r : ℕ) → r < R → (d : ℕ) → getD regs r 0 / 16 % 1024 ≡ suc d → Left past (left-in (getD regs r 0)) (getD past d no-fact)
+
+-- so do they, and the words of the positions so far for the facts of the past
+pub record State (G : Facts) (past : List Fact) (R : ℕ) (regs w : List ℕ) : Type 0 where
+  pub marked : Marked G past R regs
   pub each : (p : ℕ) → p < length past → Words w p (getD past p no-fact)
+
+-- a word says no more than n positions can have left
+pub record Ranges (n v : ℕ) : Type 0 where
+  pub writer : v / 16 % 1024 ≤ n
+  pub org : v / 16384 % 2048 < 4 + 2 * n
+  pub none : v / 16 % 1024 ≡ 0 → v < 16
+
+-- so do those of the first R registers; the sizes that the code needs
+pub record Ranged (R n : ℕ) (regs : List ℕ) : Type 0 where
+  pub in-use : R ≤ length regs
+  pub lent : length regs ≤ 65536
+  pub few : n < 1000
+  pub each : (r : ℕ) → r < R → Ranges n (getD regs r 0)
 
 -- the numbers of position p are small, but for the code of a Cat
 pub record Near (w : List ℕ) (p : ℕ) : Type 0 where
@@ -55,13 +90,10 @@ pub record Near (w : List ℕ) (p : ℕ) : Type 0 where
   pub wrote : cell w p 4 ≤ 2004
   pub from : (cell w p 5 ≤ 2004) ⊎ (cell w p 5 ≡ 4294967295)
 
--- the sizes that the code needs, and no word points past the n positions so far
+-- so are all of the n positions so far
 pub record Safe (R n : ℕ) (regs w : List ℕ) : Type 0 where
-  pub in-use : R ≤ length regs
-  pub lent : length regs ≤ 65536
+  pub ranged : Ranged R n regs
   pub room : n * 10 ≤ length w
-  pub few : n < 1000
-  pub within : (r : ℕ) → r < R → getD regs r 0 / 16 ≤ n
   pub near : (p : ℕ) → p < n → Near w p
 
 -- ---- a register that is read
@@ -82,6 +114,12 @@ org-reg G past r = cond (eqb r absent) Unknown (org-of G past (record { reg = r;
 
 unfoldable pub len-reg : Facts → List Fact → ℕ → Bool
 len-reg G past r = cond (eqb r absent) false (len-of G past (record { reg = r; writer = last-writer 0 past r }))
+
+-- x is what is known of register r after the facts of the past
+pub record Valued (G : Facts) (past : List Fact) (r : ℕ) (x : Value) : Type 0 where
+  pub org : org-at (x .org) ≡ org-reg G past r
+  pub len : x .len ≡ len-reg G past r
+  pub layout : sized (λ k. x .layout) (org-at (x .org)) ≡ sized (is-layout past) (org-at (x .org))
 
 -- ---- an instruction
 
@@ -106,14 +144,15 @@ pub record Asked (G : Facts) (past : List Fact) (ops : List ℕ) (i : Inst) (x :
   pub l2 : x .l2 ≡ len-reg G past (getD (reads ops i) 2 absent)
   pub divisor : x .divisor ≡ when-some positive (known-of G (getD (reads ops i) 1 absent) .konst)
   pub layout : sized (λ k. x .layout) (org-at (x .o0)) ≡ sized (is-layout past) (org-at (x .o0))
+  pub layout1 : sized (λ k. x .layout1) (org-at (x .o1)) ≡ sized (is-layout past) (org-at (x .o1))
 
 -- what is not named writes memory nobody can place
 unfoldable pub fill-in : Option Org → Bool → Option Org
 fill-in o b = elim o [ some w ↦ some w | none ↦ cond b none (some Unknown) ]
 
--- the numbers of e are small; the memory read is the code only for a Cat
-pub record Low (i : Inst) (e : Effect) : Type 0 where
-  pub org : e .org < 2004
+-- the numbers of e are small, at position p; the memory read is the code only for a Cat
+pub record Low (p : ℕ) (i : Inst) (e : Effect) : Type 0 where
+  pub org : e .org < 6 + 2 * p
   pub wrote : e .wrote ≤ 2004
   pub from : (e .from ≤ 2004) ⊎ ((e .from ≡ 4294967295) × (row (kind i) .arm ≡ cat))
 

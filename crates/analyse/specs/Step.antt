@@ -1,6 +1,7 @@
--- Going along a chain: last writers marked, and the words of a position written. Assumes nothing.
+-- Going along a chain: last writers marked, the fact of a position and its words. Assumes nothing.
 use mathlib.Core.Path.{_≡_}
-use mathlib.Core.Bool.{Bool, not, _||_}
+use mathlib.Core.Bool.{Bool, false, not, _||_}
+use mathlib.Core.Logic.{_⊎_}
 use mathlib.Core.List.{List, [], _∷_, _++_, map}
 use Prim.Native.Nat.{ℕ, _+_, _*_, _-_, _%_, _≤_, _<_}
 use lib.Dec.{eqb}
@@ -8,25 +9,30 @@ use lib.ListN.{getD, length}
 use Rattle.words.specs.Lists.{range}
 use Rattle.model.specs.Kinds.{row, cat}
 use Rattle.model.specs.Picture.{Picture, inst, kind, absent, reads, writes}
-use Rattle.model.specs.Analyse.{Facts, Fact, analyse}
+use Rattle.model.specs.Analyse.{Facts, Fact, fact, analyse}
 use Rattle.model.specs.Move.{chain-places}
 use Rattle.inst.specs.Table.{rows}
 use Rattle.inst.specs.Record.{present}
 use Rattle.inst.specs.declared.access.Firsts.{Firsts}
-use Rattle.effects.specs.Origin.{num}
+use Rattle.effects.specs.Origin.{org-at, class-at, wrote-at, from-at, num}
+use Rattle.facts.specs.declared.Fact as F
 use Rattle.effects.specs.declared.arms.Effect.{Effect}
 use Rattle.chains.specs.declared.chain.Chain.{Chain}
 use Rattle.chains.specs.Chain.{blocks-of, Sound}
 use Rattle.chains.specs.Places.{Pairs, end-past}
 use Rattle.analyse.specs.Written.{Fits}
 use Rattle.analyse.specs.Flags.{Seen}
-use Rattle.analyse.specs.State.{cell, pack, State, Safe, Readable}
+use Rattle.analyse.specs.State.{cell, pack, Marked, Ranged, State, Safe, Readable}
 
 -- ---- last writers
 
--- a register's word after a write at position p: the flags stay
+-- what goes over the flags: position p, where its value points, whether that is a length, and whether it points to a layout
+unfoldable pub stamp : ℕ → ℕ → Bool → Bool → ℕ
+stamp p o l y = p + 1 + 1024 * (o + 2048 * num l + 4096 * num y)
+
+-- a register's word after a write: the flags stay
 unfoldable pub marked : ℕ → ℕ → ℕ
-marked p v = 16 * (p + 1) + v % 16
+marked d v = 16 * d + v % 16
 
 -- the first R registers have no writer, and the flags stay
 pub record Forgot (R : ℕ) (before after : List ℕ) : Type 0 where
@@ -34,20 +40,40 @@ pub record Forgot (R : ℕ) (before after : List ℕ) : Type 0 where
   pub low : (r : ℕ) → r < R → getD after r 0 ≡ getD before r 0 % 16
   pub high : (r : ℕ) → R ≤ r → getD after r 0 ≡ getD before r 0
 
--- ---- a position's words
+-- ---- a position's fact and words
 
 -- are there more registers than one written and two read?
 unfoldable pub more : Firsts → Bool
 more x = not (eqb (x .d1) absent) || not (eqb (x .r2) absent)
 
-unfoldable pub words-of : ℕ → Effect → Bool → Firsts → List ℕ
-words-of g e s x =
-    g ∷ e .class ∷ e .org ∷ pack (e .len) (e .layout) (e .creates) (e .barrier) s ∷ e .wrote ∷ e .from ∷ x .d0 ∷ x .r0 ∷ x .r1 ∷ num (more x) ∷ []
+-- record g, its effect, whether it may suspend, and what it writes and reads
+unfoldable pub fact-of : ℕ → Effect → Bool → Firsts → F.Fact
+fact-of g e s x = record {
+  «record» = g;
+  class = e .class;
+  org = e .org;
+  wrote = e .wrote;
+  from = e .from;
+  def = x .d0;
+  use0 = x .r0;
+  use1 = x .r1;
+  more = more x;
+  len = e .len;
+  layout = e .layout;
+  creates = e .creates;
+  barrier = e .barrier;
+  suspends = s;
+  member = false;
+}
+
+unfoldable pub words-of : F.Fact → List ℕ
+words-of f =
+    f .«record» ∷ f .class ∷ f .org ∷ pack (f .len) (f .layout) (f .creates) (f .barrier) (f .suspends) ∷ f .wrote ∷ f .from ∷ f .def ∷ f .use0 ∷ f .use1 ∷ num (f .more) ∷ []
 
 -- these were written at position p, and nothing else
-pub record Put (before after : List ℕ) (p g : ℕ) (e : Effect) (s : Bool) (x : Firsts) : Type 0 where
+pub record Put (before after : List ℕ) (p : ℕ) (f : F.Fact) : Type 0 where
   pub size : length after ≡ length before
-  pub inside : (j : ℕ) → j < 10 → cell after p j ≡ getD (words-of g e s x) j 0
+  pub inside : (j : ℕ) → j < 10 → cell after p j ≡ getD (words-of f) j 0
   pub others : (q j : ℕ) → (q ≡ p → ⊥) → j < 10 → cell after q j ≡ cell before q j
 
 -- ---- positions one after the other
@@ -57,6 +83,39 @@ pub record Good (recs ops : List ℕ) (R g : ℕ) : Type 0 where
   pub readable : Readable recs ops R g
   pub fits : Fits recs R g
   pub small : g < 32768
+
+-- the struct x stands for the fact f
+pub record Stands (x : F.Fact) (f : Fact) : Type 0 where
+  pub class : class-at (x .class) ≡ f .does .class
+  pub org : org-at (x .org) ≡ f .does .org
+  pub len : x .len ≡ f .does .len
+  pub layout : x .layout ≡ f .does .layout
+  pub creates : x .creates ≡ f .does .creates
+  pub barrier : x .barrier ≡ f .does .barrier
+  pub suspends : x .suspends ≡ f .suspends
+  pub wrote : wrote-at (x .wrote) ≡ f .does .wrote
+  pub from : from-at (x .from) (f .does .from) ≡ f .does .from
+  pub def : x .def ≡ getD (f .defs) 0 absent
+
+-- x is of record g and not in the set; its numbers are small, but for the code of a Cat; where there is no more, it has all that the
+-- record writes and reads
+pub record Sized (recs ops : List ℕ) (g : ℕ) (x : F.Fact) : Type 0 where
+  pub number : x .«record» ≡ g
+  pub member : x .member ≡ false
+  pub org : x .org < 2004
+  pub wrote : x .wrote ≤ 2004
+  pub from : (x .from ≤ 2004) ⊎ ((x .from ≡ 4294967295) × (row (kind (inst recs g)) .arm ≡ cat))
+  pub defs : x .more ≡ false → writes (inst recs g) ≡ present (x .def)
+  pub reads : x .more ≡ false → reads ops (inst recs g) ≡ present (x .use0) ++ present (x .use1)
+
+-- x is the fact of record g at position p, and the words of registers that stood for a past stand for it and x
+pub record Learned (recs ops regs regs′ : List ℕ) (p R g : ℕ) (x : F.Fact) : Type 0 where
+  pub size : length regs′ ≡ length regs
+  pub kept : (r : ℕ) → getD regs′ r 0 % 16 ≡ getD regs r 0 % 16
+  pub ranged : Ranged R (p + 1) regs′
+  pub sized : Sized recs ops g x
+  pub stands : (G : Facts) (past : List Fact) → length past ≡ p → Marked G past R regs → Stands x (fact G ops past (inst recs g))
+  pub marked : (G : Facts) (past : List Fact) → length past ≡ p → Marked G past R regs → Marked G (past ++ fact G ops past (inst recs g) ∷ []) R regs′
 
 -- position p holds such a record, and the code of a Cat only if that is one; where word 9 is 0, words 6 to 8 are all that it writes and reads
 pub record Holds (recs ops : List ℕ) (R : ℕ) (w : List ℕ) (p : ℕ) : Type 0 where

@@ -1,6 +1,5 @@
 // What the instruction at a position does (01, "The legal set": `analyse` and `writes_nothing` of 000).
-use crate::facts::is_small;
-use crate::look::in_layout;
+use crate::flags::is_small;
 use crate::look::is_divisor;
 use crate::look::value_of;
 use effects::arms::Effect;
@@ -10,24 +9,22 @@ use inst::constant::bits;
 use inst::constant::signed;
 use inst::record::form;
 use inst::record::kind;
-use inst::record::wide;
 use inst::record::word;
 use inst::table::arm;
 use inst::table::quiet;
-use inst::table::row;
 ghost use mathlib.Core.Path.{_≡_};
 ghost use mathlib.Core.Bool.{_||_};
 ghost use mathlib.Core.List.{List};
 ghost use Prim.Native.Nat.{ℕ, _≤_};
 ghost use lib.ListN.{length};
-ghost use Rattle.model.specs.Picture.{inst, reads, writes};
+ghost use Rattle.model.specs.Picture.{inst, kind, reads, writes};
 ghost use Rattle.model.specs.Analyse.{Facts, Fact, fact, movable, small, whole};
-ghost use Rattle.inst.specs.Table.{rows};
+ghost use Rattle.inst.specs.Table.{packed};
 ghost use Rattle.inst.specs.Record.{Within, Known};
 ghost use Rattle.inst.specs.Firsts.{Heads};
 ghost use Rattle.effects.specs.Origin.{class-at, wrote-at};
 ghost use Rattle.effects.specs.Arms.{Small};
-ghost use Rattle.analyse.specs.State.{State, Safe, Below, Readable, Asked, fill-in, Low, Judged};
+ghost use Rattle.analyse.specs.State.{Marked, Ranged, Below, Readable, Asked, fill-in, Low, Judged};
 
 // Is record g's constant a length?
 fn holds_length(recs: &[u32], g: usize) -> bool
@@ -38,14 +35,13 @@ fn holds_length(recs: &[u32], g: usize) -> bool
 }
 
 // What the arm of record g asks, at position p; x has what it reads.
-fn ask(recs: &[u32], regs: &[u64], w: &[u32], x: Firsts, g: usize, p: u32, count: usize) -> Input
-    requires { ⌜ Safe count p (now regs) (now w) × Within (now recs) g × Below count x ⌝ }
-    ensures { λ y. ⌜ Small y × ((ops : List ℕ) (G : Facts) (past : List Fact) → Heads (reads ops (inst (now (recs .entry)) g)) (writes (inst (now (recs .entry)) g)) x → length past ≡ p → State G past count (now (regs .entry)) (now (w .entry)) → Asked G past ops (inst (now (recs .entry)) g) y) ⌝ }
+pub fn ask(recs: &[u32], regs: &[u64], x: Firsts, g: usize, p: u32, count: usize) -> Input
+    requires { ⌜ Ranged count p (now regs) × Within (now recs) g × Below count x ⌝ }
+    ensures { λ y. ⌜ Small y × (y .p ≡ p) × ((ops : List ℕ) (G : Facts) (past : List Fact) → Heads (reads ops (inst (now (recs .entry)) g)) (writes (inst (now (recs .entry)) g)) x → length past ≡ p → Marked G past count (now (regs .entry)) → Asked G past ops (inst (now (recs .entry)) g) y) ⌝ }
 {
-    let n = wide(p);
-    let v0 = value_of(regs, w, x.r0, count, n);
-    let v1 = value_of(regs, w, x.r1, count, n);
-    let v2 = value_of(regs, w, x.r2, count, n);
+    let v0 = value_of(regs, x.r0, count);
+    let v1 = value_of(regs, x.r1, count);
+    let v2 = value_of(regs, x.r2, count);
     Input {
         form: form(recs, g),
         list: word(recs, g, 8),
@@ -58,7 +54,8 @@ fn ask(recs: &[u32], regs: &[u64], w: &[u32], x: Firsts, g: usize, p: u32, count
         l2: v2.len,
         divisor: is_divisor(regs, x.r1, count),
         small: holds_length(recs, g),
-        layout: in_layout(w, v0.org, n),
+        layout: v0.layout,
+        layout1: v1.layout,
     }
 }
 
@@ -75,24 +72,13 @@ fn placed(e: Effect, quiet: bool, native: bool) -> u32
     1
 }
 
-// What record g does, at position p; x has what it reads.
-pub fn judge(
-    t: &[u32; 202],
-    recs: &[u32],
-    regs: &[u64],
-    w: &[u32],
-    x: Firsts,
-    g: usize,
-    p: u32,
-    count: usize,
-) -> Effect
-    requires { ⌜ (now t ≡ rows) × Safe count p (now regs) (now w) × Known (now recs) g × Below count x ⌝ }
-    ensures { λ e. ⌜ Low (inst (now (recs .entry)) g) e × ((ops : List ℕ) (G : Facts) (past : List Fact) → Readable (now (recs .entry)) ops count g → Heads (reads ops (inst (now (recs .entry)) g)) (writes (inst (now (recs .entry)) g)) x → length past ≡ p → State G past count (now (regs .entry)) (now (w .entry)) → Judged e (fact G ops past (inst (now (recs .entry)) g))) ⌝ }
+// What record g does, by the row of its kind and what it asks.
+pub fn judge(recs: &[u32], g: usize, m: u32, y: Input) -> Effect
+    requires { ⌜ Known (now recs) g × (m ≡ packed (kind (inst (now recs) g))) × Small y ⌝ }
+    ensures { λ e. ⌜ Low (y .p) (inst (now (recs .entry)) g) e × ((ops : List ℕ) (G : Facts) (past : List Fact) (R : ℕ) → R ≤ 65536 → Readable (now (recs .entry)) ops R g → Asked G past ops (inst (now (recs .entry)) g) y → Judged e (fact G ops past (inst (now (recs .entry)) g))) ⌝ }
 {
-    let k = kind(recs, g);
-    let m = row(t, k);
-    let e = effects::arms::arm(arm(m), ask(recs, regs, w, x, g, p, count));
-    let wrote = placed(e, quiet(m), k == 58);
+    let e = effects::arms::arm(arm(m), y);
+    let wrote = placed(e, quiet(m), kind(recs, g) == 58);
     Effect {
         class: e.class,
         org: e.org,

@@ -1,9 +1,10 @@
 -- An effect as a struct of numbers, and when it is what `model`'s `arm` says. Assumes nothing.
-use mathlib.Core.Bool.{Bool, false}
+use mathlib.Core.Bool.{Bool, false, cond, _||_}
 use mathlib.Core.Logic.{_⊎_}
 use mathlib.Core.Path.{_≡_}
 use mathlib.Core.List.{List, [], _∷_}
-use Prim.Native.Nat.{ℕ, _≤_, _<_}
+use Prim.Native.Nat.{ℕ, _+_, _*_, _≤_, _<_}
+use lib.Dec.{eqb}
 use lib.ListN.{getD}
 use Rattle.model.specs.Kinds.{cat}
 use Rattle.model.specs.Picture.{Inst, form}
@@ -32,15 +33,21 @@ three-tests a b c k = getD (a ∷ b ∷ c ∷ []) k false
 unfoldable pub asked : Inst → ℕ → Input → List Org → M.Effect
 asked i a x list = arm i (x .p) (x .divisor) (three (x .o0) (x .o1) (x .o2)) (three-tests (x .l0) (x .l1) (x .l2)) (λ k. x .layout) list (arm-at a)
 
--- r is what `analyse` says of an instruction of arm number a; its numbers are small, but for the code of a Cat
+-- r is what `analyse` says of an instruction of arm number a; its numbers are small, but for the code of a Cat, and its
+-- origin is of a position up to this one
 pub record Right (r : Effect) (a : ℕ) (x : Input) : Type 0 where
-  pub near : r .org < 2004
+  pub near : r .org < 6 + 2 * x .p
   pub wrote : r .wrote ≤ 2004
   pub from : (r .from ≤ 2004) ⊎ ((r .from ≡ 4294967295) × (arm-at a ≡ cat))
   pub right : (i : Inst) (list : List Org) → form i ≡ x .form → getD i 8 0 ≡ x .list → small (whole i) ≡ x .small → does r (pieces (getD i 9 0) list) ≡ asked i a x list
 
--- positions and origins are small
+-- the position is small, and origins are of earlier ones
 pub record Small (x : Input) : Type 0 where
   pub place : x .p < 1000
-  pub first : x .o0 < 2004
-  pub second : x .o1 < 2004
+  pub first : x .o0 < 4 + 2 * x .p
+  pub second : x .o1 < 4 + 2 * x .p
+
+-- does the value of an instruction of arm number a point to a layout: what Move and Index read first, what Select reads second, or else
+-- its own block
+unfoldable pub leads : ℕ → Input → Effect → Bool
+leads a x e = cond (eqb a 3 || eqb a 7) (x .layout) (cond (eqb a 4) (x .layout1) (e .layout))

@@ -7,7 +7,7 @@ use crate::origin::is_sized;
 ghost use mathlib.Core.Path.{_≡_};
 ghost use mathlib.Core.Bool.{true, false};
 ghost use Prim.Native.Nat.{_≤_};
-ghost use Rattle.effects.specs.Arms.{effect-of, Right, Small};
+ghost use Rattle.effects.specs.Arms.{effect-of, Right, Small, leads};
 
 // Class 0 No, 1 Movable, 2 Free; the memory written and the memory read as 0 for none or an origin and 1; the pieces of a Cat
 // are 4294967295, to be looked up again.
@@ -24,7 +24,7 @@ pub struct Effect {
 
 // What an arm asks: form, length of the list, position; of the first three registers read, where they point and whether they
 // are lengths; whether the second is a constant above 0; whether its own constant is a length; whether the first points to
-// a layout.
+// a layout, and the second.
 pub struct Input {
     pub form: u32,
     pub list: u32,
@@ -38,6 +38,7 @@ pub struct Input {
     pub divisor: bool,
     pub small: bool,
     pub layout: bool,
+    pub layout1: bool,
 }
 
 // It leaves a value.
@@ -221,6 +222,20 @@ fn bin(x: Input) -> Effect
         return value(1, 0, true);
     }
     value(0, 0, false)
+}
+
+// Does the value of an instruction of arm number a, with this effect, point to a layout? It points where the first or the second
+// register read does, or to a block of its own, or to none.
+pub fn leads(a: u32, x: Input, e: Effect) -> bool
+    ensures { λ b. ⌜ b ≡ leads a x e ⌝ }
+{
+    if (a == 3) | (a == 7) {
+        return x.layout;
+    }
+    if a == 4 {
+        return x.layout1;
+    }
+    e.layout
 }
 
 // What an instruction of arm number a does: const, constF, addrOf, move, select, truth, bin, index, ..

@@ -2,7 +2,7 @@
 // so that equal origins are equal numbers.
 ghost use mathlib.Core.Path.{_≡_};
 ghost use mathlib.Core.Bool.{cond, _||_};
-ghost use Prim.Native.Nat.{_<_};
+ghost use Prim.Native.Nat.{_≤_, _<_};
 ghost use lib.Dec.{eqb};
 ghost use Rattle.model.specs.Analyse.{Unknown, Ro, Frame, alias, same-org, inside, sized};
 ghost use Rattle.model.specs.Legal.{readable, steady};
@@ -31,8 +31,7 @@ pub fn is_steady(o: u32) -> bool
 
 // Where a word read from o points: into o, if that is an image.
 pub fn inside(o: u32) -> u32
-    requires { ⌜ o < 2004 ⌝ }
-    ensures { λ r. ⌜ (org-at r ≡ inside (org-at o)) × (r < 2004) ⌝ }
+    ensures { λ r. ⌜ (org-at r ≡ inside (org-at o)) × (r ≤ o) ⌝ }
 {
     if (4 <= o) & (o % 2 == 1) {
         return o;
@@ -49,8 +48,7 @@ pub fn is_sized(o: u32, layout: bool) -> bool
 
 // The origin that two share, or Unknown.
 pub fn agree(a: u32, b: u32) -> u32
-    requires { ⌜ a < 2004 ⌝ }
-    ensures { λ r. ⌜ (org-at r ≡ cond (same-org (org-at a) (org-at b)) (org-at a) Unknown) × (r < 2004) ⌝ }
+    ensures { λ r. ⌜ (org-at r ≡ cond (same-org (org-at a) (org-at b)) (org-at a) Unknown) × (r ≤ a) ⌝ }
 {
     if a == b {
         return a;
@@ -60,7 +58,7 @@ pub fn agree(a: u32, b: u32) -> u32
 
 // Where an address of this form points.
 pub fn address(form: u32) -> u32
-    ensures { λ r. ⌜ (org-at r ≡ cond (eqb form 2 || eqb form 4) Ro (cond (eqb form 0) Frame Unknown)) × (r < 2004) ⌝ }
+    ensures { λ r. ⌜ (org-at r ≡ cond (eqb form 2 || eqb form 4) Ro (cond (eqb form 0) Frame Unknown)) × (r < 4) ⌝ }
 {
     if (form == 2) | (form == 4) {
         return 1;

@@ -13,6 +13,7 @@ use lib.ListN.{getD, length, take, drop, length-map, List·getD-eq-default}
 use lib.Seq.{getD-take, take-all, length-take-le}
 use Rattle.words.specs.Lists.{In, upto}
 use Rattle.words.proofs.Bools.{eq?, lt?}
+use Rattle.words.proofs.Lists.{getD-map}
 use Rattle.words.proofs.Members.{in-left, in-right, in-concat, map-in, in-range, in-getD, in-index}
 use Rattle.model.specs.Kinds.{row, cat, reading}
 use Rattle.model.specs.Picture.{Picture, Inst, inst, absent, kind, roles, slots, chosen, reads, writes, list-of}
@@ -27,7 +28,7 @@ use Rattle.chains.specs.declared.chain.Chain.{Chain}
 use Rattle.chains.specs.Chain.{blocks-of}
 use Rattle.analyse.specs.Flags.{Seen, flags-of}
 use Rattle.analyse.specs.State as A
-use Rattle.analyse.specs.State.{opt-at, pack, Words, State}
+use Rattle.analyse.specs.State.{opt-at, pack, plain, Words, State}
 use Rattle.analyse.specs.Step as S
 use Rattle.analyse.specs.Step.{Analysed}
 use Rattle.analyse.proofs.Run.{length-run}
@@ -121,7 +122,7 @@ module _ {recs ops regs w bounds : List ℕ} {c : Chain} {R n : ℕ} {regs′ w�
         ∙ ap₂ (λ (x y : ℕ). present x ++ present y) (sym (cell-is w′ p 7)) (sym (cell-is w′ p 8));
   }
 
-  module _ (P : Picture) (eb : P .bounds ≡ bounds) (G : Facts) (seen : Seen G R regs) (copy : List ℕ) (ec : copy ≡ take R regs′) where
+  module _ (P : Picture) (eb : P .bounds ≡ bounds) (G : Facts) (seen : Seen G R regs) (copy : List ℕ) (ec : copy ≡ map plain (take R regs′)) where
     abbrev places : List ℕ
     places = chain-places P (blocks-of c)
 
@@ -134,14 +135,17 @@ module _ {recs ops regs w bounds : List ℕ} {c : Chain} {R n : ℕ} {regs′ w�
     long : length run ≡ n
     long = length-run G ops [] (map (inst recs) places) ∙ zero-add (length (map (inst recs) places)) ∙ length-map places (inst recs) ∙ sym (a .positions P eb)
 
-    size : length copy ≡ R
-    size = ap length ec ∙ length-take-le R regs′ (a .safe .in-use)
+    long-enough : length (take R regs′) ≡ R
+    long-enough = length-take-le R regs′ (a .safe .ranged .in-use)
 
-    copied : (r : ℕ) → r < R → getD copy r 0 ≡ getD regs′ r 0
-    copied r h = ap (λ (l : List ℕ). getD l r 0) ec ∙ getD-take R regs′ r 0 h
+    size : length copy ≡ R
+    size = ap length ec ∙ length-map (take R regs′) plain ∙ long-enough
+
+    copied : (r : ℕ) → r < R → getD copy r 0 ≡ plain (getD regs′ r 0)
+    copied r h = ap (λ (l : List ℕ). getD l r 0) ec ∙ getD-map plain 0 0 (take R regs′) r (omega (arith, long-enough)) ∙ ap plain (getD-take R regs′ r 0 h)
 
     flags : (r : ℕ) → r < R → getD copy r 0 % 16 ≡ flags-of (known-of G r)
-    flags r h = ap (λ (x : ℕ). x % 16) (copied r h) ∙ state .seen .flags r h
+    flags r h = let e = copied r h in let f = state .marked .seen .flags r h in omega (arith, e, f)
 
     -- a register past the last has no facts
     nothing : (r : ℕ) → R ≤ r → (getD copy r 0 ≡ 0) × (known-of G r ≡ unknown)
@@ -169,7 +173,7 @@ module _ {recs ops regs w bounds : List ℕ} {c : Chain} {R n : ℕ} {regs′ w�
     ended = record {
       each = λ r h.
           let l : r < R = subst (λ (x : ℕ). r < x) size h in
-          ap (λ (x : ℕ). x / 16) (copied r l)
-          ∙ same-place (getD regs′ r 0 / 16) (writer (defs-of recs w′) r n)
-          (state .writer r l ∙ ap (λ (fs : List Fact). last-writer 0 fs r) (sym (take-all n run (omega (arith, long)))) ∙ writer-is (view recs ops w′ copy) n run (told .stands) r n (omega arith));
+          let e : getD copy r 0 / 16 ≡ getD regs′ r 0 / 16 % 1024 = omega (arith, copied r l) in
+          e ∙ same-place (getD regs′ r 0 / 16 % 1024) (writer (defs-of recs w′) r n)
+          (state .marked .writer r l ∙ ap (λ (fs : List Fact). last-writer 0 fs r) (sym (take-all n run (omega (arith, long)))) ∙ writer-is (view recs ops w′ copy) n run (told .stands) r n (omega arith));
     }

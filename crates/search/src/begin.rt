@@ -1,7 +1,7 @@
 // Before the first round (01, "A round"): facts on registers, of all that are lent, and the predecessors of each block. Both stand
 // for the whole call: a new register has no facts, and a round changes no block's successors. The rows of what each block reads
 // first and writes stand until a round changes its code.
-use analyse::facts::find_facts;
+use analyse::flags::find_facts;
 use flow::graph::find_preds;
 use flow::rows::all_rows;
 use inst::record::wide;

@@ -1,12 +1,14 @@
 -- Words copied one by one, and places noted. Assumes nothing.
 use mathlib.Core.Path.{_≡_, refl, sym, ap, _∙_, subst}
 use mathlib.Core.Logic.{_⊎_, ⊎-elim}
-use mathlib.Core.List.{List, [], _∷_, _++_}
+use mathlib.Core.List.{List, [], _∷_, _++_, map}
 use Prim.Native.Nat.{ℕ, _+_, _<_}
 use native.Mathlib.Omega.{arith}
-use lib.ListN.{getD, length, drop, set, length-set}
+use lib.ListN.{getD, length, take, drop, set, length-set}
 use lib.Seq.{take-set-le, drop-set-lt, drop-drop, getD-set-same, getD-set-other}
+use Rattle.words.proofs.Lists.{map-append}
 use Rattle.words.proofs.Parts.{part-push, part-snoc, below-split}
+use Rattle.analyse.specs.State.{plain}
 use Rattle.trial.specs.Puts.{Copied}
 
 -- ---- registers' words
@@ -14,12 +16,13 @@ use Rattle.trial.specs.Puts.{Copied}
 pub copied-none : (from : List ℕ) (a : ℕ) (xs : List ℕ) → Copied from a 0 xs xs
 copied-none from a xs = record { size = refl; part = refl; below = refl; behind = refl }
 
-pub copied-more : {from : List ℕ} {a r : ℕ} {xs ys : List ℕ} → Copied from a r xs ys → a + r < length from → 8000 + r < length xs → Copied from a (r + 1) xs (set ys (8000 + r) (getD from (a + r) 0))
+pub copied-more : {from : List ℕ} {a r : ℕ} {xs ys : List ℕ} → Copied from a r xs ys → a + r < length from → 8000 + r < length xs → Copied from a (r + 1) xs (set ys (8000 + r) (plain (getD from (a + r) 0)))
 copied-more {from} {a} {r} {xs} {ys} h l k =
-    let v = getD from (a + r) 0 in
+    let u = getD from (a + r) 0 in
+    let v = plain u in
     record {
       size = length-set ys (8000 + r) v ∙ h .size;
-      part = part-push 8000 r ys v (omega (arith, h .size)) ∙ ap (λ (l : List ℕ). l ++ (v ∷ [])) (h .part) ∙ sym (part-snoc a r from 0 l);
+      part = part-push 8000 r ys v (omega (arith, h .size)) ∙ ap (λ (l : List ℕ). l ++ (v ∷ [])) (h .part) ∙ sym (map-append plain (take r (drop a from)) (u ∷ [])) ∙ ap (map plain) (sym (part-snoc a r from 0 l));
       below = take-set-le 8000 ys (8000 + r) v (omega arith) ∙ h .below;
       behind = drop-set-lt (8000 + (r + 1)) ys (8000 + r) v (omega arith) ∙ more ys xs (h .behind);
     }

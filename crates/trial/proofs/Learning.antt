@@ -1,13 +1,12 @@
 -- `learn`: what `analyse` asks of the parts that are lent, and what it leaves there. Assumes nothing.
 use mathlib.Core.Path.{_≡_, refl, sym, ap, ap₂, _∙_, subst}
-use mathlib.Core.List.{List, [], _∷_, _++_}
+use mathlib.Core.List.{List, [], _∷_, _++_, map}
 use Prim.Native.Nat.{ℕ, _+_, _*_, _-_, _%_, _≤_}
 use native.Mathlib.Omega.{arith}
 use borrow.Rule.Slice.PartMut.{putMid, same-len-mid, mid-len, take-put}
 use lib.ListN.{getD, length, take, drop, length-append, length-drop}
 use lib.Seq.{length-take-le, take-at, drop-at, take-take}
 use Rattle.words.specs.Lists.{range}
-use Rattle.words.proofs.Parts.{put-inner}
 use Rattle.model.specs.Picture.{Picture, places, size}
 use Rattle.model.specs.Analyse.{Facts, Fact, analyse}
 use Rattle.model.specs.Move.{chain-places, run-of}
@@ -18,6 +17,7 @@ use Rattle.chains.specs.declared.chain.Chain.{Chain}
 use Rattle.chains.specs.Chain.{blocks-of}
 use Rattle.analyse.specs.Flags.{Seen}
 use Rattle.analyse.specs.State as A
+use Rattle.analyse.specs.State.{plain}
 use Rattle.analyse.specs.Step.{Ready, Analysed}
 use Rattle.analyse.proofs.Accepted.{good-given, pairs-given, ends-given}
 use Rattle.legalset.specs.Chain.{cell, Told, Safe, Brief}
@@ -101,11 +101,6 @@ module _ {bounds recs ops work64 work32 : List ℕ} {s : Sizes} {c : Chain} (g :
       copying = record {
         there = omega (arith, size64, inside, few);
         room = let z = fits .words32 in let y = fits .lent in omega (arith, size32);
-        small = λ i h.
-            let z = put-inner a (e - a) work64 regs′ i 0 (omega (arith, inside)) (omega (arith, regs-long, few)) in
-            let y = an .safe .within i h in
-            let x = an .short in
-            omega arith;
       }
 
       module _ {copied : List ℕ} (cp : Copied after64 a r after32 copied) where
@@ -142,8 +137,8 @@ module _ {bounds recs ops work64 work32 : List ℕ} {s : Sizes} {c : Chain} (g :
           words-are : chain-words copied ≡ w′
           words-are = cp .below ∙ take-at w′ (drop 8000 work32) 8000 w-long
 
-          copy-is : copied-words P copied ≡ take (P .regs) regs′
-          copy-is = subst (λ (x : ℕ). take x (drop 8000 copied) ≡ take x regs′) (er ∙ l .regs-are) (cp .part ∙ sym (take-take r (e - a) (drop a after64) few) ∙ ap (take r) part-is)
+          copy-is : copied-words P copied ≡ map plain (take (P .regs) regs′)
+          copy-is = subst (λ (x : ℕ). take x (drop 8000 copied) ≡ map plain (take x regs′)) (er ∙ l .regs-are) (cp .part ∙ ap (map plain) (sym (take-take r (e - a) (drop a after64) few) ∙ ap (take r) part-is))
 
           abbrev run : List Fact
           run = run-of P G (chain-in c)

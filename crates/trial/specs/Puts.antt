@@ -2,24 +2,24 @@
 -- nothing.
 use mathlib.Core.Path.{_≡_}
 use mathlib.Core.Bool.{cond}
-use mathlib.Core.List.{List}
+use mathlib.Core.List.{List, map}
 use Prim.Native.Nat.{ℕ, _+_, _*_, _≤_, _<_}
 use lib.ListN.{getD, length, take, drop, set}
 use Rattle.words.specs.Lists.{all}
+use Rattle.analyse.specs.State.{plain}
 use Rattle.legalset.specs.Chain.{defs-of, Safe, Brief}
 use Rattle.plan.specs.Passes.{result-test}
 use Rattle.trial.specs.Work.{chain-words}
 
--- r words from a on can be copied to word 8,000 on: they are small
+-- r words from a on can be copied to word 8,000 on
 pub record Copying (from : List ℕ) (a r : ℕ) (into : List ℕ) : Type 0 where
   pub there : a + r ≤ length from
   pub room : 8000 + r ≤ length into
-  pub small : (i : ℕ) → i < r → getD from (a + i) 0 < 4294967296
 
--- they were, and nothing else was written
+-- their last writers and flags were, and nothing else was written
 pub record Copied (from : List ℕ) (a r : ℕ) (before after : List ℕ) : Type 0 where
   pub size : length after ≡ length before
-  pub part : take r (drop 8000 after) ≡ take r (drop a from)
+  pub part : take r (drop 8000 after) ≡ map plain (take r (drop a from))
   pub below : take 8000 after ≡ take 8000 before
   pub behind : drop (8000 + r) after ≡ drop (8000 + r) before
 

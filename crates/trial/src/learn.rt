@@ -1,5 +1,5 @@
 // The facts along the chain (01, "The legal set"), in the lent words: ten a position, and a copy of the words of the registers in
-// use, which the set is found by while the 64-bit slice takes its stamps.
+// use, last writers and flags, which the set is found by while the 64-bit slice takes its stamps.
 use crate::sizes::Sizes;
 use crate::sizes::at_regs;
 use analyse::along::analyse;
@@ -12,14 +12,14 @@ ghost use Rattle.inst.specs.Table.{rows};
 ghost use Rattle.trial.specs.Puts.{Copying, Copied};
 ghost use Rattle.trial.specs.Along.{Learning, Learnt};
 
-// The first r words from word a on, from word 8,000 on.
+// The last writers and flags of the first r words from word a on, from word 8,000 on.
 fn copy_regs(work64: &[u64], work32: &mut [u32], a: usize, r: usize)
     requires { ⌜ Copying (now work64) a r (now work32) ⌝ }
     ensures { λ _. ⌜ Copied (now (work64 .entry)) a r (now (work32 .entry)) (now (work32 .exit)) ⌝ }
 {
     let mut i = 0usize;
     while i < r {
-        work32[8000 + i] = work64[a + i] as u32;
+        work32[8000 + i] = (work64[a + i] % 16384) as u32;
         i += 1;
     }
 }

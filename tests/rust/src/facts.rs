@@ -207,7 +207,8 @@ impl Stats {
         }
         for (r, told) in s.registers.iter().enumerate() {
             let word = told.flags + 16 * told.writer.map_or(0, |p| p as u32 + 1);
-            if left.register(r) != (u64::from(word), word) {
+            let (held, copy) = left.register(r);
+            if (held % 16384, copy) != (u64::from(word), word) || !is_left(held / 16384, told.writer, s) {
                 self.faults.push(format!("{name}, block {}: register {r} is {:?} in place of {word}", left.x, left.register(r)));
             }
             for bit in 0..4 {
@@ -268,6 +269,15 @@ impl Stats {
             println!("fault: {f}");
         }
     }
+}
+
+/// Is this what a register's last writer left there: where its value points, whether that is a length, and whether it points to a layout?
+fn is_left(held: u64, writer: Option<usize>, s: &Search) -> bool {
+    let Some(p) = writer else { return held == 0 };
+    let Some((origin, length, _)) = s.told[p].value else { return true };
+    let bit = |k: u32| held >> k & 1 == 1;
+    let maker = if origin >= 4 && origin % 2 == 0 { s.told[(origin as usize - 4) / 2].value } else { None };
+    held % 2048 == u64::from(origin) && bit(11) == length && maker.is_none_or(|(_, _, layout)| bit(12) == layout)
 }
 
 /// What a search from block `x` left.

@@ -1,10 +1,8 @@
 -- `analyse::along::put` meets its contract. Assumes nothing.
-use mathlib.Core.Path.{ap, _∙_}
 use native.Mathlib.Omega.{arith}
 use lib.ListN.{length-set}
 use Prim.Native.Nat.{_*_}
 use denote.Ref.{now}
-use Rattle.effects.specs.Origin.{num}
 use Rattle.analyse.proofs.Puts.{put-all, ten}
 use borrow.Author.Needs.{needs}
 use Rattle.analyse.proofs.along.put.Statement.{statement}
@@ -12,9 +10,6 @@ use Rattle.analyse.proofs.along.put.Tie as tie
 
 flags-requires : tie.Need-flags-requires
 flags-requires c κs = search needs
-
-more-requires : tie.Need-more-requires
-more-requires c κs = search needs
 
 one-requires : tie.Need-one-requires
 one-requires c κs = search needs
@@ -113,14 +108,13 @@ same-length : tie.Need-same-length
 same-length c = simp length-set
 
 returns : tie.Need-returns
-returns c = let a = (c .before .before .before .before .args) in put-all _ _ _ _ _ _ _ _ (c .before .before .before .before .pre) (c .before .before .flags .ensures) (c .one .ensures .0 ∙ ap num (c .before .more .ensures)) (ten (now (a .w)) (a .p * 10) (a .g) (a .e .class) (a .e .org) (c .before .before .flags .result) (a .e .wrote) (a .e .from) (a .x .d0) (a .x .r0) (a .x .r1) (c .one .result))
+returns c = let a = c .before .before .before .args in put-all _ _ _ _ (a .f) (c .before .before .before .pre) (c .before .flags .ensures) (c .one .ensures .0) (ten (now (a .w)) (a .p * 10) (a .f .«record») (a .f .class) (a .f .org) (c .before .flags .result) (a .f .wrote) (a .f .from) (a .f .def) (a .f .use0) (a .f .use1) (c .one .result))
 
 pub put-spec : {M : Type 1} → statement M
 put-spec =
     tie.close
     (tie.spec
     flags-requires
-    more-requires
     one-requires
     mul-b
     mul-w

@@ -11,9 +11,6 @@ use Rattle.analyse.proofs.marks.mark.Tie as tie
 at-requires : tie.Need-at-requires
 at-requires c κs = search needs
 
-add-regs : tie.Need-add-regs
-add-regs c = search needs
-
 mul-regs : tie.Need-mul-regs
 mul-regs c = search needs
 
@@ -23,8 +20,8 @@ mul-regs-2 c = search needs
 slice-read-regs : tie.Need-slice-read-regs
 slice-read-regs c = ⊎-elim (λ e. absurd (c .before .before .if1 .taken e)) (λ h. omega (arith, c .before .at .ensures)) (c .before .before .before .before .pre .1)
 
-add-regs-2 : tie.Need-add-regs-2
-add-regs-2 c = search needs
+add-regs : tie.Need-add-regs
+add-regs c = search needs
 
 mul-regs-3 : tie.Need-mul-regs-3
 mul-regs-3 c = search needs
@@ -48,11 +45,10 @@ mark-spec =
     tie.close
     (tie.spec
     at-requires
-    add-regs
     mul-regs
     mul-regs-2
     slice-read-regs
-    add-regs-2
+    add-regs
     mul-regs-3
     slice-write-regs
     same-length

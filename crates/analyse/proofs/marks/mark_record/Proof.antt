@@ -8,17 +8,15 @@ use borrow.Author.Needs.{needs}
 use Rattle.analyse.proofs.marks.mark_record.Statement.{statement}
 use Rattle.analyse.proofs.marks.mark_record.Tie as tie
 
-long-requires : tie.Need-long-requires
-long-requires c κs = search needs
-
 mark-requires : tie.Need-mark-requires
-mark-requires c κs = (omega (arith, c .before .before .before .long .ensures, c .before .before .before .before .before .before .pre .1), rw (c .before .before .before .before .before .before .pre .3) (first-low _ _ (c .before .before .before .before .before .before .pre .2)))
+mark-requires c κs = (c .before .before .before .before .before .pre .1, rw (c .before .before .before .before .before .pre .3) (first-low _ _ (c .before .before .before .before .before .pre .2)))
 
 same-length : tie.Need-same-length
 same-length c = search needs
 
 returns : tie.Need-returns
-returns c = let a = c .before .before .before .before .before .before .before .before .before .args in writing-one _ (marked-twice _) _ _ (all-written (inst (a .recs .now) (a .g)) (c .before .before .before .before .before .before .before .before .before .pre .3) (c .before .before .before .before .before .before .before .before .before .pre .4) (c .before .before .before .before .if1 .taken)) (rw (c .before .before .before .before .before .before .before .before .before .pre .3) (first-low _ _ (c .before .before .before .before .before .before .before .before .before .pre .2))) (c .before .before .before .before .before .before .before .before .before .pre .2 .room) (rw (c .before .before .before .before .before .before .long .ensures) at (c .before .before .mark .ensures))
+returns c = let a = c .before .before .before .before .before .before .before .before .args in
+    writing-one _ (marked-twice _) _ _ (all-written (inst (a .recs .now) (a .g)) (c .before .before .before .before .before .before .before .before .pre .3) (c .before .before .before .before .before .before .before .before .pre .4) (c .before .before .before .before .if1 .taken)) (rw (c .before .before .before .before .before .before .before .before .pre .3) (first-low _ _ (c .before .before .before .before .before .before .before .before .pre .2))) (c .before .before .before .before .before .before .before .before .pre .2 .room) (c .before .before .mark .ensures)
 
 mark-slots-requires : tie.Need-mark-slots-requires
 mark-slots-requires c κs = search needs
@@ -27,16 +25,9 @@ same-length-2 : tie.Need-same-length-2
 same-length-2 c = search needs
 
 returns-2 : tie.Need-returns-2
-returns-2 c = rw (c .before .before .before .before .before .before .long .ensures) at (c .before .before .mark-slots .ensures)
+returns-2 c = search needs
 
 pub mark-record-spec : {M : Type 1} → statement M
 mark-record-spec =
     tie.close
-    (tie.spec
-    long-requires
-    mark-requires
-    same-length
-    returns
-    mark-slots-requires
-    same-length-2
-    returns-2)
+    (tie.spec mark-requires same-length returns mark-slots-requires same-length-2 returns-2)

@@ -27,7 +27,7 @@ shared-slice-read-work32 : tie.Need-shared-slice-read-work32 Inv-loop μ-loop
 shared-slice-read-work32 c = let p = c .before .before .before .pre in omega (arith, p .there)
 
 cast-work32 : tie.Need-cast-work32 Inv-loop μ-loop
-cast-work32 c = omega (arith, c .before .before .before .pre .small (c .before .before .loop .i) (c .before .loop-test .taken))
+cast-work32 c = search needs
 
 add-work32-2 : tie.Need-add-work32-2 Inv-loop μ-loop
 add-work32-2 c = search needs
