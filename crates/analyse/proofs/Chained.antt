@@ -1,25 +1,23 @@
--- The facts along a whole chain, block after block. Assumes nothing.
-use mathlib.Core.List.{List, [], _++_, map, append-nil, append-assoc}
+-- The facts along a whole chain, position by position. Assumes nothing.
+use mathlib.Core.List.{List, [], _∷_, _++_, map, append-nil, append-assoc}
+use mathlib.Core.Logic.{⊎-elim}
 use mathlib.Core.Path.{_≡_, refl, sym, ap, _∙_, subst}
-use Prim.Native.Nat.{ℕ, _+_, _-_, _/_, _%_, _≤_, _<_}
+use Prim.Native.Nat.{ℕ, _+_, _*_, _/_, _%_, _≤_, _<_}
 use native.Mathlib.Nat.{zero-add, not-suc-le-zero}
 use native.Mathlib.Omega.{arith}
-use lib.ListN.{getD, length, drop, length-append, drop-of-length-le}
+use lib.ListN.{getD, length, length-append}
 use Rattle.words.proofs.Bools.{lt?}
-use Rattle.words.proofs.Lists.{length-range}
-use mathlib.Core.Logic.{⊎-elim}
 use Rattle.model.specs.Picture.{Picture, inst}
 use Rattle.model.specs.Analyse.{Facts, analyse}
 use Rattle.model.specs.Move.{chain-places}
 use Rattle.chains.specs.declared.chain.Chain.{Chain}
-use Rattle.chains.specs.declared.places.Part as X
+use Rattle.chains.specs.declared.cursor.Cursor.{Cursor}
 use Rattle.chains.specs.Chain.{blocks-of}
-use Rattle.chains.specs.Places.{IsPart}
-use Rattle.chains.proofs.Struct.{blocks-long}
-use Rattle.chains.proofs.Laid.{part-step}
+use Rattle.chains.specs.Cursor.{left-of, Standing}
+use Rattle.chains.proofs.Seeking.{next-left, nothing-left}
 use Rattle.analyse.specs.Flags.{Seen}
 use Rattle.analyse.specs.State.{cell, opt-at, State, Safe}
-use Rattle.analyse.specs.Step.{Forgot, Holds, Part, Ran, RanPart, Ready, Analysed}
+use Rattle.analyse.specs.Step.{Forgot, Good, Holds, Ran, Ready, Analysed}
 use Rattle.analyse.proofs.Learned.{seen-kept}
 use Rattle.analyse.proofs.Marking.{ranges-none}
 use Rattle.analyse.proofs.Run.{ran-none, ran-append}
@@ -42,22 +40,22 @@ fresh-state w f s = record {
   each = λ p h. absurd (not-suc-le-zero h);
 }
 
--- ---- so many blocks
+-- ---- so many positions; x stands where the next is
 
-pub record Chained (recs ops bounds bs : List ℕ) (R : ℕ) (regs₀ w₀ regs w : List ℕ) (k p : ℕ) : Type 0 where
-  pub upto : k ≤ length bs
+pub record Chained (recs ops bounds : List ℕ) (c : Chain) (R : ℕ) (regs₀ w₀ regs w : List ℕ) (x : Cursor) (p : ℕ) : Type 0 where
+  pub standing : Standing bounds c x
   pub places : List ℕ
   pub at : p ≡ length places
   pub ran : Ran recs ops regs₀ w₀ regs w 0 R places
-  pub rest : (P : Picture) → P .bounds ≡ bounds → places ++ chain-places P (drop k bs) ≡ chain-places P bs
+  pub rest : (P : Picture) → P .bounds ≡ bounds → places ++ left-of P (blocks-of c) (x .k) (x .g) (x .past) ≡ chain-places P (blocks-of c)
 
 module _ {t recs ops regs w bounds : List ℕ} {c : Chain} {B R n : ℕ} (y : Ready t recs ops regs w bounds c B R n) where
   abbrev bs : List ℕ
   bs = blocks-of c
 
-  pub chained-none : {regs₀ : List ℕ} → Forgot R regs regs₀ → Chained recs ops bounds bs R regs₀ w regs₀ w 0 0
-  chained-none {regs₀} f = record {
-    upto = omega arith;
+  pub chained-none : {regs₀ : List ℕ} {x : Cursor} → Forgot R regs regs₀ → Standing bounds c x → ((P : Picture) → P .bounds ≡ bounds → chain-places P bs ≡ left-of P bs (x .k) (x .g) (x .past)) → Chained recs ops bounds c R regs₀ w regs₀ w x 0
+  chained-none {regs₀} f s all = record {
+    standing = s;
     places = [];
     at = refl;
     ran = ran-none recs ops (record {
@@ -70,55 +68,51 @@ module _ {t recs ops regs w bounds : List ℕ} {c : Chain} {B R n : ℕ} (y : Re
       room = omega arith;
       near = λ p h. absurd (not-suc-le-zero h);
     });
-    rest = λ P e. refl;
+    rest = λ P e. sym (all P e);
   }
 
   -- a picture with these bounds, to count with
   blank : Picture
   blank = record { bounds = bounds; recs = []; locs = []; vias = []; types = []; regs = 0; ops = []; opers = 0; pairs = []; targets = []; replay = [] }
 
-  module _ {regs₀ regs₁ w₁ : List ℕ} {k p : ℕ} (h : Chained recs ops bounds bs R regs₀ w regs₁ w₁ k p) (l : k < c .count) (x : X.Part) (i : IsPart bounds bs k x) where
-    inside : k < length bs
-    inside = rw (blocks-long (y .sound .few)) l
+  safe-at : {regs₀ regs₁ w₁ : List ℕ} {x : Cursor} {p : ℕ} → Chained recs ops bounds c R regs₀ w regs₁ w₁ x p → Safe R p regs₁ w₁
+  safe-at {regs₀} {regs₁} {w₁} h = subst (λ (m : ℕ). Safe R m regs₁ w₁) (zero-add (length (h .places)) ∙ sym (h .at)) (h .ran .safe)
 
-    part-is : (P : Picture) → P .bounds ≡ bounds → chain-places P (drop k bs) ≡ Part (x .from) (x .past) ++ chain-places P (drop (k + 1) bs)
-    part-is P e = part-step P e bs k x i inside
-
-    pub part-ready : RanPart t recs ops regs₁ w₁ (x .from) (x .past) p R
+  module _ {regs₀ regs₁ w₁ : List ℕ} {x : Cursor} {p : ℕ} (h : Chained recs ops bounds c R regs₀ w regs₁ w₁ x p) (l : x .g < x .past) where
+    pub few-yet : p < 800
     unfolding blank
-    part-ready =
+    few-yet =
         let short = y .short blank refl in
-        let s = ap length (h .rest blank refl) in
-        let a = length-append (h .places) (chain-places blank (drop k bs)) in
-        let b = ap length (part-is blank refl) ∙ length-append (Part (x .from) (x .past)) (chain-places blank (drop (k + 1) bs)) in
-        let d = length-range (x .from) (x .past - x .from) in
-        let z : 0 + length (h .places) ≡ p = zero-add (length (h .places)) ∙ sym (h .at) in
-        record {
-          table = y .table;
-          safe = subst (λ (m : ℕ). Safe R m regs₁ w₁) z (h .ran .safe);
-          good = λ g q. y .good g (omega (arith, q, i .fits, y .ends (getD bs k 0) (y .sound .each k l)));
-          order = omega (arith, i .past);
-          short = omega (arith, short, s, a, b, d, h .at);
-          room = omega (arith, y .room, h .ran .size);
-        }
+        let a = ap length (h .rest blank refl) in
+        let b = length-append (h .places) (left-of blank bs (x .k) (x .g) (x .past)) in
+        let d = ap length (next-left blank bs x l) in
+        omega (arith, short, a, b, d, h .at)
 
-    pub chained-more : {regs₂ w₂ : List ℕ} {q : ℕ} → q + x .from ≡ p + x .past → Ran recs ops regs₁ w₁ regs₂ w₂ p R (Part (x .from) (x .past))
-        → Chained recs ops bounds bs R regs₀ w regs₂ w₂ (k + 1) q
-    chained-more {regs₂} {w₂} {q} eq b = record {
-      upto = omega (arith, inside);
-      places = h .places ++ Part (x .from) (x .past);
-      at = let d = length-range (x .from) (x .past - x .from) in let a = length-append (h .places) (Part (x .from) (x .past)) in omega (arith, eq, d, a, h .at, i .past);
+    pub step-ready : Safe R p regs₁ w₁ × Good recs ops R (x .g) × (p * 10 + 10 ≤ length w₁) × (p + 1 < 1000)
+    step-ready = (
+      safe-at h,
+      y .good (x .g) (let i = h .standing .inside in omega (arith, l, i .fits, y .ends (getD bs (x .k) 0) (y .sound .each (x .k) (i .block)))),
+      omega (arith, few-yet, y .room, h .ran .size),
+      omega (arith, few-yet),
+    )
+
+    pub chained-more : {regs₂ w₂ : List ℕ} {z : Cursor} → Ran recs ops regs₁ w₁ regs₂ w₂ p R (x .g ∷ []) → Standing bounds c z → ((P : Picture) → P .bounds ≡ bounds → left-of P bs (x .k) (x .g) (x .past) ≡ x .g ∷ left-of P bs (z .k) (z .g) (z .past))
+        → Chained recs ops bounds c R regs₀ w regs₂ w₂ z (p + 1)
+    chained-more {regs₂} {w₂} {z} b s e = record {
+      standing = s;
+      places = h .places ++ (x .g ∷ []);
+      at = let a = length-append (h .places) (x .g ∷ []) in omega (arith, a, h .at);
       ran = ran-append (h .ran) (h .at ∙ sym (zero-add (length (h .places)))) b;
-      rest = λ P e. append-assoc (h .places) (Part (x .from) (x .past)) (chain-places P (drop (k + 1) bs)) ∙ ap (λ (m : List ℕ). h .places ++ m) (sym (part-is P e)) ∙ h .rest P e;
+      rest = λ P q. append-assoc (h .places) (x .g ∷ []) (left-of P bs (z .k) (z .g) (z .past)) ∙ ap (λ (m : List ℕ). h .places ++ m) (sym (e P q)) ∙ h .rest P q;
     }
 
-  pub chained-end : {regs₀ regs₁ w₁ : List ℕ} {k p : ℕ} → Forgot R regs regs₀ → Chained recs ops bounds bs R regs₀ w regs₁ w₁ k p → c .count ≤ k → Analysed recs ops regs w bounds c R p regs₁ w₁
+  pub chained-end : {regs₀ regs₁ w₁ : List ℕ} {x : Cursor} {p : ℕ} → Forgot R regs regs₀ → Chained recs ops bounds c R regs₀ w regs₁ w₁ x p → x .past ≤ x .g → Analysed recs ops regs w bounds c R p regs₁ w₁
   unfolding blank
-  chained-end {regs₀} {regs₁} {w₁} {k} {p} f h l = record {
+  chained-end {regs₀} {regs₁} {w₁} {x} {p} f h l = record {
     regs-size = h .ran .regs-size ∙ f .size;
     size = h .ran .size;
     kept = λ r. h .ran .kept r ∙ forgot-flags f r;
-    safe = subst (λ (m : ℕ). Safe R m regs₁ w₁) (zero-add (length (h .places)) ∙ sym (h .at)) (h .ran .safe);
+    safe = safe-at h;
     short = let s = y .short blank refl in omega (arith, s, h .at, ap length (all blank refl));
     holds = λ j q. subst (Holds recs ops R w₁) (zero-add j) (h .ran .holds j (omega (arith, q, h .at)));
     positions = λ P e. h .at ∙ ap length (all P e);
@@ -127,5 +121,4 @@ module _ {t recs ops regs w bounds : List ℕ} {c : Chain} {B R n : ℕ} (y : Re
   }
     where
       all : (P : Picture) → P .bounds ≡ bounds → h .places ≡ chain-places P bs
-      all P e =
-          sym (append-nil (h .places)) ∙ ap (λ (m : List ℕ). h .places ++ chain-places P m) (sym (drop-of-length-le bs {i = k} (rw (blocks-long (y .sound .few)) l))) ∙ h .rest P e
+      all P e = sym (append-nil (h .places)) ∙ ap (λ (m : List ℕ). h .places ++ m) (sym (nothing-left P (y .sound) (h .standing) l)) ∙ h .rest P e

@@ -3,13 +3,12 @@ use mathlib.Core.Bool.{Bool, true, false}
 use mathlib.Core.List.{List, [], _∷_, _++_}
 use mathlib.Core.Logic.{_⊎_, inl, inr, ⊎-elim}
 use mathlib.Core.Path.{_≡_, refl, sym, ap, _∙_, subst}
-use Prim.Native.Nat.{ℕ, suc, _+_, _*_, _-_, _≤_, _<_}
+use Prim.Native.Nat.{ℕ, suc, _+_, _*_, _≤_, _<_}
 use native.Mathlib.Decide.{ℕ-discrete}
 use native.Mathlib.Nat.{add-zero}
 use native.Mathlib.Omega.{arith}
 use lib.ListN.{getD, length, set, length-append, List·getD-append}
 use lib.Seq.{sets, length-sets, getD-append-seam}
-use Rattle.words.specs.Lists.{range}
 use Rattle.words.proofs.Bools.{lt?}
 use Rattle.words.proofs.Copying.{getD-sets-before, getD-sets-in, getD-sets-after}
 use Rattle.model.specs.Kinds.{row, cat}
@@ -19,7 +18,7 @@ use Rattle.inst.specs.Record.{present}
 use Rattle.facts.specs.declared.Fact as F
 use Rattle.effects.specs.Origin.{org-at, class-at, wrote-at, from-at, num}
 use Rattle.analyse.specs.State.{cell, pack, Words, State, Near, Safe}
-use Rattle.analyse.specs.Step.{words-of, Put, Good, Stands, Learned, Holds, Part, Ran}
+use Rattle.analyse.specs.Step.{words-of, Put, Good, Stands, Learned, Holds, Ran}
 
 -- ---- ten words
 
@@ -146,7 +145,7 @@ module _ {recs ops regs w regs′ w′ : List ℕ} {g p R : ℕ} {x : F.Fact} (s
       coded (inl h) q = absurd (omega arith)
       coded (inr h) q = h .1
 
-  ran-one : Ran recs ops regs w regs′ w′ p R (g ∷ [])
+  pub ran-one : Ran recs ops regs w regs′ w′ p R (g ∷ [])
   unfolding f words-of
   ran-one = record {
     regs-size = l .size;
@@ -158,6 +157,3 @@ module _ {recs ops regs w regs′ w′ : List ℕ} {g p R : ℕ} {x : F.Fact} (s
     others = λ q j h t. u .others q j (λ e. omega arith) t;
     state = λ G past el s. goes-on G past el s;
   }
-
-  pub ran-step : Ran recs ops regs w regs′ w′ p R (Part g (g + 1))
-  ran-step = let n : g + 1 - g ≡ 1 = omega arith in subst (λ (k : ℕ). Ran recs ops regs w regs′ w′ p R (range g k)) (sym n) ran-one

@@ -1,21 +1,20 @@
--- Positions one after the other: runs put together, along a part and along a chain. Assumes nothing.
+-- Positions one after the other: runs put together. Assumes nothing.
 use mathlib.Core.List.{List, [], _∷_, _++_, map}
 use mathlib.Core.Logic.{_⊎_, inl, inr}
 use mathlib.Core.Path.{_≡_, refl, sym, ap, _∙_, subst}
-use Prim.Native.Nat.{ℕ, _+_, _*_, _-_, _≤_, _<_}
+use Prim.Native.Nat.{ℕ, _+_, _-_, _≤_, _<_}
 use native.Mathlib.Nat.{add-zero, not-suc-le-zero}
 use native.Mathlib.Omega.{arith}
 use lib.ListN.{getD, length, length-append, length-map, List·getD-append}
 use lib.Seq.{getD-append-add}
-use Rattle.words.specs.Lists.{range}
 use Rattle.words.proofs.Bools.{lt?}
-use Rattle.words.proofs.Lists.{map-append, length-range, range-append}
+use Rattle.words.proofs.Lists.{map-append}
 use Rattle.model.specs.Kinds.{row, cat}
 use Rattle.model.specs.Picture.{Inst, inst, kind, reads, writes}
 use Rattle.model.specs.Analyse.{Facts, Fact, fact, analyse}
 use Rattle.inst.specs.Record.{present}
 use Rattle.analyse.specs.State.{cell, State, Safe}
-use Rattle.analyse.specs.Step.{Good, Holds, Part, Ran, RanPart}
+use Rattle.analyse.specs.Step.{Good, Holds, Ran}
 
 -- ---- two runs are one
 
@@ -81,34 +80,3 @@ module _ {recs ops regs w regs₁ w₁ regs₂ w₂ xs ys : List ℕ} {p q R : �
         subst (λ (l : List Fact). State G l R regs₂ w₂) (sym (ap (analyse G ops past) (map-append (inst recs) xs ys) ∙ run-append G ops past (map (inst recs) xs) (map (inst recs) ys)))
         (b .state G (analyse G ops past (map (inst recs) xs)) (length-run G ops past (map (inst recs) xs) ∙ ap (λ (n : ℕ). n + length (map (inst recs) xs)) e ∙ ap (λ (n : ℕ). p + n) (length-map xs (inst recs)) ∙ sym eq) (a .state G past e s));
   }
-
--- ---- along a part
-
-pub record Along (recs ops : List ℕ) (from past p R : ℕ) (regs₀ w₀ regs w : List ℕ) (g q : ℕ) : Type 0 where
-  pub low : from ≤ g
-  pub high : g ≤ past
-  pub at : q + from ≡ p + g
-  pub ran : Ran recs ops regs₀ w₀ regs w p R (Part from g)
-
-pub along-none : {t recs ops regs w : List ℕ} {from past p R : ℕ} → RanPart t recs ops regs w from past p R → Along recs ops from past p R regs w regs w from p
-along-none {t} {recs} {ops} {regs} {w} {from} {past} {p} {R} r =
-    let z : from - from ≡ 0 = omega arith in
-    record { low = omega arith; high = r .order; at = refl; ran = subst (λ (n : ℕ). Ran recs ops regs w regs w p R (range from n)) (sym z) (ran-none recs ops (r .safe)) }
-
-module _ {recs ops : List ℕ} {from past p R : ℕ} {regs₀ w₀ regs w : List ℕ} {g q : ℕ} (a : Along recs ops from past p R regs₀ w₀ regs w g q) where
-  here : q ≡ p + length (Part from g)
-  here = let l = length-range from (g - from) in omega (arith, l, a .at, a .low)
-
-  pub along-more : {regs′ w′ : List ℕ} → g < past → Ran recs ops regs w regs′ w′ q R (Part g (g + 1)) → Along recs ops from past p R regs₀ w₀ regs′ w′ (g + 1) (q + 1)
-  along-more {regs′} {w′} h b =
-      let s : from + (g - from) ≡ g = omega (arith, a .low) in
-      let m : (g - from) + (g + 1 - g) ≡ g + 1 - from = omega (arith, a .low) in
-      let e : Part from g ++ Part g (g + 1) ≡ Part from (g + 1) = ap (λ (x : ℕ). Part from g ++ range x (g + 1 - g)) (sym s) ∙ range-append from (g - from) (g + 1 - g) ∙ ap (range from) m in
-      record { low = omega (arith, a .low); high = omega arith; at = omega (arith, a .at); ran = subst (λ (l : List ℕ). Ran recs ops regs₀ w₀ regs′ w′ p R l) e (ran-append (a .ran) here b) }
-
-  pub along-ready : {t : List ℕ} → RanPart t recs ops regs₀ w₀ from past p R → g < past → Safe R q regs w × Good recs ops R g × (q * 10 + 10 ≤ length w) × (q + 1 < 1000)
-  along-ready r h =
-      (subst (λ (n : ℕ). Safe R n regs w) (sym here) (a .ran .safe), r .good g h, omega (arith, a .at, a .low, h, r .short, r .room, a .ran .size), omega (arith, a .at, a .low, h, r .short))
-
-  pub along-end : past ≤ g → (q + from ≡ p + past) × Ran recs ops regs₀ w₀ regs w p R (Part from past)
-  along-end h = let e : g ≡ past = omega (arith, a .high) in (a .at ∙ ap (λ (n : ℕ). p + n) e, subst (λ (n : ℕ). Ran recs ops regs₀ w₀ regs w p R (Part from n)) e (a .ran))

@@ -3,10 +3,9 @@ use mathlib.Core.Path.{_≡_}
 use mathlib.Core.Bool.{Bool, false, not, _||_}
 use mathlib.Core.Logic.{_⊎_}
 use mathlib.Core.List.{List, [], _∷_, _++_, map}
-use Prim.Native.Nat.{ℕ, _+_, _*_, _-_, _%_, _≤_, _<_}
+use Prim.Native.Nat.{ℕ, _+_, _*_, _%_, _≤_, _<_}
 use lib.Dec.{eqb}
 use lib.ListN.{getD, length}
-use Rattle.words.specs.Lists.{range}
 use Rattle.model.specs.Kinds.{row, cat}
 use Rattle.model.specs.Picture.{Picture, inst, kind, absent, reads, writes}
 use Rattle.model.specs.Analyse.{Facts, Fact, fact, analyse}
@@ -124,10 +123,6 @@ pub record Holds (recs ops : List ℕ) (R : ℕ) (w : List ℕ) (p : ℕ) : Type
   pub defs : cell w p 9 ≡ 0 → writes (inst recs (cell w p 0)) ≡ present (cell w p 6)
   pub reads : cell w p 9 ≡ 0 → reads ops (inst recs (cell w p 0)) ≡ present (cell w p 7) ++ present (cell w p 8)
 
--- the records from one up to another
-abbrev pub Part : ℕ → ℕ → List ℕ
-Part from past = range from (past - from)
-
 -- from position p on these records were analysed: what stood for a past stands for it and them
 pub record Ran (recs ops regs w regs′ w′ : List ℕ) (p R : ℕ) (places : List ℕ) : Type 0 where
   pub regs-size : length regs′ ≡ length regs
@@ -138,15 +133,6 @@ pub record Ran (recs ops regs w regs′ w′ : List ℕ) (p R : ℕ) (places : L
   pub holds : (k : ℕ) → k < length places → Holds recs ops R w′ (p + k)
   pub others : (q j : ℕ) → q < p → j < 10 → cell w′ q j ≡ cell w q j
   pub state : (G : Facts) (past : List Fact) → length past ≡ p → State G past R regs w → State G (analyse G ops past (map (inst recs) places)) R regs′ w′
-
--- the records of a part can be analysed, from position p on
-pub record RanPart (t recs ops regs w : List ℕ) (from past p R : ℕ) : Type 0 where
-  pub table : t ≡ rows
-  pub safe : Safe R p regs w
-  pub good : (g : ℕ) → g < past → Good recs ops R g
-  pub order : from ≤ past
-  pub short : p + (past - from) ≤ 800
-  pub room : 8000 ≤ length w
 
 -- a chain c of B blocks can be analysed; n records
 pub record Ready (t recs ops regs w bounds : List ℕ) (c : Chain) (B R n : ℕ) : Type 0 where

@@ -4,15 +4,17 @@ use crate::learn::learn_one;
 use crate::marks::forget;
 use crate::marks::one;
 use chains::chain::Chain;
-use chains::places::part_of;
+use chains::cursor::first;
+use chains::cursor::next;
 use facts::Fact;
 use inst::record::wide;
 ghost use mathlib.Core.Path.{_≡_};
+ghost use mathlib.Core.List.{[], _∷_};
 ghost use Prim.Native.Nat.{_+_, _*_, _≤_, _<_};
 ghost use lib.ListN.{length};
 ghost use Rattle.inst.specs.Table.{rows};
 ghost use Rattle.analyse.specs.State.{pack, Safe};
-ghost use Rattle.analyse.specs.Step.{Put, Good, Part, Ran, RanPart, Ready, Analysed};
+ghost use Rattle.analyse.specs.Step.{Put, Good, Ran, Ready, Analysed};
 
 fn flags(f: Fact) -> u32
     ensures { λ r. ⌜ r ≡ pack (f .len) (f .layout) (f .creates) (f .barrier) (f .suspends) ⌝ }
@@ -54,35 +56,10 @@ fn step(
     count: usize,
 )
     requires { ⌜ (now t ≡ rows) × Safe count p (now regs) (now w) × Good (now recs) (now ops) count g × (p * 10 + 10 ≤ length (now w)) × (p + 1 < 1000) ⌝ }
-    ensures { λ _. ⌜ Ran (now (recs .entry)) (now (ops .entry)) (now (regs .entry)) (now (w .entry)) (now (regs .exit)) (now (w .exit)) p count (Part g (g + 1)) ⌝ }
+    ensures { λ _. ⌜ Ran (now (recs .entry)) (now (ops .entry)) (now (regs .entry)) (now (w .entry)) (now (regs .exit)) (now (w .exit)) p count (g ∷ []) ⌝ }
 {
     let f = learn_one(t, recs, ops, regs, g, p, count);
     put(w, wide(p), f);
-}
-
-// The positions from p on: the records from one up to another.
-fn analyse_part(
-    t: &[u32; 202],
-    recs: &[u32],
-    ops: &[u32],
-    regs: &mut [u64],
-    w: &mut [u32],
-    from: usize,
-    past: usize,
-    p: u32,
-    count: usize,
-) -> u32
-    requires { ⌜ RanPart (now t) (now recs) (now ops) (now regs) (now w) from past p count ⌝ }
-    ensures { λ q. ⌜ (q + from ≡ p + past) × Ran (now (recs .entry)) (now (ops .entry)) (now (regs .entry)) (now (w .entry)) (now (regs .exit)) (now (w .exit)) p count (Part from past) ⌝ }
-{
-    let mut g = from;
-    let mut q = p;
-    while g < past {
-        step(t, recs, ops, regs, w, g, q, count);
-        g += 1;
-        q += 1;
-    }
-    q
 }
 
 // The facts of chain c of so many blocks; n records, and `count` registers in use. The answer is the number of positions.
@@ -102,15 +79,12 @@ pub fn analyse(
     ensures { λ p. ⌜ Analysed (now (recs .entry)) (now (ops .entry)) (now (regs .entry)) (now (w .entry)) (now (bounds .entry)) c count p (now (regs .exit)) (now (w .exit)) ⌝ }
 {
     forget(regs, count);
-    let many = c.count;
-    let mut k = 0u32;
+    let mut at = first(bounds, c, blocks);
     let mut p = 0u32;
-    while k < many {
-        let x = part_of(bounds, c, k, blocks);
-        let from = x.from;
-        let past = x.past;
-        p = analyse_part(t, recs, ops, regs, w, from, past, p, count);
-        k += 1;
+    while at.g < at.past {
+        step(t, recs, ops, regs, w, at.g, p, count);
+        at = next(bounds, c, blocks, at);
+        p += 1;
     }
     p
 }

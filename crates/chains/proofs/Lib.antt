@@ -1,3 +1,4 @@
 pub mod Struct
 pub mod Search
 pub mod Laid
+pub mod Seeking
