@@ -1,5 +1,5 @@
 -- The search from one block of an accepted picture: what each step asks, and what the last one leaves. Assumes nothing.
-use mathlib.Core.Path.{_≡_, refl, _∙_}
+use mathlib.Core.Path.{_≡_, refl, sym, _∙_, subst}
 use mathlib.Core.List.{List}
 use Prim.Native.Nat.{ℕ, _≤_}
 use lib.ListN.{length}
@@ -8,12 +8,16 @@ use Rattle.model.specs.Refusal.{refusal}
 use Rattle.model.specs.Analyse.{facts}
 use Rattle.trial.specs.declared.sizes.Sizes.{Sizes}
 use Rattle.trial.specs.declared.block.MaybeMove.{MaybeMove}
-use Rattle.trial.specs.Work.{width, Shown, Begun}
-use Rattle.trial.specs.Trial.{Tried}
-use Rattle.search.specs.Search.{Beginning, Began, Looking}
+use Rattle.trial.specs.declared.block.MaybeMove.the-variants as tries
+use Rattle.trial.specs.Work.{width, Shown, Begun, Held, chain-words}
+use Rattle.trial.specs.Trial.{tried, Chosen, Following, Followed}
+use Rattle.search.specs.declared.find.Look.{Look}
+use Rattle.search.specs.declared.find.MaybeLook.{MaybeLook}
+use Rattle.search.specs.declared.find.MaybeLook.the-variants.{Is, Not}
+use Rattle.search.specs.Search.{Beginning, Began, Looking, looked, Looked}
 use Rattle.search.proofs.Start.{rooms-of}
 use Rattle.search.proofs.Looked.{shown-at}
-use Rattle.search.proofs.Anew.{Anew, held-anew}
+use Rattle.search.proofs.Anew.{Anew, sees-of, held-anew}
 use Rattle.probe.specs.Attempt.{Sought}
 
 abbrev pub sizes-of : Picture → Sizes
@@ -43,10 +47,34 @@ module _ (P : Picture) (work64 work32 : List ℕ) (ok : refusal P (length work64
     pub looking : Looking (P .bounds) (P .recs) (P .ops) (P .pairs) (P .targets) (P .replay) (sizes-of P) work64′ work32′
     looking = record { P = P; G = facts P; shown = shown-after; begun = begun }
 
-    pub sought : {r w : ℕ} {bits work64″ work32″ : List ℕ} {x : ℕ} {o : MaybeMove} → r ≡ P .regs → w ≡ width r → Anew (P .bounds) (P .recs) (P .ops) (P .pairs) (P .targets) work64′ bits w
-        → Tried (P .bounds) (P .recs) (P .ops) (P .pairs) (P .targets) (P .replay) (sizes-of P) bits work32′ work64″ work32″ x o → Sought P work64 work32 work64″ work32″ x o
-    sought er ew n t = record {
-      size64 = t .size64 ∙ n .size ∙ b .size64;
-      size32 = t .size32 ∙ b .size32;
-      is = t .is P (facts P) (shown-at (n .size) refl shown-after) (held-anew er ew n P (facts P) shown-after begun);
-    }
+    -- with live-in made: the chain from block x, and what trying it leaves
+    module _ {r w : ℕ} {bits : List ℕ} (er : r ≡ P .regs) (ew : w ≡ width r) (n : Anew (P .bounds) (P .recs) (P .ops) (P .pairs) (P .targets) work64′ bits w)
+        {x : ℕ} {o : MaybeLook} (l : Looked (P .bounds) (P .recs) (P .replay) (sizes-of P) work32′ x o) where
+      held : Held P (facts P) bits work32′
+      held = held-anew er ew n P (facts P) shown-after begun
+
+      shown-anew : Shown P (P .bounds) (P .recs) (P .ops) (P .pairs) (P .targets) (P .replay) (sizes-of P) (length bits) (length work32′)
+      shown-anew = shown-at (n .size) refl shown-after
+
+      pub sought-none : o ≡ Not → Sought P work64 work32 bits work32′ x tries.Not
+      sought-none e =
+          let z : looked P x Not = subst (looked P x) e (l .is P (sees-of shown-after begun)) in
+          record { size64 = n .size ∙ b .size64; size32 = b .size32; is = z (facts P) }
+
+      module _ {k : Look} (e : o ≡ Is k) where
+        here : looked P x (Is k)
+        here = subst (looked P x) e (l .is P (sees-of shown-after begun))
+
+        chosen : Chosen P (k .x) (k .c)
+        chosen = subst (λ (i : ℕ). Chosen P i (k .c)) (sym (here .0)) (here .1)
+
+        pub following : Following (P .bounds) (P .recs) (P .ops) (P .pairs) (P .targets) (P .replay) (sizes-of P) (k .x) (k .c) bits work32′
+        following = record { given = record { P = P; G = facts P; shown = shown-anew; held = held }; chosen = chosen }
+
+        pub sought-here : {v : MaybeMove} {work64″ work32″ : List ℕ}
+            → Followed (P .bounds) (P .recs) (P .ops) (P .pairs) (P .targets) (P .replay) (sizes-of P) (k .x) (k .c) bits work32′ work64″ work32″ v → Sought P work64 work32 work64″ work32″ x v
+        sought-here {v} {work64″} {work32″} f = record {
+          size64 = f .size64 ∙ n .size ∙ b .size64;
+          size32 = f .size32 ∙ b .size32;
+          is = subst (λ (i : ℕ). tried P (facts P) i v (chain-words work32″)) (here .0) (f .is P (facts P) shown-anew held chosen);
+        }

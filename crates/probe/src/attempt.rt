@@ -6,8 +6,10 @@ use inst::record::wide;
 use inst::table::table;
 use picture::refusal;
 use search::begin::begin;
+use search::find::MaybeLook;
+use search::find::look_from;
 use trial::block::MaybeMove;
-use trial::block::try_block;
+use trial::block::try_chain;
 use trial::sizes::Sizes;
 use trial::sizes::width;
 ghost use mathlib.Core.Path.{_≡_};
@@ -86,7 +88,10 @@ fn seek<'a>(
     );
     let w = width(wide(registers));
     live_in(work64, t, bounds, recs, ops, pairs, targets, w);
-    try_block(
+    let MaybeLook::Is(k) = look_from(bounds, recs, replay, work32, s, x) else {
+        return MaybeMove::Not;
+    };
+    try_chain(
         t,
         bounds,
         recs,
@@ -97,7 +102,8 @@ fn seek<'a>(
         work64,
         work32,
         s,
-        x,
+        k.x,
+        k.c,
     )
 }
 

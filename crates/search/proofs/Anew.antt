@@ -14,18 +14,39 @@ use Rattle.flow.specs.Graph.{Graph}
 use Rattle.flow.specs.Live.{RowRoom, Rows, Live}
 use Rattle.flow.proofs.Whole.{live-rows-whole}
 use Rattle.trial.specs.declared.sizes.Sizes.{Sizes}
-use Rattle.trial.specs.declared.block.MaybeMove.{MaybeMove}
-use Rattle.trial.specs.Work.{width, Shown, Begun, Held, Given}
+use Rattle.trial.specs.Work.{width, Shown, Begun, Held}
 use Rattle.trial.proofs.Standing.{begun-kept, firm-back, rows-for}
-use Rattle.search.specs.Search.{Looking, FirstFound, Searched}
+use Rattle.search.specs.declared.find.MaybeLook.{MaybeLook}
+use Rattle.search.specs.Search.{Looking, Sees, Seeking, Sought, Opened}
 use Rattle.search.proofs.Start.{graph-at, rows-asked}
-use Rattle.search.proofs.Looked.{shown-at}
 
 drawn-is : (P : Picture) {bounds recs ops pairs targets : List ℕ} → bounds ≡ P .bounds → recs ≡ P .recs → ops ≡ P .ops → pairs ≡ P .pairs → targets ≡ P .targets
     → drawn bounds recs ops pairs targets ≡ drawn (P .bounds) (P .recs) (P .ops) (P .pairs) (P .targets)
 drawn-is P {bounds} {recs} {ops} {pairs} {targets} a b c d e =
     ap (λ (l : List ℕ). drawn l recs ops pairs targets) a ∙ ap (λ (l : List ℕ). drawn (P .bounds) l ops pairs targets) b ∙ ap (λ (l : List ℕ). drawn (P .bounds) (P .recs) l pairs targets) c
     ∙ ap (λ (l : List ℕ). drawn (P .bounds) (P .recs) (P .ops) l targets) d ∙ ap (λ (l : List ℕ). drawn (P .bounds) (P .recs) (P .ops) (P .pairs) l) e
+
+-- what the search reads
+pub sees-of : {P : Picture} {G : Facts} {bounds recs ops pairs targets replay : List ℕ} {s : Sizes} {work64 work32 : List ℕ} → Shown P bounds recs ops pairs targets replay s (length work64) (length work32)
+    → Begun P G work64 work32 → Sees P bounds recs replay s work32
+sees-of {P} {work64 = work64} sh b = record {
+  w64 = length work64;
+  shown = record {
+    lists = record {
+      accepted = sh .lists .accepted;
+      bounds-are = sh .lists .bounds-are;
+      recs-are = sh .lists .recs-are;
+      ops-are = refl;
+      blocks-are = sh .lists .blocks-are;
+      insts-are = sh .lists .insts-are;
+      regs-are = sh .lists .regs-are;
+      lent-are = sh .lists .lent-are;
+    };
+    tabled = record { pairs-are = refl; targets-are = refl };
+    replay-are = sh .replay-are;
+  };
+  preds = b .preds;
+}
 
 -- what finding live-in leaves
 pub record Anew (bounds recs ops pairs targets work64 bits : List ℕ) (w : ℕ) : Type 0 where
@@ -46,16 +67,8 @@ module _ {bounds recs ops pairs targets replay : List ℕ} {s : Sizes} {work64 w
         live = subst (λ (v : ℕ). Live P v bits) wide (live-rows-whole P w bits (subst (λ (Q : Picture). Live Q w bits) d (n .live)));
       }
 
-  pub given-anew : Looking bounds recs ops pairs targets replay s work64 work32 → Given bounds recs ops pairs targets replay s bits work32
-  given-anew k = record { P = k .P; G = k .G; shown = shown-at (n .size) refl (k .shown); held = held-anew (k .P) (k .G) (k .shown) (k .begun) }
-
-  pub searched : {work64′ work32′ : List ℕ} {o : MaybeMove} → FirstFound bounds recs ops pairs targets replay s bits work32 work64′ work32′ o → Searched bounds recs ops pairs targets replay s work64 work32 work64′ work32′ o
-  searched f = record {
-    size64 = f .size64 ∙ n .size;
-    size32 = f .size32;
-    begun = λ P G sh b. f .held P G (shown-at (n .size) refl sh) (held-anew P G sh b) .begun;
-    is = λ P G sh b. f .is P G (shown-at (n .size) refl sh) (held-anew P G sh b);
-  }
+  pub opened : {o : MaybeLook} → Sought bounds recs replay s work32 0 o → Opened bounds recs ops pairs targets replay s work64 work32 bits o
+  opened f = record { size64 = n .size; held = held-anew; is = λ P G sh b. f .is P (sees-of sh b) }
 
 module _ {bounds recs ops pairs targets replay : List ℕ} {s : Sizes} {work64 work32 : List ℕ} (k : Looking bounds recs ops pairs targets replay s work64 work32) where
   good : Accepted (k .P)
@@ -75,3 +88,6 @@ module _ {bounds recs ops pairs targets replay : List ℕ} {s : Sizes} {work64 w
         rows-asked P (length work32) work64 (l .accepted) (l .bounds-are) (l .recs-are) (l .ops-are) wide .3,
         λ b h. rows-for P (l .bounds-are) (l .recs-are) (l .ops-are) wide work64 pairs targets (k .begun .rows b (subst (λ (z : List ℕ). b < length z / 2) (l .bounds-are) h)),
       )
+
+  pub seeking : Seeking bounds recs replay s work32
+  seeking = record { P = k .P; sees = sees-of (k .shown) (k .begun) }

@@ -1,32 +1,43 @@
--- The search of a round (01, "A round": "the first block, in number order, of more than 3 instructions for which a move exists"): block
--- by block it is `model`'s `first-plan`. Assumes nothing.
+-- The search for the next block whose chain is to be tried (01, "A round": "the first block, in number order, of more than 3 instructions
+-- for which a move exists"): the blocks that it passes over have no move, so that block by block it is `model`'s `first-plan`. Assumes nothing.
 use mathlib.Core.Path.{_≡_, refl, sym, ap, ap₂, _∙_, subst}
 use mathlib.Core.Bool.{Bool, true, false}
 use mathlib.Core.List.{List, [], _∷_, _++_}
 use mathlib.Core.Option.{Option, none, some, Option·none-ne-some}
 use Prim.Native.Nat.{ℕ, suc, _+_, _-_, _*_, _≤_, _<_}
-use native.Mathlib.Nat.{zero-add}
+use native.Mathlib.Nat.{zero-add, le-refl}
 use native.Mathlib.Numerals.{add-one}
 use native.Mathlib.Omega.{arith}
-use borrow.Author.Tests.{le-ltb, lt-ltb}
 use lib.Dec.{ltb}
-use lib.ListN.{getD, length}
+use lib.ListN.{getD, length, take, drop}
 use Rattle.words.specs.Lists.{range, upto}
-use Rattle.words.proofs.Bools.{clash}
 use Rattle.words.proofs.Lists.{range-append, range-snoc}
 use Rattle.model.specs.Picture.{Picture, nblocks, size}
 use Rattle.model.specs.Analyse.{Facts}
-use Rattle.model.specs.Move.{Plan, min-replay, try-block}
-use Rattle.model.specs.Pass.{first-plan, round}
-use Rattle.laws.proofs.Accepted.{accepted}
-use Rattle.laws.proofs.Sizes.{few-blocks, block-within}
+use Rattle.model.specs.Move as M
+use Rattle.model.specs.Move.{Plan, chain, min-replay, minimum, replays, worth-a-look, plan, run-of, plan-chain, try-block}
+use Rattle.model.specs.Pass.{first-plan}
+use Rattle.laws.proofs.Accepted.{Accepted, accepted}
+use Rattle.laws.proofs.Admitted.{ends-goes, ends-parts}
+use Rattle.laws.proofs.Sizes.{recs-length, block-within}
+use Rattle.chains.specs.declared.chain.Chain.{Chain}
+use Rattle.chains.specs.declared.chain.MaybeChain.{MaybeChain}
+use Rattle.chains.specs.declared.chain.MaybeChain.the-variants.{Is as IsChain, Not as NoChain}
+use Rattle.chains.specs.Chain as C
+use Rattle.chains.specs.Chain.{ended, chain-of, sound-of, Sound, Blocks}
+use Rattle.chains.specs.Places.{Pairs, end-past}
+use Rattle.analyse.proofs.Accepted.{pairs-given}
+use Rattle.worth.specs.Worth.{Worth}
 use Rattle.trial.specs.declared.sizes.Sizes.{Sizes}
-use Rattle.trial.specs.declared.block.Move.{Move}
-use Rattle.trial.specs.declared.block.MaybeMove.{MaybeMove}
-use Rattle.trial.specs.declared.block.MaybeMove.the-variants.{Is, Not}
-use Rattle.trial.specs.Work.{Shown, Held, Given, chain-words}
-use Rattle.trial.specs.Trial.{Tried, tried}
-use Rattle.search.specs.Search.{LongTried, long-tried, FirstFound}
+use Rattle.trial.specs.Work.{Lists, Shown}
+use Rattle.trial.specs.Along.{chain-in}
+use Rattle.trial.specs.Trial.{Chosen}
+use Rattle.trial.proofs.Rooms.{Room, room, preds-lent, preds-room}
+use Rattle.trial.proofs.Trials.{worth-long}
+use Rattle.search.specs.declared.find.Look.{Look}
+use Rattle.search.specs.declared.find.MaybeLook.{MaybeLook}
+use Rattle.search.specs.declared.find.MaybeLook.the-variants.{Is, Not}
+use Rattle.search.specs.Search.{Sees, Seeking, looked, Looked, passed, Sought}
 
 -- ---- `first-plan`, one block more
 
@@ -71,110 +82,155 @@ module _ (P : Picture) (G : Facts) where
       ap (λ (n : ℕ). first-plan P G (upto n)) (add-one b) ∙ ap (first-plan P G) (range-snoc 0 b) ∙ first-on (upto b) ((0 + b) ∷ []) e
       ∙ ap (λ (x : ℕ). first-plan P G (x ∷ [])) (zero-add b) ∙ first-skip b [] h
 
--- ---- one block
+-- ---- one block, by its chain
+
+module _ (P : Picture) (G : Facts) (x : ℕ) where
+  abbrev by-chain : Option M.Chain → Option Plan
+  by-chain o = elim o as (λ z. Option Plan) [ none ↦ none | some c ↦ plan-chain P G x c ]
+
+  abbrev by-worth : M.Chain → Bool → Option Plan
+  by-worth c b = elim b as (λ z. Option Plan) [
+    | false ↦ none
+    | true ↦ elim (plan P (run-of P G c) x c (minimum (replays P c)) (c .t) (c .f)) as (λ z. Option Plan) [ some a ↦ some a | none ↦ plan P (run-of P G c) x c (minimum (replays P c)) (c .f) (c .t) ]
+  ]
+
+  no-chain : chain P x ≡ none → try-block P G x ≡ none
+  no-chain e = ap by-chain e
+
+  not-worth : (c : M.Chain) → chain P x ≡ some c → worth-a-look P x c ≡ false → try-block P G x ≡ none
+  not-worth c e f = ap by-chain e ∙ ap (by-worth c) f
+
+  too-short : size P x ≤ 3 → try-block P G x ≡ none
+  too-short h = go (chain P x) refl
+    where
+      low : (c : M.Chain) (b : Bool) → worth-a-look P x c ≡ b → worth-a-look P x c ≡ false
+      low c true f = absurd (let a = worth-long P x c f in omega arith)
+      low c false f = f
+
+      go : (o : Option M.Chain) → chain P x ≡ o → try-block P G x ≡ none
+      go none e = no-chain e
+      go (some c) e = not-worth c e (low c (worth-a-look P x c) refl)
 
 sized : (P : Picture) {bounds : List ℕ} → bounds ≡ P .bounds → (x k : ℕ) → k ≡ x → getD bounds (2 * k + 1) 0 - getD bounds (2 * k) 0 ≡ size P x
 sized P h x k e = ap₂ (λ (l : List ℕ) (i : ℕ). getD l (2 * i + 1) 0 - getD l (2 * i) 0) h e
 
-module _ {bounds recs ops pairs targets replay : List ℕ} {s : Sizes} where
-  -- with work slices of these lengths
-  pub shown-at : {P : Picture} {a b a′ b′ : ℕ} → a′ ≡ a → b′ ≡ b → Shown P bounds recs ops pairs targets replay s a b → Shown P bounds recs ops pairs targets replay s a′ b′
-  shown-at {P} {a} {b} {a′} {b′} e f h =
-      subst (λ (z : ℕ). Shown P bounds recs ops pairs targets replay s z b′) (sym e) (subst (λ (z : ℕ). Shown P bounds recs ops pairs targets replay s a z) (sym f) h)
+-- with work slices of these lengths
+pub shown-at : {bounds recs ops pairs targets replay : List ℕ} {s : Sizes} {P : Picture} {a b a′ b′ : ℕ} → a′ ≡ a → b′ ≡ b → Shown P bounds recs ops pairs targets replay s a b → Shown P bounds recs ops pairs targets replay s a′ b′
+shown-at {bounds} {recs} {ops} {pairs} {targets} {replay} {s} {P} {a} {b} {a′} {b′} e f h =
+    subst (λ (z : ℕ). Shown P bounds recs ops pairs targets replay s z b′) (sym e) (subst (λ (z : ℕ). Shown P bounds recs ops pairs targets replay s a z) (sym f) h)
 
-  module _ {work64 work32 : List ℕ} where
-    pub too-short : (x k : ℕ) → k ≡ x → getD bounds (2 * k + 1) 0 - getD bounds (2 * k) 0 ≤ 3 → LongTried bounds recs ops pairs targets replay s work64 work32 work64 work32 x Not
-    too-short x k e h = record {
-      size64 = refl;
-      size32 = refl;
-      held = λ P G a b. b;
-      is = λ P G a b t. clash t (le-ltb 3 (size P x) (let z = sized P (a .lists .bounds-are) x k e in omega arith));
-    }
+-- what the parts of `look_from` ask
+module _ {bounds recs replay : List ℕ} {s : Sizes} {work32 : List ℕ} (g : Seeking bounds recs replay s work32) where
+  abbrev lists : Lists (g .P) bounds recs (g .P .ops) s (g .sees .w64) (length work32)
+  lists = g .sees .shown .lists
 
-    pub long-enough : {work64′ work32′ : List ℕ} {r : MaybeMove} (x k : ℕ) → k ≡ x → 3 < getD bounds (2 * k + 1) 0 - getD bounds (2 * k) 0
-        → Tried bounds recs ops pairs targets replay s work64 work32 work64′ work32′ x r → LongTried bounds recs ops pairs targets replay s work64 work32 work64′ work32′ x r
-    long-enough {work64′} {work32′} {r} x k e h t = record {
-      size64 = t .size64;
-      size32 = t .size32;
-      held = t .held;
-      is = λ P G a b. go P G (lt-ltb 3 (size P x) (let z = sized P (a .lists .bounds-are) x k e in omega arith)) r (t .is P G a b);
-    }
-      where
-        go : (P : Picture) (G : Facts) → ltb min-replay (size P x) ≡ true → (r : MaybeMove) → tried P G x r (chain-words work32′) → long-tried P G x r (chain-words work32′)
-        go P G l (Is mv) f = (l, f)
-        go P G l Not f = λ q. f
+  good : Accepted (g .P)
+  good = accepted (g .P) (g .sees .w64) (length work32) (lists .accepted)
 
--- block x's bounds
-module _ {bounds recs ops pairs targets replay : List ℕ} {s : Sizes} {work64 work32 : List ℕ} (g : Given bounds recs ops pairs targets replay s work64 work32) where
+  pub rooms : Room (s .blocks) (s .regs) (s .lent) (g .sees .w64) (length work32)
+  rooms = room lists
+
+  pub preds-there : 2 * s .blocks ≤ length (take (length work32 - (8000 + s .lent)) (drop (8000 + s .lent) work32))
+  preds-there = preds-room work32 lists
+
+  pub pairs-ask : Pairs bounds (s .blocks)
+  pairs-ask = subst (λ (b : List ℕ). Pairs b (s .blocks)) (sym (lists .bounds-are)) (subst (Pairs (g .P .bounds)) (sym (lists .blocks-are)) (pairs-given (g .P) good))
+
+  pub chain-asks : Blocks bounds recs (s .blocks)
+  chain-asks =
+      let P = g .P in
+      let e = recs-length P good in
+      let z : Blocks (P .bounds) (P .recs) (nblocks P) = record {
+        block = λ b h. let y = block-within P good b h .1 in record { pair = omega arith; whole = omega arith };
+        goes-in = λ b t h q. ends-goes P good b t q .0;
+        parts-in = λ b t f h q. ends-parts P good b t f q;
+      } in
+      subst (λ (b : List ℕ). Blocks b recs (s .blocks)) (sym (lists .bounds-are))
+      (subst (λ (r : List ℕ). Blocks (P .bounds) r (s .blocks)) (sym (lists .recs-are)) (subst (Blocks (P .bounds) (P .recs)) (sym (lists .blocks-are)) z))
+
+  -- block x's bounds
   pub bounds-long : (x k : ℕ) → k ≡ x → x < s .blocks → 2 * k + 1 < length bounds
-  bounds-long x k e h =
-      let n = g .shown .lists .blocks-are in
-      let l : length bounds ≡ length (g .P .bounds) = ap length (g .shown .lists .bounds-are) in
-      omega arith
-
-  pub blocks-few : s .blocks ≤ 4096
-  blocks-few = let n = g .shown .lists .blocks-are in let f = few-blocks (g .P) (accepted (g .P) (length work64) (length work32) (g .shown .lists .accepted)) in omega arith
+  bounds-long x k e h = let z = pairs-ask .size in omega arith
 
   pub bounds-order : (x k : ℕ) → k ≡ x → x < s .blocks → getD bounds (2 * k) 0 ≤ getD bounds (2 * k + 1) 0
-  bounds-order x k e h =
-      let n = g .shown .lists .blocks-are in
-      subst (λ (l : List ℕ). getD l (2 * k) 0 ≤ getD l (2 * k + 1) 0) (sym (g .shown .lists .bounds-are))
-      (block-within (g .P) (accepted (g .P) (length work64) (length work32) (g .shown .lists .accepted)) k (omega arith) .0)
+  bounds-order x k e h = pairs-ask .order k (omega arith)
 
--- ---- the loop: no block before b has a move
+  pub worth-asks : (x k : ℕ) {r : MaybeChain} {c : Chain} → k ≡ x → x < s .blocks → sound-of r (s .blocks) → r ≡ IsChain c
+      → Sound c (s .blocks) × Pairs bounds (s .blocks) × (k < s .blocks) × (16 * end-past bounds k ≤ length recs)
+  worth-asks x k e h u f =
+      (subst (λ (y : MaybeChain). sound-of y (s .blocks)) f u, pairs-ask, omega arith, chain-asks .block k (omega arith) .whole)
 
-pub record Looked (bounds recs ops pairs targets replay : List ℕ) (s : Sizes) (work64₀ work32₀ work64 work32 : List ℕ) (b : ℕ) : Type 0 where
-  pub size64 : length work64 ≡ length work64₀
-  pub size32 : length work32 ≡ length work32₀
-  pub held : (P : Picture) (G : Facts) → Shown P bounds recs ops pairs targets replay s (length work64₀) (length work32₀) → Held P G work64₀ work32₀ → Held P G work64 work32
-  pub none-yet : (P : Picture) (G : Facts) → Shown P bounds recs ops pairs targets replay s (length work64₀) (length work32₀) → Held P G work64₀ work32₀ → first-plan P G (upto b) ≡ none
+-- what the chain search answers
+abbrev Chains : List ℕ → List ℕ → Sizes → List ℕ → ℕ → MaybeChain → Type 0
+Chains bounds recs s work32 x r = C.Found bounds recs (take (length work32 - (8000 + s .lent)) (drop (8000 + s .lent) work32)) x (s .blocks) r
+
+-- what it answers
+module _ {bounds recs replay : List ℕ} {s : Sizes} {work32 : List ℕ} (x k : ℕ) (ek : k ≡ x) where
+  pub looked-short : getD bounds (2 * k + 1) 0 - getD bounds (2 * k) 0 ≤ 3 → Looked bounds recs replay s work32 x Not
+  looked-short h = record { is = λ P v G. too-short P G x (let z = sized P (v .shown .lists .bounds-are) x k ek in omega arith) }
+
+  chain-is : {r : MaybeChain} (P : Picture) → Sees P bounds recs replay s work32 → Chains bounds recs s work32 x r → chain-of r ≡ chain P x
+  chain-is P v f =
+      f .is P (record { bounds-are = sym (v .shown .lists .bounds-are); recs-are = sym (v .shown .lists .recs-are); preds-are = preds-lent work32 (v .shown .lists) (v .preds) })
+
+  pub looked-none : {r : MaybeChain} → Chains bounds recs s work32 x r → r ≡ NoChain → Looked bounds recs replay s work32 x Not
+  unfolding chain-of
+  looked-none f e = record { is = λ P v G. no-chain P G x (sym (chain-is P v f) ∙ ap chain-of e) }
+
+  this-chain : {r : MaybeChain} {c : Chain} (P : Picture) → Sees P bounds recs replay s work32 → Chains bounds recs s work32 x r → r ≡ IsChain c → chain P x ≡ some (chain-in c)
+  unfolding chain-of ended
+  this-chain P v f e = sym (chain-is P v f) ∙ ap chain-of e
+
+  worth-is : {c : Chain} {b : Bool} (P : Picture) → Sees P bounds recs replay s work32 → Worth bounds recs replay c k b → b ≡ worth-a-look P x (chain-in c)
+  worth-is {c} P v w = w .is P (sym (v .shown .lists .bounds-are)) (sym (v .shown .lists .recs-are)) (sym (v .shown .replay-are)) ∙ ap (λ (y : ℕ). worth-a-look P y (chain-in c)) ek
+
+  pub looked-low : {r : MaybeChain} {c : Chain} {b : Bool} → Chains bounds recs s work32 x r → r ≡ IsChain c → Worth bounds recs replay c k b → b ≡ false → Looked bounds recs replay s work32 x Not
+  looked-low {r} {c} f e w z = record { is = λ P v G. not-worth P G x (chain-in c) (this-chain P v f e) (sym (worth-is P v w) ∙ z) }
+
+  pub looked-here : {r : MaybeChain} {c : Chain} {b : Bool} → x < s .blocks → Chains bounds recs s work32 x r → r ≡ IsChain c → Worth bounds recs replay c k b → b ≡ true
+      → Looked bounds recs replay s work32 x (Is (record { x = k; c = c }))
+  looked-here {r} {c} h f e w z = record {
+    is = λ P v. (
+      ek,
+      record {
+        x-block = subst (λ (n : ℕ). x < n) (v .shown .lists .blocks-are) h;
+        sound = subst (Sound c) (v .shown .lists .blocks-are) (subst (λ (y : MaybeChain). sound-of y (s .blocks)) e (f .sound));
+        is-chain = this-chain P v f e;
+        worth = sym (worth-is P v w) ∙ z;
+      },
+    );
+  }
+
+-- ---- the loop: no block from `from` up to b has a move
+
+pub record Passing (bounds recs replay : List ℕ) (s : Sizes) (work32 : List ℕ) (from b : ℕ) : Type 0 where
+  pub past : (P : Picture) → Sees P bounds recs replay s work32 → passed P from b
+  pub after : from ≤ b
   pub within : b ≤ s .blocks
 
-module _ {bounds recs ops pairs targets replay : List ℕ} {s : Sizes} {work64₀ work32₀ : List ℕ} where
-  pub looked-start : Looked bounds recs ops pairs targets replay s work64₀ work32₀ work64₀ work32₀ 0
-  looked-start = record { size64 = refl; size32 = refl; held = λ P G a b. b; none-yet = λ P G a b. refl; within = omega arith }
+module _ {bounds recs replay : List ℕ} {s : Sizes} {work32 : List ℕ} {from : ℕ} where
+  pub passing-start : from ≤ s .blocks → Passing bounds recs replay s work32 from from
+  passing-start h = record { past = λ P v G e. e; after = le-refl from; within = h }
 
-  module _ {work64 work32 : List ℕ} {b : ℕ} (l : Looked bounds recs ops pairs targets replay s work64₀ work32₀ work64 work32 b) where
-    pub looked-given : Given bounds recs ops pairs targets replay s work64₀ work32₀ → Given bounds recs ops pairs targets replay s work64 work32
-    looked-given g = record { P = g .P; G = g .G; shown = shown-at (l .size64) (l .size32) (g .shown); held = l .held (g .P) (g .G) (g .shown) (g .held) }
-
-    module _ {work64′ work32′ : List ℕ} where
-      pub looked-more : (x : ℕ) (r : MaybeMove) → b ≡ x → b < s .blocks → r ≡ Not → LongTried bounds recs ops pairs targets replay s work64 work32 work64′ work32′ x r
-          → Looked bounds recs ops pairs targets replay s work64₀ work32₀ work64′ work32′ (b + 1)
-      looked-more x r e h q u =
-          let t = subst (λ (o : MaybeMove). LongTried bounds recs ops pairs targets replay s work64 work32 work64′ work32′ x o) q u in
-          record {
-            size64 = t .size64 ∙ l .size64;
-            size32 = t .size32 ∙ l .size32;
-            held = λ P G sh hd. t .held P G (shown-at (l .size64) (l .size32) sh) (l .held P G sh hd);
-            none-yet = λ P G sh hd.
-                none-more P G b (l .none-yet P G sh hd)
-                (subst (λ (z : ℕ). ltb min-replay (size P z) ≡ true → try-block P G z ≡ none) (sym e) (t .is P G (shown-at (l .size64) (l .size32) sh) (l .held P G sh hd)));
-            within = omega arith;
-          }
-
-      pub looked-found : (x : ℕ) (r : MaybeMove) (mv : Move) → b ≡ x → b < s .blocks → r ≡ Is mv → LongTried bounds recs ops pairs targets replay s work64 work32 work64′ work32′ x r
-          → FirstFound bounds recs ops pairs targets replay s work64₀ work32₀ work64′ work32′ (Is mv)
-      looked-found x r mv e h q u =
-          let t = subst (λ (o : MaybeMove). LongTried bounds recs ops pairs targets replay s work64 work32 work64′ work32′ x o) q u in
-          record {
-            size64 = t .size64 ∙ l .size64;
-            size32 = t .size32 ∙ l .size32;
-            held = λ P G sh hd. t .held P G (shown-at (l .size64) (l .size32) sh) (l .held P G sh hd);
-            is = λ P G sh hd.
-                let f = t .is P G (shown-at (l .size64) (l .size32) sh) (l .held P G sh hd) in
-                let n = sh .lists .blocks-are in
-                (x, f .1, first-at P G x (nblocks P) (f .1 .a) (omega arith) (subst (λ (z : ℕ). first-plan P G (upto z) ≡ none) e (l .none-yet P G sh hd)) (f .0) (f .1 .is));
-          }
-
-    pub looked-end : s .blocks ≤ b → FirstFound bounds recs ops pairs targets replay s work64₀ work32₀ work64 work32 Not
-    looked-end h = record {
-      size64 = l .size64;
-      size32 = l .size32;
-      held = l .held;
-      is = λ P G sh hd.
-          let n = sh .lists .blocks-are in
-          let w = l .within in
-          let e : b ≡ nblocks P = omega arith in
-          subst (λ (z : ℕ). first-plan P G (upto z) ≡ none) e (l .none-yet P G sh hd);
+  module _ {b : ℕ} (l : Passing bounds recs replay s work32 from b) (x : ℕ) (e : b ≡ x) {r : MaybeLook} (u : Looked bounds recs replay s work32 x r) where
+    pub passing-more : b < s .blocks → r ≡ Not → Passing bounds recs replay s work32 from (b + 1)
+    passing-more h q = record {
+      past = λ P v G z.
+          none-more P G b (l .past P v G z)
+          (λ y. subst (λ (i : ℕ). try-block P G i ≡ none) (sym e) (subst (looked P x) q (u .is P v) G));
+      after = let a = l .after in omega arith;
+      within = omega arith;
     }
+
+    pub passing-found : {k : Look} → r ≡ Is k → Sought bounds recs replay s work32 from (Is k)
+    passing-found {k} q = record {
+      is = λ P v.
+          let w : looked P x (Is k) = subst (looked P x) q (u .is P v) in
+          let a : b ≡ k .x = e ∙ sym (w .0) in
+          (subst (λ (i : ℕ). from ≤ i) a (l .after), subst (passed P from) a (l .past P v), subst (λ (i : ℕ). Chosen P i (k .c)) (sym (w .0)) (w .1));
+    }
+
+  pub passing-end : {b : ℕ} → Passing bounds recs replay s work32 from b → s .blocks ≤ b → Sought bounds recs replay s work32 from Not
+  passing-end {b} l h = record {
+    is = λ P v. let w = l .within in let n = v .shown .lists .blocks-are in let e : b ≡ nblocks P = omega arith in subst (passed P from) e (l .past P v);
+  }

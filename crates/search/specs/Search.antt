@@ -1,21 +1,22 @@
--- 01, "A round": the search of a round, `model`'s `first-plan` and `round`; and what the call begins with. Assumes nothing.
+-- 01, "A round": what the call begins with, and the search for the next block whose chain is to be tried, of which `model`'s `first-plan`
+-- is made. Assumes nothing.
 use mathlib.Core.Path.{_≡_}
-use mathlib.Core.Bool.{true}
 use mathlib.Core.List.{List}
-use mathlib.Core.Option.{none, some}
-use Prim.Native.Nat.{ℕ}
-use lib.Dec.{ltb}
+use mathlib.Core.Option.{none}
+use Prim.Native.Nat.{ℕ, _≤_}
 use lib.ListN.{length}
-use Rattle.model.specs.Picture.{Picture, size}
+use Rattle.words.specs.Lists.{upto}
+use Rattle.model.specs.Picture.{Picture, nblocks}
 use Rattle.model.specs.Refusal.{refusal}
 use Rattle.model.specs.Analyse.{Facts, facts}
-use Rattle.model.specs.Move.{min-replay, try-block}
-use Rattle.model.specs.Pass.{round}
+use Rattle.model.specs.Move.{try-block}
+use Rattle.model.specs.Pass.{first-plan}
+use Rattle.chains.specs.Chain.{Preds}
 use Rattle.trial.specs.declared.sizes.Sizes.{Sizes}
-use Rattle.trial.specs.declared.block.MaybeMove.{MaybeMove}
-use Rattle.trial.specs.declared.block.MaybeMove.the-variants.{Is, Not}
-use Rattle.trial.specs.Work.{Shown, Begun, Held, chain-words}
-use Rattle.trial.specs.Trial.{Found}
+use Rattle.trial.specs.Work.{Shown, Begun, Held, pred-words}
+use Rattle.trial.specs.Trial.{Chosen}
+use Rattle.search.specs.declared.find.MaybeLook.{MaybeLook}
+use Rattle.search.specs.declared.find.MaybeLook.the-variants.{Is, Not}
 
 -- ---- the start of the call
 
@@ -48,30 +49,38 @@ pub record Looking (bounds recs ops pairs targets replay : List ℕ) (s : Sizes)
   pub shown : Shown P bounds recs ops pairs targets replay s (length work64) (length work32)
   pub begun : Begun P G work64 work32
 
--- the move from block x, if it is long enough
-abbrev pub long-tried : Picture → Facts → ℕ → MaybeMove → List ℕ → Type 0
-long-tried P G x (Is mv) w = (ltb min-replay (size P x) ≡ true) × Found P G x mv w
-long-tried P G x Not w = (ltb min-replay (size P x) ≡ true) → try-block P G x ≡ none
+-- these lists are those of the accepted picture P that a search from a block reads, and the words hold the predecessors
+pub record Sees (P : Picture) (bounds recs replay : List ℕ) (s : Sizes) (work32 : List ℕ) : Type 0 where
+  pub w64 : ℕ
+  pub shown : Shown P bounds recs (P .ops) (P .pairs) (P .targets) replay s w64 (length work32)
+  pub preds : Preds P (pred-words P work32) (nblocks P)
 
-pub record LongTried (bounds recs ops pairs targets replay : List ℕ) (s : Sizes) (work64 work32 work64′ work32′ : List ℕ) (x : ℕ) (r : MaybeMove) : Type 0 where
+pub record Seeking (bounds recs replay : List ℕ) (s : Sizes) (work32 : List ℕ) : Type 0 where
+  pub P : Picture
+  pub sees : Sees P bounds recs replay s work32
+
+-- one block: its chain, or it has no move, whatever the facts are
+abbrev pub looked : Picture → ℕ → MaybeLook → Type 0
+looked P x (Is k) = (k .x ≡ x) × Chosen P x (k .c)
+looked P x Not = (G : Facts) → try-block P G x ≡ none
+
+pub record Looked (bounds recs replay : List ℕ) (s : Sizes) (work32 : List ℕ) (x : ℕ) (r : MaybeLook) : Type 0 where
+  pub is : (P : Picture) → Sees P bounds recs replay s work32 → looked P x r
+
+-- no block from a up to b has a move, whatever the facts are: if those before a have none, those before b have none
+abbrev pub passed : Picture → ℕ → ℕ → Type 0
+passed P a b = (G : Facts) → first-plan P G (upto a) ≡ none → first-plan P G (upto b) ≡ none
+
+-- the first block from block `from` on
+abbrev pub sought : Picture → ℕ → MaybeLook → Type 0
+sought P from (Is k) = (from ≤ k .x) × passed P from (k .x) × Chosen P (k .x) (k .c)
+sought P from Not = passed P from (nblocks P)
+
+pub record Sought (bounds recs replay : List ℕ) (s : Sizes) (work32 : List ℕ) (from : ℕ) (r : MaybeLook) : Type 0 where
+  pub is : (P : Picture) → Sees P bounds recs replay s work32 → sought P from r
+
+-- a round's first, with live-in anew
+pub record Opened (bounds recs ops pairs targets replay : List ℕ) (s : Sizes) (work64 work32 work64′ : List ℕ) (r : MaybeLook) : Type 0 where
   pub size64 : length work64′ ≡ length work64
-  pub size32 : length work32′ ≡ length work32
-  pub held : (P : Picture) (G : Facts) → Shown P bounds recs ops pairs targets replay s (length work64) (length work32) → Held P G work64 work32 → Held P G work64′ work32′
-  pub is : (P : Picture) (G : Facts) → Shown P bounds recs ops pairs targets replay s (length work64) (length work32) → Held P G work64 work32 → long-tried P G x r (chain-words work32′)
-
--- the round's move
-abbrev pub first-found : Picture → Facts → MaybeMove → List ℕ → Type 0
-first-found P G (Is mv) w = (x : ℕ) × (f : Found P G x mv w) × (round P G ≡ some (f .a))
-first-found P G Not w = round P G ≡ none
-
-pub record FirstFound (bounds recs ops pairs targets replay : List ℕ) (s : Sizes) (work64 work32 work64′ work32′ : List ℕ) (r : MaybeMove) : Type 0 where
-  pub size64 : length work64′ ≡ length work64
-  pub size32 : length work32′ ≡ length work32
-  pub held : (P : Picture) (G : Facts) → Shown P bounds recs ops pairs targets replay s (length work64) (length work32) → Held P G work64 work32 → Held P G work64′ work32′
-  pub is : (P : Picture) (G : Facts) → Shown P bounds recs ops pairs targets replay s (length work64) (length work32) → Held P G work64 work32 → first-found P G r (chain-words work32′)
-
-pub record Searched (bounds recs ops pairs targets replay : List ℕ) (s : Sizes) (work64 work32 work64′ work32′ : List ℕ) (r : MaybeMove) : Type 0 where
-  pub size64 : length work64′ ≡ length work64
-  pub size32 : length work32′ ≡ length work32
-  pub begun : (P : Picture) (G : Facts) → Shown P bounds recs ops pairs targets replay s (length work64) (length work32) → Begun P G work64 work32 → Begun P G work64′ work32′
-  pub is : (P : Picture) (G : Facts) → Shown P bounds recs ops pairs targets replay s (length work64) (length work32) → Begun P G work64 work32 → first-found P G r (chain-words work32′)
+  pub held : (P : Picture) (G : Facts) → Shown P bounds recs ops pairs targets replay s (length work64) (length work32) → Begun P G work64 work32 → Held P G work64′ work32
+  pub is : (P : Picture) (G : Facts) → Shown P bounds recs ops pairs targets replay s (length work64) (length work32) → Begun P G work64 work32 → sought P 0 r

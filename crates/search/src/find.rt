@@ -1,100 +1,108 @@
-// The search of a round (01, "A round": "the first block, in number order, of more than 3 instructions for which a move exists").
+// The search for the next chain to be tried (01, "A round": "the first block, in number order, of more than 3 instructions for which a
+// move exists"): blocks that have no chain, or none that is worth a look, have no move. Nothing that is lent as a picture is changed.
+use chains::chain::Chain;
+use chains::chain::MaybeChain;
+use chains::chain::find_chain;
 use flow::live::live_in;
 use inst::index::BlockId;
 use inst::index::MaybeBlock;
 use inst::record::wide;
 use plan::set::Sink;
-use trial::block::MaybeMove;
-use trial::block::try_block;
 use trial::sizes::Sizes;
 use trial::sizes::width;
+use worth::look::worth_a_look;
 ghost use mathlib.Core.Path.{_≡_};
-ghost use Prim.Native.Nat.{_<_};
+ghost use Prim.Native.Nat.{_≤_, _<_};
 ghost use Rattle.inst.specs.Table.{rows};
-ghost use Rattle.trial.specs.Work.{Given};
-ghost use Rattle.search.specs.Search.{Looking, LongTried, FirstFound, Searched};
+ghost use Rattle.search.specs.Search.{Looking, Seeking, Looked, Sought, Opened};
 
-// The move from block x, if it has more than 3 instructions.
-fn try_long<'a>(
-    t: &[u32; 202],
+// A block and the chain from it, which is worth a look.
+pub struct Look {
+    pub x: usize,
+    pub c: Chain,
+}
+
+pub enum MaybeLook {
+    Is(Look),
+    Not,
+}
+
+// What stands where no chain is to be tried: a chain of no blocks, which no function takes.
+pub fn nowhere() -> Look
+    ensures { λ r. ⌜ r .c .count ≡ 0 ⌝ }
+{
+    let b = BlockId(0);
+    Look {
+        x: 0,
+        c: Chain {
+            b0: b,
+            b1: b,
+            b2: b,
+            b3: b,
+            b4: b,
+            b5: b,
+            count: 0,
+            t: b,
+            f: b,
+        },
+    }
+}
+
+// The chain from block x, if it is worth a look.
+pub fn look_from(
     bounds: &[u32],
-    recs: &'a [u32],
-    ops: &[u32],
-    pairs: &[u32],
-    targets: &'a [u32],
+    recs: &[u32],
     replay: &[u32],
-    work64: &mut [u64],
-    work32: &mut [u32],
+    work32: &[u32],
     s: Sizes,
     x: BlockId,
-) -> MaybeMove
-    requires { ⌜ (now t ≡ rows) × Given (now bounds) (now recs) (now ops) (now pairs) (now targets) (now replay) s (now work64) (now work32) × (x .0 < s .blocks) ⌝ }
-    ensures { λ r. ⌜ LongTried (now (bounds .entry)) (now (recs .entry)) (now (ops .entry)) (now (pairs .entry)) (now (targets .entry)) (now (replay .entry)) s (now (work64 .entry)) (now (work32 .entry)) (now (work64 .exit)) (now (work32 .exit)) (x .0) r ⌝ }
+) -> MaybeLook
+    requires { ⌜ Seeking (now bounds) (now recs) (now replay) s (now work32) × (x .0 < s .blocks) ⌝ }
+    ensures { λ r. ⌜ Looked (now (bounds .entry)) (now (recs .entry)) (now (replay .entry)) s (now (work32 .entry)) (x .0) r ⌝ }
 {
     let k = x.at();
     if bounds[2 * k + 1] - bounds[2 * k] <= Sink::MIN_REPLAY {
-        return MaybeMove::Not;
+        return MaybeLook::Not;
     }
-    try_block(
-        t,
-        bounds,
-        recs,
-        ops,
-        pairs,
-        targets,
-        replay,
-        work64,
-        work32,
-        s,
-        x,
-    )
+    let p = 8000 + s.lent;
+    let MaybeChain::Is(c) = find_chain(bounds, recs, &work32[p..], x, s.blocks) else {
+        return MaybeLook::Not;
+    };
+    if !worth_a_look(bounds, recs, replay, c, k, s.blocks) {
+        return MaybeLook::Not;
+    }
+    MaybeLook::Is(Look { x: k, c: c })
 }
 
-// The first move in number order.
-pub fn first_plan<'a>(
-    t: &[u32; 202],
+// The first such block in number order, from block `from` on.
+pub fn seek(
     bounds: &[u32],
-    recs: &'a [u32],
-    ops: &[u32],
-    pairs: &[u32],
-    targets: &'a [u32],
+    recs: &[u32],
     replay: &[u32],
-    work64: &mut [u64],
-    work32: &mut [u32],
+    work32: &[u32],
     s: Sizes,
-) -> MaybeMove
-    requires { ⌜ (now t ≡ rows) × Given (now bounds) (now recs) (now ops) (now pairs) (now targets) (now replay) s (now work64) (now work32) ⌝ }
-    ensures { λ r. ⌜ FirstFound (now (bounds .entry)) (now (recs .entry)) (now (ops .entry)) (now (pairs .entry)) (now (targets .entry)) (now (replay .entry)) s (now (work64 .entry)) (now (work32 .entry)) (now (work64 .exit)) (now (work32 .exit)) r ⌝ }
+    from: u32,
+) -> MaybeLook
+    requires { ⌜ Seeking (now bounds) (now recs) (now replay) s (now work32) × (from ≤ s .blocks) ⌝ }
+    ensures { λ r. ⌜ Sought (now (bounds .entry)) (now (recs .entry)) (now (replay .entry)) s (now (work32 .entry)) from r ⌝ }
 {
     let n = s.blocks;
-    let mut b = 0u32;
+    let mut b = from;
     while b < n {
         let MaybeBlock::Is(x) = BlockId::new(b, n) else {
-            return MaybeMove::Not;
+            return MaybeLook::Not;
         };
-        let r = try_long(
-            t,
-            bounds,
-            recs,
-            ops,
-            pairs,
-            targets,
-            replay,
-            work64,
-            work32,
-            s,
-            x,
-        );
-        if let MaybeMove::Is(mv) = r {
-            return MaybeMove::Is(mv);
+        let r = look_from(bounds, recs, replay, work32, s, x);
+        if let MaybeLook::Is(k) = r {
+            return MaybeLook::Is(k);
         }
         b += 1;
     }
-    MaybeMove::Not
+    MaybeLook::Not
 }
 
-// The round's move: live-in anew, then the search.
-pub fn find_move<'a>(
+// A round's first: live-in anew, then the search from block 0 on.
+pub fn first_look<'a>(
     t: &[u32; 202],
     bounds: &[u32],
     recs: &'a [u32],
@@ -103,11 +111,11 @@ pub fn find_move<'a>(
     targets: &'a [u32],
     replay: &[u32],
     work64: &mut [u64],
-    work32: &mut [u32],
+    work32: &[u32],
     s: Sizes,
-) -> MaybeMove
+) -> MaybeLook
     requires { ⌜ (now t ≡ rows) × Looking (now bounds) (now recs) (now ops) (now pairs) (now targets) (now replay) s (now work64) (now work32) ⌝ }
-    ensures { λ r. ⌜ Searched (now (bounds .entry)) (now (recs .entry)) (now (ops .entry)) (now (pairs .entry)) (now (targets .entry)) (now (replay .entry)) s (now (work64 .entry)) (now (work32 .entry)) (now (work64 .exit)) (now (work32 .exit)) r ⌝ }
+    ensures { λ r. ⌜ Opened (now (bounds .entry)) (now (recs .entry)) (now (ops .entry)) (now (pairs .entry)) (now (targets .entry)) (now (replay .entry)) s (now (work64 .entry)) (now (work32 .entry)) (now (work64 .exit)) r ⌝ }
 {
     live_in(
         work64,
@@ -119,16 +127,5 @@ pub fn find_move<'a>(
         targets,
         width(wide(s.regs)),
     );
-    first_plan(
-        t,
-        bounds,
-        recs,
-        ops,
-        pairs,
-        targets,
-        replay,
-        work64,
-        work32,
-        s,
-    )
+    seek(bounds, recs, replay, work32, s, 0)
 }

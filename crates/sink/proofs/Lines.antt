@@ -1,15 +1,16 @@
--- The lines of the rounds, six words each, and one round on. Assumes nothing.
+-- The lines of the rounds, six words each; one round on, and the chain to be tried next. Assumes nothing.
 use mathlib.Core.Path.{_≡_, refl, sym, ap, _∙_, subst}
 use mathlib.Core.List.{List, [], _∷_, _++_, append-assoc}
 use Prim.Native.Nat.{ℕ, suc, _+_, _*_, _≤_, _<_}
 use native.Mathlib.Omega.{arith}
 use lib.ListN.{length, take, set, length-set}
 use lib.Seq.{take-suc-set}
+use Rattle.search.specs.declared.find.MaybeLook.{MaybeLook}
 use Rattle.sink.specs.declared.round.Step.{Step}
-use Rattle.sink.specs.declared.round.Step.the-variants.{Goes, Short, Stays}
+use Rattle.sink.specs.declared.round.Step.the-variants.{Goes, Short}
 use Rattle.sink.specs.declared.round.Line.{Line}
 use Rattle.sink.specs.declared.rounds.At.{At}
-use Rattle.sink.specs.Rounds.{Small, Put, small, Advancing, next-at, Advanced}
+use Rattle.sink.specs.Rounds.{Small, Put, small, Advancing, gone, halted, advanced, taken-up}
 
 push : (l : List ℕ) (i j v : ℕ) (xs : List ℕ) → j ≡ suc i → i < length l → take i l ≡ xs → take j (set l i v) ≡ xs ++ (v ∷ [])
 push l i j v xs e h t = ap (λ (n : ℕ). take n (set l i v)) e ∙ take-suc-set l i v h ∙ ap (λ (ys : List ℕ). ys ++ (v ∷ [])) t
@@ -34,16 +35,18 @@ put-line i l lines h =
     let k = h .1 in
     record { size = simp length-set; put = rw e (six lines (6 * i) (i + 1) (l .moved .from) (l .moved .into) (l .moved .moved) (l .registers) (l .operands) (omega arith)) }
 
--- ---- one round on, by what it came to
+-- ---- one round on, by what its move came to
 
-pub small-line : {m : At} {r : Step} {l : Line} {lines : List ℕ} → r ≡ Goes l → Advancing m r lines → Small (m .rounds) l × (length lines ≡ 48)
+pub small-line : {m : At} {r : Step} {l : Line} → r ≡ Goes l → Advancing m r → Small (m .rounds) l × (length (m .lines) ≡ 48)
 small-line {m} e h = (subst (small (m .rounds)) e (h .line), h .long)
 
-pub advanced-goes : {m : At} {r : Step} {l : Line} {lines lines′ : List ℕ} → r ≡ Goes l → Put (m .rounds) l lines lines′ → Advanced m r lines (next-at m (Goes l)) lines′
-advanced-goes {m} {r} {l} {lines} {lines′} e h = subst (λ (s : Step). Advanced m s lines (next-at m (Goes l)) lines′) (sym e) (record { stands = refl; size = h .size; put = h })
+pub advanced-goes : (m : At) {r : Step} {l : Line} {lines : List ℕ} → r ≡ Goes l → Put (m .rounds) l (m .lines) lines → advanced m r (gone m l lines)
+advanced-goes m {r} {l} {lines} e h = subst (λ (s : Step). advanced m s (gone m l lines)) (sym e) (refl, h)
 
-pub advanced-short : {m : At} {r : Step} {lines : List ℕ} → r ≡ Short → Advanced m r lines (next-at m Short) lines
-advanced-short {m} {r} {lines} e = subst (λ (s : Step). Advanced m s lines (next-at m Short) lines) (sym e) (record { stands = refl; size = refl; put = refl })
+pub advanced-short : (m : At) {r : Step} → r ≡ Short → advanced m r (halted m)
+advanced-short m {r} e = subst (λ (s : Step). advanced m s (halted m)) (sym e) refl
 
-pub advanced-stays : {m : At} {r : Step} {lines : List ℕ} → r ≡ Stays → Advanced m r lines (next-at m Stays) lines
-advanced-stays {m} {r} {lines} e = subst (λ (s : Step). Advanced m s lines (next-at m Stays) lines) (sym e) (record { stands = refl; size = refl; put = refl })
+-- ---- the chain to be tried next
+
+pub taken-by : (m : At) {r o : MaybeLook} → r ≡ o → taken-up m o ≡ taken-up m r
+taken-by m e = ap (taken-up m) (sym e)

@@ -1,4 +1,4 @@
--- What a round is to do (01, "A round" and "Answers"): the search's move, counted, against the room that is lent. Assumes nothing.
+-- What the move of a round comes to (01, "A round" and "Answers"): it is counted, against the room that is lent. Assumes nothing.
 use mathlib.Core.Path.{_≡_, refl, sym, ap, _∙_, subst}
 use mathlib.Core.Logic.{⊎-elim}
 use mathlib.Core.Bool.{Bool, true, false, _&&_}
@@ -22,16 +22,12 @@ use Rattle.laws.proofs.Sizes as S
 use Rattle.apply.specs.declared.needs.Counts.{Counts}
 use Rattle.apply.specs.Apply.{Asks, Counted, Stands, Given}
 use Rattle.apply.proofs.Done.{asks-kept}
-use Rattle.trial.specs.declared.sizes.Sizes.{Sizes}
 use Rattle.trial.specs.declared.block.Move.{Move}
-use Rattle.trial.specs.declared.block.MaybeMove.{MaybeMove}
-use Rattle.trial.specs.declared.block.MaybeMove.the-variants.{Is, Not}
-use Rattle.trial.specs.Work.{at-stamps, Shown, Begun, chain-words}
+use Rattle.trial.specs.Work.{at-stamps, chain-words}
 use Rattle.trial.specs.Trial.{Found}
 use Rattle.sink.specs.declared.round.Line.{Line}
 use Rattle.sink.specs.declared.round.Step.{Step}
-use Rattle.sink.specs.declared.round.Step.the-variants.{Goes, Short, Stays}
-use Rattle.search.specs.Search.{Looking, Searched, first-found}
+use Rattle.sink.specs.declared.round.Step.the-variants.{Goes, Short}
 use Rattle.sink.specs.Sink.{Ready, Needing, Needed, stepped, prepared, Decided}
 use Rattle.search.proofs.Start.{rooms-of}
 use Rattle.trial.proofs.Standing.{drop-more, begun-kept, firm-front}
@@ -89,73 +85,41 @@ module _ {P : Picture} (ok : Accepted P) {G : Facts} {x : ℕ} {mv : Move} {w v 
   comes-to : (r : Step) → stepped mv c (length (P .types)) (length (P .ops)) r → prepared P G r v
   comes-to (Goes l) h = subst (λ (z : Line). prepared P G (Goes z) v) (sym (h .2)) (goes (h .0) (h .1))
   comes-to Short h = (f .a, q, no-room h)
-  comes-to Stays h = absurd h
 
--- ---- the round
+-- ---- `weigh`
 
-abbrev pub sizes-of : Picture → Sizes
-sizes-of P = record { blocks = nblocks P; insts = length (P .locs); regs = P .regs; lent = length (P .types) }
-
-module _ {P : Picture} {work64 work32 : List ℕ} (k : Ready P work64 work32) where
-  shown : Shown P (P .bounds) (P .recs) (P .ops) (P .pairs) (P .targets) (P .replay) (sizes-of P) (length work64) (length work32)
-  shown = record {
-    lists = record { accepted = k .accepted; bounds-are = refl; recs-are = refl; ops-are = refl; blocks-are = refl; insts-are = refl; regs-are = refl; lent-are = refl };
-    tabled = record { pairs-are = refl; targets-are = refl };
-    replay-are = refl;
-  }
-
+module _ {P : Picture} {work64 work32 : List ℕ} {mv : Move} (k : Ready P work64 work32 mv) where
   good : Accepted P
   good = accepted P (length work64) (length work32) (k .accepted)
-
-  pub blocks-few : nblocks P ≤ 4096
-  blocks-few = rooms-of P (length work64) (length work32) (k .accepted) .few-blocks
 
   pub ops-few : length (P .ops) ≤ 131072
   ops-few = S.few-ops P good
 
-  pub looking : Looking (P .bounds) (P .recs) (P .ops) (P .pairs) (P .targets) (P .replay) (sizes-of P) work64 work32
-  looking = record { P = P; G = k .G; shown = shown; begun = k .begun }
+  words-there : 8000 ≤ length work32
+  words-there = let r = rooms-of P (length work64) (length work32) (k .accepted) .room32 in omega arith
 
-  module _ {work64′ work32′ : List ℕ} {o : MaybeMove} (s : Searched (P .bounds) (P .recs) (P .ops) (P .pairs) (P .targets) (P .replay) (sizes-of P) work64 work32 work64′ work32′ o) where
-    pub stays : o ≡ Not → Decided P work64 work32 Stays work64′ work32′
-    stays e = record {
-      size64 = s .size64;
-      size32 = s .size32;
-      begun = λ G b. s .begun P G shown b;
-      is = λ G b. subst (λ (z : MaybeMove). first-found P G z (chain-words work32′)) e (s .is P G shown b);
-    }
+  words-long : length (chain-words work32) ≡ 8000
+  words-long = length-take-le 8000 work32 words-there
 
-    module _ {mv : Move} (e : o ≡ Is mv) where
-      move-found : (G : Facts) → Begun P G work64 work32 → first-found P G (Is mv) (chain-words work32′)
-      move-found G b = subst (λ (z : MaybeMove). first-found P G z (chain-words work32′)) e (s .is P G shown b)
-
-      words-there : 8000 ≤ length work32′
-      words-there = let r = rooms-of P (length work64) (length work32) (k .accepted) .room32 in let z = s .size32 in omega arith
-
-      words-long : length (chain-words work32′) ≡ 8000
-      words-long = length-take-le 8000 work32′ words-there
-
-      pub needing : Needing (P .bounds) (P .recs) (P .types) (P .ops) work64′ work32′ (P .regs) (P .opers) (length (P .locs)) mv
-      needing =
-          let m = move-found (k .G) (k .begun) in
-          let f = m .1 in
-          record {
-            asks = subst (λ (z : ℕ). Asks z (mv .into) (mv .inside) (mv .places) (P .regs) (P .opers) (length (P .types)) (length (P .locs)) (P .bounds) (P .recs) (P .types) (P .ops) (chain-words work32′)) (sym (f .from-is))
-                (subst (λ (z : ℕ). Asks (m .0) z (mv .inside) (mv .places) (P .regs) (P .opers) (length (P .types)) (length (P .locs)) (P .bounds) (P .recs) (P .types) (P .ops) (chain-words work32′)) (sym (f .into-is)) (asked good f words-long));
-            few-blocks = blocks-few;
-            room64 = let r = rooms-of P (length work64) (length work32) (k .accepted) .room64 in let z = s .size64 in omega arith;
-            room32 = words-there;
-          }
-
-      pub decided : {work64″ work32″ : List ℕ} {c : Counts} {r : Step}
-          → Needed (P .bounds) (P .recs) (P .locs) (P .vias) (P .types) (P .ops) work64′ work32′ (P .regs) (P .opers) mv work64″ work32″ c
-          → stepped mv c (length (P .types)) (length (P .ops)) r → Decided P work64 work32 r work64″ work32″
-      decided {work64″} {work32″} {c} {r} n h = record {
-        size64 = n .size64 ∙ s .size64;
-        size32 = n .size32 ∙ s .size32;
-        begun = λ G b.
-            let z = s .begun P G shown b in
-            begun-kept (firm-front P good (at-stamps P) work64′ work64″ (le-refl (at-stamps P)) (n .before))
-            (ap (take (2 * nblocks P)) (drop-more 8000 (8000 + length (P .types)) work32″ work32′ (omega arith) (n .behind))) z;
-        is = λ G b. let m = move-found G b in comes-to good c (m .1) words-long (n .counted) (m .2) r h;
+  pub needing : Needing (P .bounds) (P .recs) (P .types) (P .ops) work64 work32 (P .regs) (P .opers) (length (P .locs)) mv
+  needing =
+      let f = k .sure .found in
+      record {
+        asks = subst (λ (z : ℕ). Asks z (mv .into) (mv .inside) (mv .places) (P .regs) (P .opers) (length (P .types)) (length (P .locs)) (P .bounds) (P .recs) (P .types) (P .ops) (chain-words work32)) (sym (f .from-is))
+            (subst (λ (z : ℕ). Asks (k .sure .x) z (mv .inside) (mv .places) (P .regs) (P .opers) (length (P .types)) (length (P .locs)) (P .bounds) (P .recs) (P .types) (P .ops) (chain-words work32)) (sym (f .into-is)) (asked good f words-long));
+        few-blocks = rooms-of P (length work64) (length work32) (k .accepted) .few-blocks;
+        room64 = let r = rooms-of P (length work64) (length work32) (k .accepted) .room64 in omega arith;
+        room32 = words-there;
       }
+
+  pub decided : {work64′ work32′ : List ℕ} {c : Counts} {r : Step}
+      → Needed (P .bounds) (P .recs) (P .locs) (P .vias) (P .types) (P .ops) work64 work32 (P .regs) (P .opers) mv work64′ work32′ c
+      → stepped mv c (length (P .types)) (length (P .ops)) r → Decided P work64 work32 mv r work64′ work32′
+  decided {work64′} {work32′} {c} {r} n h = record {
+    size64 = n .size64;
+    size32 = n .size32;
+    begun = λ G b.
+        begun-kept (firm-front P good (at-stamps P) work64 work64′ (le-refl (at-stamps P)) (n .before))
+        (ap (take (2 * nblocks P)) (drop-more 8000 (8000 + length (P .types)) work32′ work32 (omega arith) (n .behind))) b;
+    is = λ G b. comes-to good c (b .found) words-long (n .counted) (b .first) r h;
+  }

@@ -1,4 +1,4 @@
--- One round put together (01, "A round"): what `apply` asks, from what was prepared; after the move the work slices hold for the new
+-- The move of a round put together (01, "A round"): what `apply` asks, from what was prepared; after the move the work slices hold for the new
 -- picture what the call began with; and demand 3. Assumes nothing.
 use mathlib.Core.Path.{_≡_, refl, sym, ap, _∙_, subst}
 use mathlib.Core.Bool.{Bool, true}
@@ -27,17 +27,18 @@ use Rattle.apply.specs.Apply.{Rest, picture, plan, Stands, Given, Asks, Fits, H
 use Rattle.kept.specs.Walk.{after, Keeps}
 use Rattle.kept.proofs.Stages.{last-round}
 use Rattle.kept.proofs.Answer.{kept-after}
+use Rattle.trial.specs.declared.block.Move.{Move}
 use Rattle.trial.specs.Work.{width, at-stamps, chain-words, Begun}
 use Rattle.sink.specs.declared.round.Step.{Step}
-use Rattle.sink.specs.declared.round.Step.the-variants.{Goes, Short, Stays}
+use Rattle.sink.specs.declared.round.Step.the-variants.{Goes, Short}
 use Rattle.sink.specs.declared.round.Line.{Line}
-use Rattle.sink.specs.Sink.{Ready, Says, prepared, Decided, Renewing, Renewed, next, Stepped}
+use Rattle.sink.specs.Sink.{Sure, Ready, Says, prepared, Decided, Renewing, Renewed, next, Stepped}
 use Rattle.sink.proofs.Renewal.{begun-after}
 use Rattle.sink.specs.Kept.{Kept, rounds-then, registers-then, operands-then, StepKept}
 
 -- ---- where the new names lie in the work slices
 
-module _ {P : Picture} {work64 work32 : List ℕ} (h : Ready P work64 work32) where
+module _ {P : Picture} {work64 work32 : List ℕ} {mv : Move} (h : Ready P work64 work32 mv) where
   accept : Accepted P
   accept = accepted P (length work64) (length work32) (h .accepted)
 
@@ -103,7 +104,7 @@ applies-to P {x} {t} {x′} {t′} {R′} {U′} m n w bounds recs locs vias typ
 
 -- ---- the round
 
-module _ {P : Picture} {work64 work32 work64′ work32′ : List ℕ} {r : Step} (h : Ready P work64 work32) (d : Decided P work64 work32 r work64′ work32′) where
+module _ {P : Picture} {work64 work32 work64′ work32′ : List ℕ} {mv : Move} {r : Step} (h : Ready P work64 work32 mv) (d : Decided P work64 work32 mv r work64′ work32′) where
   -- the slices are long enough still
   pub stamps-fit′ : at-stamps P + length (P .types) ≤ length work64′
   stamps-fit′ = let f = stamps-fit h in let e = d .size64 in omega arith
@@ -115,16 +116,16 @@ module _ {P : Picture} {work64 work32 work64′ work32′ : List ℕ} {r : Step}
   chain-fits′ = let f = chain-fits h in let e = d .size32 in omega arith
 
   -- a move: all that `apply` asks
-  pub goes-with : (l : Line) → r ≡ Goes l → (G : Facts) → Begun P G work64 work32 → prepared P G (Goes l) (chain-words work32′)
+  pub goes-with : (l : Line) → r ≡ Goes l → (G : Facts) → Sure P G work64 work32 mv → prepared P G (Goes l) (chain-words work32′)
   goes-with l e G b = subst (λ (s : Step). prepared P G s (chain-words work32′)) e (d .is G b)
 
   pub asked : (l : Line) → r ≡ Goes l → {R U K : ℕ} → R ≡ P .regs → U ≡ P .opers → K ≡ length (P .types)
       → Asks (l .moved .from) (l .moved .into) (l .moved .inside) (l .moved .places) R U K (length (P .locs)) (P .bounds) (P .recs) (P .types) (P .ops) (chain-words work32′)
-  asked l e eR eU eK = let z = goes-with l e (h .G) (h .begun) in asks-for (z .3 .from-is) (z .3 .into-is) eR eU eK (z .4)
+  asked l e eR eU eK = let z = goes-with l e (h .G) (h .sure) in asks-for (z .3 .from-is) (z .3 .into-is) eR eU eK (z .4)
 
   pub fitted : (l : Line) → r ≡ Goes l → {R U : ℕ} → R ≡ P .regs → U ≡ P .opers
       → Fits (l .moved .from) (l .moved .into) (l .moved .inside) (l .moved .places) R U (P .bounds) (P .recs) (P .types) (P .ops) (chain-words work32′)
-  fitted l e eR eU = let z = goes-with l e (h .G) (h .begun) in fits-for (z .3 .from-is) (z .3 .into-is) eR eU (z .5)
+  fitted l e eR eU = let z = goes-with l e (h .G) (h .sure) in fits-for (z .3 .from-is) (z .3 .into-is) eR eU (z .5)
 
   -- the first new name's place, with rows of q words; the part that is lent, and the slice with the part back
   abbrev start : ℕ → ℕ
@@ -149,7 +150,7 @@ module _ {P : Picture} {work64 work32 work64′ work32′ : List ℕ} {r : Step}
     names-behind = subst (λ (z : ℕ). take z (put-back q names) ≡ take z work64′) at-start
         (take-put (start q) (start q + length (P .types) - start q) work64′ names (let g = stamps-fit′ in let k = at-start in omega arith))
 
-    module _ (G : Facts) (b : Begun P G work64 work32) where
+    module _ (G : Facts) (b : Sure P G work64 work32 mv) where
       abbrev ready : prepared P G (Goes l) (chain-words work32′)
       ready = goes-with l e G b
 
@@ -196,47 +197,29 @@ module _ {P : Picture} {work64 work32 work64′ work32′ : List ℕ} {r : Step}
           (subst (λ (x : ℕ). Renewed bounds recs ops (put-back q names) (width (P .regs)) (width (Q .regs)) x (ready .0 .into) work64″) (says .from-is)
           (subst (λ (x : ℕ). Renewed bounds recs ops (put-back q names) (width (P .regs)) (width (Q .regs)) (l .moved .from) x work64″) (says .into-is)
           (subst (λ (x : ℕ). Renewed bounds recs ops (put-back q names) (width (P .regs)) (width x) (l .moved .from) (l .moved .into) work64″) (says .registers-are) n)))
-          (d .begun G b)
+          (d .begun G (b .begun))
 
     pub renewing : Renewing bounds recs ops (put-back q names) (P .regs) (l .registers) (l .moved .from) (l .moved .into)
-    renewing = renewing-for (h .G) (h .begun)
+    renewing = renewing-for (h .G) (h .sure)
 
     pub stepped-goes : {work64″ : List ℕ} → Renewed bounds recs ops (put-back q names) (width (P .regs)) (width (l .registers)) (l .moved .from) (l .moved .into) work64″
-        → Stepped P work64 work32 (Goes l) bounds recs locs vias types ops work64″ work32′
+        → Stepped P work64 work32 mv (Goes l) bounds recs locs vias types ops work64″ work32′
     stepped-goes n = record {
       size64 = n .size ∙ part-back q names same;
       size32 = d .size32;
       is = λ G b. let z = goes-with l e G b in (z .0, z .1, z .2, z .3, (holds G b, begun-then G b n));
     }
 
-  -- no move, or no room for it: work words alone are written
-  pub stepped-short : r ≡ Short → Stepped P work64 work32 r (P .bounds) (P .recs) (P .locs) (P .vias) (P .types) (P .ops) work64′ work32′
+  -- no room for it: work words alone are written
+  pub stepped-short : r ≡ Short → Stepped P work64 work32 mv r (P .bounds) (P .recs) (P .locs) (P .vias) (P .types) (P .ops) work64′ work32′
   stepped-short e = record {
     size64 = d .size64;
     size32 = d .size32;
     is = λ G b.
         let z : prepared P G Short (chain-words work32′) = subst (λ (s : Step). prepared P G s (chain-words work32′)) e (d .is G b) in
         subst (λ (s : Step). next P s (λ Q. Holds Q (P .bounds) (P .recs) (P .locs) (P .vias) (P .types) (P .ops) × Begun Q G work64′ work32′) G) (sym e)
-        (z .0, z .1, z .2, (record { bounds-are = refl; recs-are = refl; locs-are = refl; vias-are = refl; types-are = refl; ops-are = refl }, d .begun G b));
+        (z .0, z .1, z .2, (record { bounds-are = refl; recs-are = refl; locs-are = refl; vias-are = refl; types-are = refl; ops-are = refl }, d .begun G (b .begun)));
   }
-
-  pub stepped-stays : r ≡ Stays → Stepped P work64 work32 r (P .bounds) (P .recs) (P .locs) (P .vias) (P .types) (P .ops) work64′ work32′
-  stepped-stays e = record {
-    size64 = d .size64;
-    size32 = d .size32;
-    is = λ G b.
-        let z : prepared P G Stays (chain-words work32′) = subst (λ (s : Step). prepared P G s (chain-words work32′)) e (d .is G b) in
-        subst (λ (s : Step). next P s (λ Q. Holds Q (P .bounds) (P .recs) (P .locs) (P .vias) (P .types) (P .ops) × Begun Q G work64′ work32′) G) (sym e)
-        (z, (record { bounds-are = refl; recs-are = refl; locs-are = refl; vias-are = refl; types-are = refl; ops-are = refl }, d .begun G b));
-  }
-
-  pub stepped-still : ((l : Line) → r ≡ Goes l → ⊥) → Stepped P work64 work32 r (P .bounds) (P .recs) (P .locs) (P .vias) (P .types) (P .ops) work64′ work32′
-  stepped-still n = go r refl
-    where
-      go : (s : Step) → r ≡ s → Stepped P work64 work32 r (P .bounds) (P .recs) (P .locs) (P .vias) (P .types) (P .ops) work64′ work32′
-      go (Goes l) e = absurd (n l e)
-      go Short e = stepped-short e
-      go Stays e = stepped-stays e
 
 -- ---- demand 3
 
@@ -272,12 +255,11 @@ one-more L P n a e m f =
     ∙ sym (last-round (facts L) n L _ a (subst (λ (Z : Picture). Pass.round Z (facts L) ≡ some a) (sym e) m) (subst (λ (Z : Picture). fits Z (apply Z a) ≡ true) (sym e) f))
     ∙ ap (λ (k : ℕ). after L k .now) (sym (add-one n))
 
-module _ {P : Picture} {work64 work32 : List ℕ} {r : Step} {bounds recs locs vias types ops work64′ work32′ : List ℕ} (s : Stepped P work64 work32 r bounds recs locs vias types ops work64′ work32′) where
-  pub step-kept : StepKept P work64 work32 r (picture-of bounds recs locs vias types (registers-then r (P .regs)) ops (operands-then r (P .opers)) (P .pairs) (P .targets) (P .replay))
+module _ {P : Picture} {work64 work32 : List ℕ} {mv : Move} {r : Step} {bounds recs locs vias types ops work64′ work32′ : List ℕ} (s : Stepped P work64 work32 mv r bounds recs locs vias types ops work64′ work32′) where
+  pub step-kept : StepKept P work64 work32 mv r (picture-of bounds recs locs vias types (registers-then r (P .regs)) ops (operands-then r (P .opers)) (P .pairs) (P .targets) (P .replay))
   step-kept = record { kept = λ L n ok e b. go L n ok e r (s .is (facts L) b) }
     where
       go : (L : Picture) (n : ℕ) → refusal L (length work64) (length work32) ≡ 0 → after L n .now ≡ P → (r : Step) → next P r (λ Q. Holds Q bounds recs locs vias types ops × Begun Q (facts L) work64′ work32′) (facts L)
           → Kept L (picture-of bounds recs locs vias types (registers-then r (P .regs)) ops (operands-then r (P .opers)) (P .pairs) (P .targets) (P .replay)) (rounds-then r n)
       go L n ok e (Goes l) z = kept-of L _ (n + 1) (length work64) (length work32) ok (holds-is (apply P (z .0)) (z .4 .0) (z .3 .registers-are) (z .3 .operands-are) ∙ one-more L P n (z .0) e (z .1) (z .2))
       go L n ok e Short z = kept-of L _ n (length work64) (length work32) ok (holds-is P (z .3 .0) refl refl ∙ sym e)
-      go L n ok e Stays z = kept-of L _ n (length work64) (length work32) ok (holds-is P (z .1 .0) refl refl ∙ sym e)

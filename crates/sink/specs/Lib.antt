@@ -1,4 +1,5 @@
 pub mod Sink
 pub mod Kept
 pub mod Rounds
+pub mod Going
 pub mod Judge

@@ -1,16 +1,21 @@
--- 01, "A round", "At most 8 rounds": where the loop over the rounds stands, and what each round makes of that. Assumes nothing.
+-- 01, "A round", "At most 8 rounds": the lines of the rounds, and what a move or a chain that was found makes of where the search
+-- stands. Assumes nothing.
 use mathlib.Core.Path.{_≡_}
-use mathlib.Core.Bool.{Bool, true, false}
+use mathlib.Core.Bool.{Bool, false}
 use mathlib.Core.List.{List, [], _∷_, _++_}
 use Prim.Native.Nat.{ℕ, _+_, _*_, _<_}
 use lib.Dec.{ltb}
-use lib.ListN.{length, take}
+use lib.ListN.{length, take, replicate}
 use Rattle.model.specs.declared.Answer.{Answer}
-use Rattle.model.specs.declared.Answer.the-variants.{Done, Short}
+use Rattle.model.specs.declared.Answer.the-variants as answer
 use Rattle.model.specs.Pass.{most-rounds}
+use Rattle.trial.specs.declared.sizes.Sizes.{Sizes}
+use Rattle.search.specs.declared.find.Look.{Look}
+use Rattle.search.specs.declared.find.MaybeLook.{MaybeLook}
+use Rattle.search.specs.declared.find.MaybeLook.the-variants.{Is, Not}
 use Rattle.sink.specs.declared.round.Line.{Line}
 use Rattle.sink.specs.declared.round.Step.{Step}
-use Rattle.sink.specs.declared.round.Step.the-variants as step
+use Rattle.sink.specs.declared.round.Step.the-variants.{Goes, Short}
 use Rattle.sink.specs.declared.rounds.At.{At}
 
 -- ---- lines
@@ -30,37 +35,51 @@ pub record Put (i : ℕ) (l : Line) (lines lines′ : List ℕ) : Type 0 where
   pub size : length lines′ ≡ length lines
   pub put : take (6 * (i + 1)) lines′ ≡ take (6 * i) lines ++ line-words (i + 1) l
 
+-- ---- before the first round
+
+abbrev pub first-at : Bool → Look → Answer → Sizes → ℕ → At
+first-at on look answer s opers = record { on = on; look = look; answer = answer; rounds = 0; operands = opers; sizes = s; lines = replicate 48 0 }
+
 -- ---- one round on
 
 abbrev pub small : ℕ → Step → Type 0
-small i (step.Goes l) = Small i l
-small i step.Short = Unit {0}
-small i step.Stays = Unit {0}
+small i (Goes l) = Small i l
+small i Short = Unit {0}
 
-pub record Advancing (m : At) (r : Step) (lines : List ℕ) : Type 0 where
-  pub long : length lines ≡ 48
+pub record Advancing (m : At) (r : Step) : Type 0 where
+  pub long : length (m .lines) ≡ 48
   pub line : small (m .rounds) r
 
-abbrev pub next-at : At → Step → At
-next-at m (step.Goes l) = record { rounds = m .rounds + 1; registers = l .registers; operands = l .operands; on = ltb (m .rounds + 1) most-rounds; short = false }
-next-at m step.Short = record { rounds = m .rounds; registers = m .registers; operands = m .operands; on = false; short = true }
-next-at m step.Stays = record { rounds = m .rounds; registers = m .registers; operands = m .operands; on = false; short = false }
+-- after a move, with these lines
+abbrev pub gone : At → Line → List ℕ → At
+gone m l lines = record {
+  on = ltb (m .rounds + 1) most-rounds;
+  look = m .look;
+  answer = answer.Done (record { rounds = m .rounds + 1; registers = l .registers; operands = l .operands });
+  rounds = m .rounds + 1;
+  operands = l .operands;
+  sizes = record { blocks = m .sizes .blocks; insts = m .sizes .insts; regs = l .registers; lent = m .sizes .lent };
+  lines = lines;
+}
 
-abbrev pub lined : ℕ → Step → List ℕ → List ℕ → Type 0
-lined i (step.Goes l) lines lines′ = Put i l lines lines′
-lined i step.Short lines lines′ = lines′ ≡ lines
-lined i step.Stays lines lines′ = lines′ ≡ lines
+-- where there is no room for it
+abbrev pub halted : At → At
+halted m = record {
+  on = false;
+  look = m .look;
+  answer = answer.Short (record { rounds = m .rounds; registers = m .sizes .regs; operands = m .operands });
+  rounds = m .rounds;
+  operands = m .operands;
+  sizes = m .sizes;
+  lines = m .lines;
+}
 
-pub record Advanced (m : At) (r : Step) (lines : List ℕ) (q : At) (lines′ : List ℕ) : Type 0 where
-  pub stands : q ≡ next-at m r
-  pub size : length lines′ ≡ length lines
-  pub put : lined (m .rounds) r lines lines′
+abbrev pub advanced : At → Step → At → Type 0
+advanced m (Goes l) q = (q ≡ gone m l (q .lines)) × Put (m .rounds) l (m .lines) (q .lines)
+advanced m Short q = q ≡ halted m
 
--- ---- the answer at the end
+-- ---- the chain to be tried next
 
-abbrev pub by-room : Bool → At → Answer
-by-room true m = Short (record { rounds = m .rounds; registers = m .registers; operands = m .operands })
-by-room false m = Done (record { rounds = m .rounds; registers = m .registers; operands = m .operands })
-
-abbrev pub answer-of : At → Answer
-answer-of m = by-room (m .short) m
+abbrev pub taken-up : At → MaybeLook → At
+taken-up m (Is k) = record { on = m .on; look = k; answer = m .answer; rounds = m .rounds; operands = m .operands; sizes = m .sizes; lines = m .lines }
+taken-up m Not = record { on = false; look = m .look; answer = m .answer; rounds = m .rounds; operands = m .operands; sizes = m .sizes; lines = m .lines }

@@ -3,17 +3,17 @@
 use mathlib.Core.Path.{_≡_}
 use mathlib.Core.Bool.{true, false}
 use mathlib.Core.List.{List, []}
-use mathlib.Core.Option.{none, some}
+use mathlib.Core.Option.{some}
 use Prim.Native.Nat.{ℕ, _+_, _*_, _/_, _≤_, _<_}
 use lib.ListN.{getD, length, take, drop}
 use Rattle.words.specs.Lists.{concat, count}
 use Rattle.model.specs.declared.Answer.{Answer}
 use Rattle.model.specs.Picture.{Picture}
 use Rattle.model.specs.Refusal.{refusal}
-use Rattle.model.specs.Analyse.{Facts, facts}
+use Rattle.model.specs.Analyse.{Facts}
 use Rattle.model.specs.Move.{Plan, apply}
 use Rattle.model.specs.Pass as Pass
-use Rattle.model.specs.Pass.{Outcome, rounds, fits, sink-all}
+use Rattle.model.specs.Pass.{Outcome, rounds, fits}
 use Rattle.picture.specs.Causes.{picture-of}
 use Rattle.apply.specs.declared.needs.Counts.{Counts}
 use Rattle.apply.specs.Apply.{Holds, Stands, Given, Asks, Counted, Fits}
@@ -21,8 +21,9 @@ use Rattle.flow.specs.Drawn.{drawn}
 use Rattle.flow.specs.Live.{Rows}
 use Rattle.trial.specs.declared.block.Move.{Move}
 use Rattle.trial.specs.Work.{width, Begun, chain-words}
+use Rattle.trial.specs.Trial.{Found}
 use Rattle.sink.specs.declared.round.Step.{Step}
-use Rattle.sink.specs.declared.round.Step.the-variants.{Goes, Short, Stays}
+use Rattle.sink.specs.declared.round.Step.the-variants.{Goes, Short}
 use Rattle.sink.specs.declared.round.Line.{Line}
 
 -- what the call gives for the picture that is lent as these slices and counts, with work slices of these lengths
@@ -45,15 +46,20 @@ pub record Work (n : ℕ) (work64 work32 work64′ work32′ : List ℕ) : Type 
   pub size32 : length work32′ ≡ length work32
   pub kept : (n ≡ 0 → ⊥) → (work64′ ≡ work64) × (work32′ ≡ work32)
 
--- ---- between rounds
+-- ---- the move of a round
 
--- the picture P is accepted, and the work slices hold what the call began with
-pub record Ready (P : Picture) (work64 work32 : List ℕ) : Type 0 where
+-- by the facts G, mv is the move of the round, the words of its chain stand for it, and the work slices hold what the call began with
+pub record Sure (P : Picture) (G : Facts) (work64 work32 : List ℕ) (mv : Move) : Type 0 where
+  pub begun : Begun P G work64 work32
+  pub x : ℕ
+  pub found : Found P G x mv (chain-words work32)
+  pub first : Pass.round P G ≡ some (found .a)
+
+-- the picture P is accepted, and there are such facts
+pub record Ready (P : Picture) (work64 work32 : List ℕ) (mv : Move) : Type 0 where
   pub accepted : refusal P (length work64) (length work32) ≡ 0
   pub G : Facts
-  pub begun : Begun P G work64 work32
-
--- ---- one round
+  pub sure : Sure P G work64 work32 mv
 
 -- the move mv can be counted: the words of the chain are as the move asks, and the words for new names are there
 pub record Needing (bounds recs types ops work64 work32 : List ℕ) (regs opers insts : ℕ) (mv : Move) : Type 0 where
@@ -74,7 +80,6 @@ pub record Needed (bounds recs locs vias types ops work64 work32 : List ℕ) (re
 abbrev pub stepped : Move → Counts → ℕ → ℕ → Step → Type 0
 stepped mv c lent room (Goes l) = (c .regs ≤ lent) × (c .opers ≤ room) × (l ≡ record { moved = mv; registers = c .regs; operands = c .opers })
 stepped mv c lent room Short = c .regs ≤ lent → room < c .opers
-stepped mv c lent room Stays = ⊥
 
 -- the line says what the plan a does to P
 pub record Says (P : Picture) (a : Plan) (l : Line) : Type 0 where
@@ -84,7 +89,7 @@ pub record Says (P : Picture) (a : Plan) (l : Line) : Type 0 where
   pub registers-are : l .registers ≡ apply P a .regs
   pub operands-are : l .operands ≡ apply P a .opers
 
--- what the round is to do, and what the work slices then hold: of a move that fits, all that `apply` takes
+-- what the move comes to, and what the work slices then hold: of a move that fits, all that `apply` takes
 abbrev pub prepared : Picture → Facts → Step → List ℕ → Type 0
 prepared P G (Goes l) w =
     (a : Plan) × (Pass.round P G ≡ some a) × (fits P (apply P a) ≡ true) × Says P a l
@@ -92,13 +97,12 @@ prepared P G (Goes l) w =
     × Fits (a .x) (a .into) (l .moved .inside) (l .moved .places) (P .regs) (P .opers) (P .bounds) (P .recs) (P .types) (P .ops) w
     × Stands P a (l .moved .inside) (l .moved .places) w × Given P a (l .moved .inside) w
 prepared P G Short w = (a : Plan) × (Pass.round P G ≡ some a) × (fits P (apply P a) ≡ false)
-prepared P G Stays w = Pass.round P G ≡ none
 
-pub record Decided (P : Picture) (work64 work32 : List ℕ) (r : Step) (work64′ work32′ : List ℕ) : Type 0 where
+pub record Decided (P : Picture) (work64 work32 : List ℕ) (mv : Move) (r : Step) (work64′ work32′ : List ℕ) : Type 0 where
   pub size64 : length work64′ ≡ length work64
   pub size32 : length work32′ ≡ length work32
   pub begun : (G : Facts) → Begun P G work64 work32 → Begun P G work64′ work32′
-  pub is : (G : Facts) → Begun P G work64 work32 → prepared P G r (chain-words work32′)
+  pub is : (G : Facts) → Sure P G work64 work32 mv → prepared P G r (chain-words work32′)
 
 -- the rows of blocks from and into can be made anew: these are the lists of an accepted picture of so many registers in use
 pub record Renewing (bounds recs ops work64 : List ℕ) (was regs from into : ℕ) : Type 0 where
@@ -121,26 +125,13 @@ pub record Renewed (bounds recs ops work64 : List ℕ) (v w from into : ℕ) (wo
   pub rows : (b : ℕ) → b < length bounds / 2 → (w ≡ v → (b ≡ from → ⊥) → (b ≡ into → ⊥) → Rows (drawn bounds recs ops [] []) w b work64)
       → Rows (drawn bounds recs ops [] []) w b work64′
 
--- the picture after it, by what it was to do
+-- the picture after it, by what it came to
 abbrev pub next : Picture → Step → (Picture → Type 0) → Facts → Type 0
 next P (Goes l) F G = (a : Plan) × (Pass.round P G ≡ some a) × (fits P (apply P a) ≡ true) × Says P a l × F (apply P a)
 next P Short F G = (a : Plan) × (Pass.round P G ≡ some a) × (fits P (apply P a) ≡ false) × F P
-next P Stays F G = (Pass.round P G ≡ none) × F P
 
--- the slices and the work slices after a round, of every facts G that they were for
-pub record Stepped (P : Picture) (work64 work32 : List ℕ) (r : Step) (bounds recs locs vias types ops work64′ work32′ : List ℕ) : Type 0 where
+-- the slices and the work slices after it, of every facts G by which it is the move
+pub record Stepped (P : Picture) (work64 work32 : List ℕ) (mv : Move) (r : Step) (bounds recs locs vias types ops work64′ work32′ : List ℕ) : Type 0 where
   pub size64 : length work64′ ≡ length work64
   pub size32 : length work32′ ≡ length work32
-  pub is : (G : Facts) → Begun P G work64 work32 → next P r (λ Q. Holds Q bounds recs locs vias types ops × Begun Q G work64′ work32′) G
-
--- the rounds: all that is left of the call
-pub record Ended (P : Picture) (work64 work32 : List ℕ) (answer : Answer) (lines bounds recs locs vias types ops work64′ work32′ : List ℕ) : Type 0 where
-  pub size64 : length work64′ ≡ length work64
-  pub size32 : length work32′ ≡ length work32
-  pub did : (G : Facts) → Begun P G work64 work32 → Did (sink-all Pass.most-rounds 0 G P) answer lines bounds recs locs vias types ops
-
--- all of the call behind refusals and gates
-pub record RanAll (P : Picture) (work64 work32 : List ℕ) (answer : Answer) (lines bounds recs locs vias types ops work64′ work32′ : List ℕ) : Type 0 where
-  pub size64 : length work64′ ≡ length work64
-  pub size32 : length work32′ ≡ length work32
-  pub did : Did (sink-all Pass.most-rounds 0 (facts P) P) answer lines bounds recs locs vias types ops
+  pub is : (G : Facts) → Sure P G work64 work32 mv → next P r (λ Q. Holds Q bounds recs locs vias types ops × Begun Q G work64′ work32′) G

@@ -1,19 +1,15 @@
-// One round (01, "A round"), and what it did.
+// The move of a round (01, "A round"), once it is found, and what it comes to.
 use apply::apply;
 use apply::needs::Counts;
 use apply::needs::needs;
 use flow::rows::all_rows;
 use flow::rows::block_rows;
 use inst::record::wide;
-use search::find::find_move;
-use trial::block::MaybeMove;
 use trial::block::Move;
-use trial::sizes::Sizes;
 use trial::sizes::width;
 ghost use mathlib.Core.Path.{_≡_};
-ghost use Prim.Native.Nat.{ℕ, _≤_};
+ghost use Prim.Native.Nat.{_≤_};
 ghost use lib.ListN.{length};
-ghost use Rattle.model.specs.Analyse.{Facts};
 ghost use Rattle.inst.specs.Table.{rows};
 ghost use Rattle.picture.specs.Causes.{picture-of};
 ghost use Rattle.trial.specs.Work.{width};
@@ -27,11 +23,10 @@ pub struct Line {
     pub operands: u32,
 }
 
-// What a round comes to: a move; one that needs more room than is lent; none.
+// What the move of a round comes to: it is made; it needs more room than is lent.
 pub enum Step {
     Goes(Line),
     Short,
-    Stays,
 }
 
 // What move mv needs: the registers and operands in use after it. Its new registers are then in the words of its positions.
@@ -93,46 +88,27 @@ fn step_of(mv: Move, c: Counts, lent: usize, room: usize) -> Step
     })
 }
 
-// What the round is to do. Of what is lent, only work words are written.
-fn prepare<'a>(
+// What move mv, the round's, comes to. Of what is lent, only work words are written.
+fn weigh(
     t: &[u32; 202],
     bounds: &[u32],
-    recs: &'a [u32],
+    recs: &[u32],
     locs: &[u32],
     vias: &[u32],
     types: &[u32],
     ops: &[u32],
     pairs: &[u32],
-    targets: &'a [u32],
+    targets: &[u32],
     replay: &[u32],
     work64: &mut [u64],
     work32: &mut [u32],
     regs: u32,
     opers: u32,
+    mv: Move,
 ) -> Step
-    requires { ⌜ (now t ≡ rows) × Ready (picture-of (now bounds) (now recs) (now locs) (now vias) (now types) regs (now ops) opers (now pairs) (now targets) (now replay)) (now work64) (now work32) ⌝ }
-    ensures { λ r. ⌜ Decided (picture-of (now (bounds .entry)) (now (recs .entry)) (now (locs .entry)) (now (vias .entry)) (now (types .entry)) regs (now (ops .entry)) opers (now (pairs .entry)) (now (targets .entry)) (now (replay .entry))) (now (work64 .entry)) (now (work32 .entry)) r (now (work64 .exit)) (now (work32 .exit)) ⌝ }
+    requires { ⌜ (now t ≡ rows) × Ready (picture-of (now bounds) (now recs) (now locs) (now vias) (now types) regs (now ops) opers (now pairs) (now targets) (now replay)) (now work64) (now work32) mv ⌝ }
+    ensures { λ r. ⌜ Decided (picture-of (now (bounds .entry)) (now (recs .entry)) (now (locs .entry)) (now (vias .entry)) (now (types .entry)) regs (now (ops .entry)) opers (now (pairs .entry)) (now (targets .entry)) (now (replay .entry))) (now (work64 .entry)) (now (work32 .entry)) mv r (now (work64 .exit)) (now (work32 .exit)) ⌝ }
 {
-    let s = Sizes {
-        blocks: (bounds.len() / 2) as u32,
-        insts: locs.len(),
-        regs: regs,
-        lent: types.len(),
-    };
-    let MaybeMove::Is(mv) = find_move(
-        t,
-        bounds,
-        recs,
-        ops,
-        pairs,
-        targets,
-        replay,
-        work64,
-        work32,
-        s,
-    ) else {
-        return Step::Stays;
-    };
     let c = count_needs(
         t,
         bounds,
@@ -174,7 +150,7 @@ fn renew(
     block_rows(work64, t, bounds, recs, ops, w, into);
 }
 
-// The round.
+// The move mv, the round's.
 pub fn round(
     t: &[u32; 202],
     bounds: &mut [u32],
@@ -190,12 +166,13 @@ pub fn round(
     work32: &mut [u32],
     regs: u32,
     opers: u32,
+    mv: Move,
 ) -> Step
-    requires { ⌜ (now t ≡ rows) × Ready (picture-of (now bounds) (now recs) (now locs) (now vias) (now types) regs (now ops) opers (now pairs) (now targets) (now replay)) (now work64) (now work32) ⌝ }
-    ensures { λ r. ⌜ Stepped (picture-of (now (bounds .entry)) (now (recs .entry)) (now (locs .entry)) (now (vias .entry)) (now (types .entry)) regs (now (ops .entry)) opers (now (pairs .entry)) (now (targets .entry)) (now (replay .entry))) (now (work64 .entry)) (now (work32 .entry)) r (now (bounds .exit)) (now (recs .exit)) (now (locs .exit)) (now (vias .exit)) (now (types .exit)) (now (ops .exit)) (now (work64 .exit)) (now (work32 .exit)) ⌝ }
-    ensures { λ r. ⌜ StepKept (picture-of (now (bounds .entry)) (now (recs .entry)) (now (locs .entry)) (now (vias .entry)) (now (types .entry)) regs (now (ops .entry)) opers (now (pairs .entry)) (now (targets .entry)) (now (replay .entry))) (now (work64 .entry)) (now (work32 .entry)) r (picture-of (now (bounds .exit)) (now (recs .exit)) (now (locs .exit)) (now (vias .exit)) (now (types .exit)) (registers-then r regs) (now (ops .exit)) (operands-then r opers) (now (pairs .entry)) (now (targets .entry)) (now (replay .entry))) ⌝ }
+    requires { ⌜ (now t ≡ rows) × Ready (picture-of (now bounds) (now recs) (now locs) (now vias) (now types) regs (now ops) opers (now pairs) (now targets) (now replay)) (now work64) (now work32) mv ⌝ }
+    ensures { λ r. ⌜ Stepped (picture-of (now (bounds .entry)) (now (recs .entry)) (now (locs .entry)) (now (vias .entry)) (now (types .entry)) regs (now (ops .entry)) opers (now (pairs .entry)) (now (targets .entry)) (now (replay .entry))) (now (work64 .entry)) (now (work32 .entry)) mv r (now (bounds .exit)) (now (recs .exit)) (now (locs .exit)) (now (vias .exit)) (now (types .exit)) (now (ops .exit)) (now (work64 .exit)) (now (work32 .exit)) ⌝ }
+    ensures { λ r. ⌜ StepKept (picture-of (now (bounds .entry)) (now (recs .entry)) (now (locs .entry)) (now (vias .entry)) (now (types .entry)) regs (now (ops .entry)) opers (now (pairs .entry)) (now (targets .entry)) (now (replay .entry))) (now (work64 .entry)) (now (work32 .entry)) mv r (picture-of (now (bounds .exit)) (now (recs .exit)) (now (locs .exit)) (now (vias .exit)) (now (types .exit)) (registers-then r regs) (now (ops .exit)) (operands-then r opers) (now (pairs .entry)) (now (targets .entry)) (now (replay .entry))) ⌝ }
 {
-    let r = prepare(
+    let r = weigh(
         t,
         bounds,
         recs,
@@ -210,11 +187,12 @@ pub fn round(
         work32,
         regs,
         opers,
+        mv,
     );
     if let Step::Goes(l) = r {
         let k = types.len();
         let a = 4 * (bounds.len() / 2) * width(k) + k;
-        let mv = l.moved;
+        let m = l.moved;
         apply(
             t,
             bounds,
@@ -227,10 +205,10 @@ pub fn round(
             wide(opers),
             &mut work64[a..a + k],
             &work32[..8000],
-            mv.from,
-            mv.into,
-            mv.inside,
-            mv.places,
+            m.from,
+            m.into,
+            m.inside,
+            m.places,
         );
         renew(
             t,
@@ -240,8 +218,8 @@ pub fn round(
             work64,
             regs,
             l.registers,
-            mv.from,
-            mv.into,
+            m.from,
+            m.into,
         );
     }
     r

@@ -1,6 +1,7 @@
 -- 01, "A round": what the search for a move from a block answers, `model`'s `try-block`; the chain's words then stand for the plan, as
 -- `apply` takes it. Assumes nothing.
 use mathlib.Core.Path.{_≡_}
+use mathlib.Core.Bool.{true}
 use mathlib.Core.List.{List}
 use mathlib.Core.Option.{Option, none, some}
 use Prim.Native.Nat.{ℕ, _*_, _-_, _≤_, _<_}
@@ -8,7 +9,7 @@ use lib.ListN.{getD, length}
 use Rattle.words.specs.Lists.{count}
 use Rattle.model.specs.Picture.{Picture, absent, nblocks, size}
 use Rattle.model.specs.Analyse.{Facts}
-use Rattle.model.specs.Move.{Chain, Plan, chain, chain-places, plan, run-of, try-block}
+use Rattle.model.specs.Move.{Chain, Plan, chain, chain-places, plan, run-of, worth-a-look, try-block}
 use Rattle.pool.specs.Pool.{last-at, wrote-at}
 use Rattle.apply.specs.Apply.{Stands}
 use Rattle.trial.specs.declared.block.Move.{Move}
@@ -39,13 +40,6 @@ pub record Found (P : Picture) (G : Facts) (x : ℕ) (mv : Move) (w : List ℕ) 
 abbrev pub tried : Picture → Facts → ℕ → MaybeMove → List ℕ → Type 0
 tried P G x (Is mv) w = Found P G x mv w
 tried P G x Not w = try-block P G x ≡ none
-
--- the work slices after: of every picture and facts that they were for
-pub record Tried (bounds recs ops pairs targets replay : List ℕ) (s : Sizes) (work64 work32 work64′ work32′ : List ℕ) (x : ℕ) (r : MaybeMove) : Type 0 where
-  pub size64 : length work64′ ≡ length work64
-  pub size32 : length work32′ ≡ length work32
-  pub held : (P : Picture) (G : Facts) → Shown P bounds recs ops pairs targets replay s (length work64) (length work32) → Held P G work64 work32 → Held P G work64′ work32′
-  pub is : (P : Picture) (G : Facts) → Shown P bounds recs ops pairs targets replay s (length work64) (length work32) → Held P G work64 work32 → tried P G x r (chain-words work32′)
 
 -- ---- `try_targets`: the move along chain c, into t or else into f
 
@@ -93,17 +87,23 @@ pub record Choice (bounds recs ops pairs targets : List ℕ) (s : Sizes) (x : �
   pub is : (P : Picture) (G : Facts) → Lists P bounds recs ops s (length work64) (length work32) → Tabled P pairs targets → Held P G work64 work32
       → Along P G c work32 n → FromX P c x m → moves P G x c least m n r (chain-words work32′)
 
--- ---- `try_chain`: c is the chain from block x
+-- ---- `try_chain`
+
+-- c is the chain from block x, and worth a look
+pub record Chosen (P : Picture) (x : ℕ) (c : C.Chain) : Type 0 where
+  pub x-block : x < nblocks P
+  pub sound : Sound c (nblocks P)
+  pub is-chain : chain P x ≡ some (chain-in c)
+  pub worth : worth-a-look P x (chain-in c) ≡ true
 
 pub record Following (bounds recs ops pairs targets replay : List ℕ) (s : Sizes) (x : ℕ) (c : C.Chain) (work64 work32 : List ℕ) : Type 0 where
   pub given : Given bounds recs ops pairs targets replay s work64 work32
-  pub sound : Sound c (nblocks (given .P))
-  pub x-block : x < nblocks (given .P)
-  pub is-chain : chain (given .P) x ≡ some (chain-in c)
+  pub chosen : Chosen (given .P) x c
 
+-- the work slices after: of every picture and facts that they were for
 pub record Followed (bounds recs ops pairs targets replay : List ℕ) (s : Sizes) (x : ℕ) (c : C.Chain) (work64 work32 work64′ work32′ : List ℕ) (r : MaybeMove) : Type 0 where
   pub size64 : length work64′ ≡ length work64
   pub size32 : length work32′ ≡ length work32
   pub held : (P : Picture) (G : Facts) → Shown P bounds recs ops pairs targets replay s (length work64) (length work32) → Held P G work64 work32 → Held P G work64′ work32′
-  pub is : (P : Picture) (G : Facts) → Shown P bounds recs ops pairs targets replay s (length work64) (length work32) → Held P G work64 work32
-      → chain P x ≡ some (chain-in c) → tried P G x r (chain-words work32′)
+  pub is : (P : Picture) (G : Facts) → Shown P bounds recs ops pairs targets replay s (length work64) (length work32) → Held P G work64 work32 → Chosen P x c
+      → tried P G x r (chain-words work32′)

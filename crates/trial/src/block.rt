@@ -1,20 +1,15 @@
-// The move from a block (01, "A round"; 000's `try_block`): the chain, then its targets t, then f.
+// The move from a block along its chain (01, "A round"; 000's `try_block`): the facts, then the targets t, then f.
 use crate::learn::learn;
 use crate::sizes::Sizes;
 use crate::target::plan;
 use chains::chain::Chain;
-use chains::chain::MaybeChain;
-use chains::chain::find_chain;
-use inst::index::BlockId;
 use inst::record::wide;
 use plan::set::Sink;
 use worth::look::replays;
-use worth::look::worth_a_look;
 ghost use mathlib.Core.Path.{_≡_};
 ghost use Prim.Native.Nat.{_<_};
 ghost use Rattle.inst.specs.Table.{rows};
-ghost use Rattle.trial.specs.Work.{Given};
-ghost use Rattle.trial.specs.Trial.{Tried, Choosing, Choice, Following, Followed};
+ghost use Rattle.trial.specs.Trial.{Choosing, Choice, Following, Followed};
 
 // From and into which block; the positions of the chain that are in the first one, but for its last, and of the whole chain; how
 // many of them move.
@@ -108,8 +103,8 @@ fn try_targets<'a>(
     MaybeMove::Not
 }
 
-// The move from block x along chain c.
-fn try_chain<'a>(
+// The move from block x along chain c, which is worth a look.
+pub fn try_chain<'a>(
     t: &[u32; 202],
     bounds: &[u32],
     recs: &'a [u32],
@@ -126,9 +121,6 @@ fn try_chain<'a>(
     requires { ⌜ (now t ≡ rows) × Following (now bounds) (now recs) (now ops) (now pairs) (now targets) (now replay) s x c (now work64) (now work32) ⌝ }
     ensures { λ r. ⌜ Followed (now (bounds .entry)) (now (recs .entry)) (now (ops .entry)) (now (pairs .entry)) (now (targets .entry)) (now (replay .entry)) s x c (now (work64 .entry)) (now (work32 .entry)) (now (work64 .exit)) (now (work32 .exit)) r ⌝ }
 {
-    if !worth_a_look(bounds, recs, replay, c, x, s.blocks) {
-        return MaybeMove::Not;
-    }
     let a = c.t;
     let b = c.f;
     let n = learn(t, bounds, recs, ops, work64, work32, s, c);
@@ -149,42 +141,5 @@ fn try_chain<'a>(
         least,
         m,
         n,
-    )
-}
-
-// The move from block x.
-pub fn try_block<'a>(
-    t: &[u32; 202],
-    bounds: &[u32],
-    recs: &'a [u32],
-    ops: &[u32],
-    pairs: &[u32],
-    targets: &'a [u32],
-    replay: &[u32],
-    work64: &mut [u64],
-    work32: &mut [u32],
-    s: Sizes,
-    x: BlockId,
-) -> MaybeMove
-    requires { ⌜ (now t ≡ rows) × Given (now bounds) (now recs) (now ops) (now pairs) (now targets) (now replay) s (now work64) (now work32) × (x .0 < s .blocks) ⌝ }
-    ensures { λ r. ⌜ Tried (now (bounds .entry)) (now (recs .entry)) (now (ops .entry)) (now (pairs .entry)) (now (targets .entry)) (now (replay .entry)) s (now (work64 .entry)) (now (work32 .entry)) (now (work64 .exit)) (now (work32 .exit)) (x .0) r ⌝ }
-{
-    let k = 8000 + s.lent;
-    let MaybeChain::Is(c) = find_chain(bounds, recs, &work32[k..], x, s.blocks) else {
-        return MaybeMove::Not;
-    };
-    try_chain(
-        t,
-        bounds,
-        recs,
-        ops,
-        pairs,
-        targets,
-        replay,
-        work64,
-        work32,
-        s,
-        x.at(),
-        c,
     )
 }
