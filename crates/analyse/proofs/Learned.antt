@@ -14,14 +14,13 @@ use lib.Seq.{getD-append-seam}
 use Rattle.words.specs.Lists.{mem}
 use Rattle.words.proofs.Bools.{lt?, clash}
 use Rattle.model.specs.Picture.{Inst, inst, absent, kind, reads, writes}
-use Rattle.model.specs.Analyse.{Facts, Fact, fact, no-fact, last-writer, may-suspend, is-layout, sized}
+use Rattle.model.specs.Analyse.{Facts, Fact, fact, no-fact, last-writer, may-suspend}
 use Rattle.inst.specs.Table.{packed}
 use Rattle.inst.specs.Table as T
 use Rattle.inst.specs.declared.access.Firsts.{Firsts}
 use Rattle.inst.specs.Firsts.{Heads}
 use Rattle.inst.proofs.Firsts.{Some, all-written, all-read}
 use Rattle.effects.specs.Arms.{leads}
-use Rattle.effects.specs.Origin.{org-at}
 use Rattle.effects.specs.declared.arms.Effect.{Effect}
 use Rattle.effects.specs.declared.arms.Input.{Input}
 use Rattle.analyse.specs.declared.look.Value.{Value}

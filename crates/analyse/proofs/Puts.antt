@@ -40,12 +40,12 @@ apart : (p q j : ℕ) → (q ≡ p → ⊥) → j < 10 → (q * 10 + j < p * 10)
 apart p q j n h = ⊎-elim (λ (l : q < p). inl (omega arith)) (λ (l : p ≤ q). inr (omega (arith, n))) (lt? q p)
 
 pub put-all : (w : List ℕ) (p bits rest : ℕ) (f : F.Fact) → p * 10 + 10 ≤ length w → bits ≡ pack (f .len) (f .layout) (f .creates) (f .barrier) (f .suspends) → rest ≡ num (f .more)
-    → {w′ : List ℕ} → w′ ≡ sets w (p * 10) (f .«record» ∷ f .class ∷ f .org ∷ bits ∷ f .wrote ∷ f .from ∷ f .def ∷ f .use0 ∷ f .use1 ∷ rest ∷ []) → Put w w′ p f
+    → {w′ : List ℕ} → w′ ≡ sets w (p * 10) (f .rec ∷ f .class ∷ f .org ∷ bits ∷ f .wrote ∷ f .from ∷ f .def ∷ f .use0 ∷ f .use1 ∷ rest ∷ []) → Put w w′ p f
 unfolding cell words-of
 put-all w p bits rest f h q m {w′} ew =
     let z : w′ ≡ sets w (p * 10) (words-of f) =
-    ew ∙ ap (λ (b : ℕ). sets w (p * 10) (f .«record» ∷ f .class ∷ f .org ∷ b ∷ f .wrote ∷ f .from ∷ f .def ∷ f .use0 ∷ f .use1 ∷ rest ∷ [])) q
-    ∙ ap (λ (b : ℕ). sets w (p * 10) (f .«record» ∷ f .class ∷ f .org ∷ pack (f .len) (f .layout) (f .creates) (f .barrier) (f .suspends) ∷ f .wrote ∷ f .from ∷ f .def ∷ f .use0 ∷ f .use1 ∷ b ∷ [])) m in
+    ew ∙ ap (λ (b : ℕ). sets w (p * 10) (f .rec ∷ f .class ∷ f .org ∷ b ∷ f .wrote ∷ f .from ∷ f .def ∷ f .use0 ∷ f .use1 ∷ rest ∷ [])) q
+    ∙ ap (λ (b : ℕ). sets w (p * 10) (f .rec ∷ f .class ∷ f .org ∷ pack (f .len) (f .layout) (f .creates) (f .barrier) (f .suspends) ∷ f .wrote ∷ f .from ∷ f .def ∷ f .use0 ∷ f .use1 ∷ b ∷ [])) m in
     record {
       size = ap length z ∙ length-sets w (p * 10) (words-of f);
       inside = λ j l. ap (λ (x : List ℕ). getD x (p * 10 + j) 0) z ∙ getD-sets-in w (p * 10) (words-of f) j 0 (omega arith) l;

@@ -48,7 +48,7 @@ more x = not (eqb (x .d1) absent) || not (eqb (x .r2) absent)
 -- record g, its effect, whether it may suspend, and what it writes and reads
 unfoldable pub fact-of : ℕ → Effect → Bool → Firsts → F.Fact
 fact-of g e s x = record {
-  «record» = g;
+  rec = g;
   class = e .class;
   org = e .org;
   wrote = e .wrote;
@@ -67,7 +67,7 @@ fact-of g e s x = record {
 
 unfoldable pub words-of : F.Fact → List ℕ
 words-of f =
-    f .«record» ∷ f .class ∷ f .org ∷ pack (f .len) (f .layout) (f .creates) (f .barrier) (f .suspends) ∷ f .wrote ∷ f .from ∷ f .def ∷ f .use0 ∷ f .use1 ∷ num (f .more) ∷ []
+    f .rec ∷ f .class ∷ f .org ∷ pack (f .len) (f .layout) (f .creates) (f .barrier) (f .suspends) ∷ f .wrote ∷ f .from ∷ f .def ∷ f .use0 ∷ f .use1 ∷ num (f .more) ∷ []
 
 -- these were written at position p, and nothing else
 pub record Put (before after : List ℕ) (p : ℕ) (f : F.Fact) : Type 0 where
@@ -99,7 +99,7 @@ pub record Stands (x : F.Fact) (f : Fact) : Type 0 where
 -- x is of record g and not in the set; its numbers are small, but for the code of a Cat; where there is no more, it has all that the
 -- record writes and reads
 pub record Sized (recs ops : List ℕ) (g : ℕ) (x : F.Fact) : Type 0 where
-  pub number : x .«record» ≡ g
+  pub number : x .rec ≡ g
   pub member : x .member ≡ false
   pub org : x .org < 2004
   pub wrote : x .wrote ≤ 2004

@@ -32,7 +32,7 @@ fn put(w: &mut [u32], p: usize, f: Fact)
     let bits = flags(f);
     let rest = one(f.more);
     let b = p * 10;
-    w[b] = f.record;
+    w[b] = f.rec;
     w[b + 1] = f.class;
     w[b + 2] = f.org;
     w[b + 3] = bits;

@@ -46,7 +46,7 @@ fn fact_of(g: usize, e: Effect, stops: bool, x: Firsts) -> Fact
     ensures { λ f. ⌜ f ≡ fact-of g e stops x ⌝ }
 {
     Fact {
-        record: g as u32,
+        rec: g as u32,
         class: e.class,
         org: e.org,
         wrote: e.wrote,

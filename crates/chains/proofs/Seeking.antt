@@ -4,7 +4,7 @@ use mathlib.Core.Path.{_≡_, refl, sym, ap, _∙_}
 use Prim.Native.Nat.{ℕ, suc, _+_, _-_, _≤_, _<_}
 use native.Mathlib.Numerals.{add-one}
 use native.Mathlib.Omega.{arith}
-use lib.ListN.{getD, length, drop, drop-of-length-le}
+use lib.ListN.{length, drop, drop-of-length-le}
 use Rattle.words.specs.Lists.{range}
 use Rattle.model.specs.Picture.{Picture}
 use Rattle.model.specs.Move.{chain-places}
@@ -12,7 +12,7 @@ use Rattle.chains.specs.declared.chain.Chain.{Chain}
 use Rattle.chains.specs.declared.places.Part.{Part}
 use Rattle.chains.specs.declared.cursor.Cursor.{Cursor}
 use Rattle.chains.specs.Chain.{blocks-of, Sound}
-use Rattle.chains.specs.Places.{start-in, IsPart}
+use Rattle.chains.specs.Places.{IsPart}
 use Rattle.chains.specs.Cursor.{left-of, Inside, Standing}
 use Rattle.chains.proofs.Struct.{blocks-long}
 use Rattle.chains.proofs.Laid.{part-step}
@@ -57,14 +57,8 @@ seeking-more {bounds} {c} {B} {k₀} {g₀} {past₀} {k} {g} {past} x s q h l i
 pub first-left : (P : Picture) {bounds : List ℕ} {c : Chain} {B : ℕ} (x : Part) → Sound c B → P .bounds ≡ bounds → IsPart bounds (blocks-of c) 0 x → chain-places P (blocks-of c) ≡ left-of P (blocks-of c) 0 (x .from) (x .past)
 first-left P x s e i = block-left P 0 x e i (rw (blocks-long (s .few)) (s .few .least))
 
-pub first-inside : {bounds : List ℕ} {c : Chain} {B : ℕ} (x : Part) → Sound c B → IsPart bounds (blocks-of c) 0 x → Inside bounds c 0 (x .from) (x .past)
-first-inside x s i = block-inside x (s .few .least) i
-
 pub next-left : (P : Picture) (bs : List ℕ) (x : Cursor) → x .g < x .past → left-of P bs (x .k) (x .g) (x .past) ≡ x .g ∷ left-of P bs (x .k) (x .g + 1) (x .past)
 next-left P bs x h = one-left P bs (x .k) (x .g) (x .past) h
-
-pub next-inside : {bounds : List ℕ} {c : Chain} {x : Cursor} → Standing bounds c x → x .g < x .past → Inside bounds c (x .k) (x .g + 1) (x .past)
-next-inside s h = record { block = s .inside .block; order = omega arith; fits = s .inside .fits }
 
 -- where the records of its block are at their end, no position is left
 pub nothing-left : (P : Picture) {bounds : List ℕ} {c : Chain} {B : ℕ} {x : Cursor} → Sound c B → Standing bounds c x → x .past ≤ x .g → left-of P (blocks-of c) (x .k) (x .g) (x .past) ≡ []

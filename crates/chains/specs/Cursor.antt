@@ -1,5 +1,4 @@
 -- The positions of a chain one by one: what is left of them from a place on. Assumes nothing.
-use mathlib.Core.Path.{_≡_}
 use mathlib.Core.List.{List, _++_}
 use Prim.Native.Nat.{ℕ, _+_, _-_, _≤_, _<_}
 use lib.ListN.{getD, drop}

@@ -6,7 +6,7 @@ use Rattle.facts.specs.declared.Fact.{Fact}
 abbrev pub no-fact : Fact
 no-fact =
     record {
-      «record» = 0;
+      rec = 0;
       class = 0;
       org = 0;
       wrote = 0;
@@ -27,7 +27,7 @@ no-fact =
 abbrev pub marked : Fact → Bool → Fact
 marked f b =
     record {
-      «record» = f .«record»;
+      rec = f .rec;
       class = f .class;
       org = f .org;
       wrote = f .wrote;

@@ -9,7 +9,7 @@ ghost use Rattle.facts.specs.Marks.{no-fact, marked, cleared};
 // first register it writes and the first two it reads, or absent; whether it reads or writes more; whether its value is a length, and
 // it a layout; whether it creates, is a barrier, may suspend; and whether it is in the set.
 pub struct Fact {
-    pub record: u32,
+    pub rec: u32,
     pub class: u32,
     pub org: u32,
     pub wrote: u32,

@@ -108,7 +108,7 @@ same-length : tie.Need-same-length
 same-length c = simp length-set
 
 returns : tie.Need-returns
-returns c = let a = c .before .before .before .args in put-all _ _ _ _ (a .f) (c .before .before .before .pre) (c .before .flags .ensures) (c .one .ensures .0) (ten (now (a .w)) (a .p * 10) (a .f .«record») (a .f .class) (a .f .org) (c .before .flags .result) (a .f .wrote) (a .f .from) (a .f .def) (a .f .use0) (a .f .use1) (c .one .result))
+returns c = let a = c .before .before .before .args in put-all _ _ _ _ (a .f) (c .before .before .before .pre) (c .before .flags .ensures) (c .one .ensures .0) (ten (now (a .w)) (a .p * 10) (a .f .rec) (a .f .class) (a .f .org) (c .before .flags .result) (a .f .wrote) (a .f .from) (a .f .def) (a .f .use0) (a .f .use1) (c .one .result))
 
 pub put-spec : {M : Type 1} → statement M
 put-spec =

@@ -1,5 +1,4 @@
 -- `analyse::marks::mark_record` meets its contract. Assumes nothing.
-use native.Mathlib.Omega.{arith}
 use Rattle.model.specs.Picture.{inst}
 use Rattle.inst.proofs.Firsts.{all-written}
 use Rattle.analyse.proofs.Marking.{marked-twice}

@@ -1,6 +1,6 @@
 -- `chains::cursor::first` meets its contract. Assumes nothing.
 use mathlib.Core.Path.{_∙_}
-use Rattle.chains.proofs.Seeking.{first-left, first-inside}
+use Rattle.chains.proofs.Seeking.{first-left}
 use borrow.Author.Needs.{needs}
 use Rattle.chains.proofs.cursor.first.Statement.{statement}
 use Rattle.chains.proofs.cursor.first.Tie as tie

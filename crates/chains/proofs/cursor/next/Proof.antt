@@ -2,9 +2,8 @@
 use mathlib.Core.Path.{ap, _∙_}
 use mathlib.Core.List.{List, _∷_}
 use Prim.Native.Nat.{ℕ}
-use native.Mathlib.Omega.{arith}
 use Rattle.chains.specs.Chain.{blocks-of}
-use Rattle.chains.proofs.Seeking.{next-left, next-inside}
+use Rattle.chains.proofs.Seeking.{next-left}
 use borrow.Author.Needs.{needs}
 use Rattle.chains.proofs.cursor.next.Statement.{statement}
 use Rattle.chains.proofs.cursor.next.Tie as tie

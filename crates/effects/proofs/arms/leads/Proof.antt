@@ -1,5 +1,4 @@
 -- `effects::arms::leads` meets its contract. Assumes nothing.
-use mathlib.Core.Path.{refl}
 use borrow.Author.Tests.{eq-eqb, ne-eqb}
 use Rattle.effects.specs.Arms.{leads}
 use Rattle.effects.proofs.arms.leads.Statement.{statement}
