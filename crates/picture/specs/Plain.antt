@@ -32,7 +32,7 @@ usual R u i = ltb u 256 && eqb (getD i 6 0) absent && not (odd-slot R u i 0 || (
 unfoldable pub plain : ℕ → Inst → Bool
 plain R i = cond (ltb 100 (getD i 0 0)) false (cond (simple (packed (kind i)) (form i) && bare i) (usual R (uses-of i) i) false)
 
--- the n records from p on are so up to q
+-- of n records, all from p up to q are so; q need not be the first that is not: who stops early only looks at more records
 pub record Skipped (R : ℕ) (recs : List ℕ) (n p q : ℕ) : Type 0 where
   pub from : p ≤ q
   pub upto : q ≤ n

@@ -77,7 +77,7 @@ pub fn plain(t: &[u32; 202], recs: &[u32], p: usize, regs: u32) -> bool
     false
 }
 
-// The first of n records from p on that is not so, or n.
+// Past such records: of n, all from p up to the answer are so.
 pub fn skip(t: &[u32; 202], recs: &[u32], n: usize, regs: u32, p: usize) -> usize
     requires { ⌜ (now t ≡ rows) × (16 * n ≤ length (now recs)) × (p ≤ n) ⌝ }
     ensures { λ q. ⌜ Skipped regs (now (recs .entry)) n p q ⌝ }
