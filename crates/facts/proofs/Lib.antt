@@ -1,1 +1,16 @@
+pub mod Again
+pub mod Args
+pub mod Both
+pub mod Cells
 pub mod Element
+pub mod Lent
+pub mod Local
+pub mod Own
+pub mod OwnRef
+pub mod Params
+pub mod Part
+pub mod PartAs
+pub mod Refs
+pub mod Spots
+pub mod Turns
+pub mod Walks
