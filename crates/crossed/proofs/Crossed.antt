@@ -17,7 +17,7 @@ use Rattle.crossed.specs.Rows10.{rows10}
 use Rattle.crossed.specs.Rows11.{rows11}
 
 abbrev answered : Row → Outcome
-answered w = sink (w .what) (w .w64) (w .w32)
+answered w = sink (w .what) (w .w64) (w .w32) (w .nf)
 
 pub page1 : map answered rows1 ≡ map (λ w. w .gives) rows1
 page1 = refl

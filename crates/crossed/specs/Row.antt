@@ -8,11 +8,13 @@ use Rattle.model.specs.declared.Answer.the-variants.{Done, Short, Refused}
 use Rattle.model.specs.Picture.{Picture, Inst}
 use Rattle.model.specs.Pass.{Outcome, ends-in}
 
--- the picture lent, the lengths of the two work slices, and what the call gives: the answer, the lines, and the whole picture
+-- the picture lent, the lengths of the two work slices, the records lent, and what the call gives: the answer, the lines, and the
+-- whole picture
 pub record Row : Type 0 where
   pub what : Picture
   pub w64 : ℕ
   pub w32 : ℕ
+  pub nf : ℕ
   pub gives : Outcome
 
 -- words lent, of which so many are in use
@@ -103,9 +105,9 @@ abbrev pub refused : ℕ → Answer
 refused n = Refused n
 
 -- some rounds: the answer, the lines, and what is left
-abbrev pub moves : Picture → ℕ → ℕ → Answer → List (List ℕ) → Picture → Row
-moves P w64 w32 a ls Q = record { what = P; w64 = w64; w32 = w32; gives = record { answer = a; lines = ls; left = Q } }
+abbrev pub moves : Picture → ℕ → ℕ → ℕ → Answer → List (List ℕ) → Picture → Row
+moves P w64 w32 nf a ls Q = record { what = P; w64 = w64; w32 = w32; nf = nf; gives = record { answer = a; lines = ls; left = Q } }
 
 -- it is left as it was: no round, or a refusal
-abbrev pub stays : Picture → ℕ → ℕ → Answer → Row
-stays P w64 w32 a = record { what = P; w64 = w64; w32 = w32; gives = ends-in a P }
+abbrev pub stays : Picture → ℕ → ℕ → ℕ → Answer → Row
+stays P w64 w32 nf a = record { what = P; w64 = w64; w32 = w32; nf = nf; gives = ends-in a P }

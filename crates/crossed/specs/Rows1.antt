@@ -34,7 +34,7 @@ s1-lent =
     (beside [] [] (6 ∷ 4 ∷ 8 ∷ 2 ∷ []))
 
 abbrev pub s1 : Row
-s1 = stays s1-lent 62 8248 (done 0 9 5)
+s1 = stays s1-lent 62 8248 800 (done 0 9 5)
 
 -- seed 2: chain of 2, done 1, moves with replay, moves without vias, new Sig, new list, target after x, target t
 abbrev pub s2-lent : Picture
@@ -77,7 +77,7 @@ s2-left =
     (beside [] [] (1 ∷ 2 ∷ 7 ∷ []))
 
 abbrev pub s2 : Row
-s2 = moves s2-lent 64 8256 (done 1 12 5) ((1 ∷ 0 ∷ 5 ∷ 5 ∷ 12 ∷ 5 ∷ []) ∷ []) s2-left
+s2 = moves s2-lent 64 8256 800 (done 1 12 5) ((1 ∷ 0 ∷ 5 ∷ 5 ∷ 12 ∷ 5 ∷ []) ∷ []) s2-left
 
 -- seed 3: a register reused, chain of 1, done 1, empty target, moves with vias, moves without replay, target before
 -- x, target t
@@ -122,7 +122,7 @@ s3-left =
     (beside [] [] [])
 
 abbrev pub s3 : Row
-s3 = moves s3-lent 58 8232 (done 1 11 0) ((1 ∷ 5 ∷ 2 ∷ 9 ∷ 11 ∷ 0 ∷ []) ∷ []) s3-left
+s3 = moves s3-lent 58 8232 800 (done 1 11 0) ((1 ∷ 5 ∷ 2 ∷ 9 ∷ 11 ∷ 0 ∷ []) ∷ []) s3-left
 
 -- seed 4: 2 members are too few, done 0, rule 6 decides
 abbrev pub s4-lent : Picture
@@ -141,7 +141,7 @@ s4-lent =
     (beside [] [] (1 ∷ []))
 
 abbrev pub s4 : Row
-s4 = stays s4-lent 30 8120 (done 0 9 4)
+s4 = stays s4-lent 30 8120 800 (done 0 9 4)
 
 -- seed 5: short 0, short by an operand
 abbrev pub s5-lent : Picture
@@ -159,7 +159,7 @@ s5-lent =
     (beside [] [] (3 ∷ []))
 
 abbrev pub s5 : Row
-s5 = stays s5-lent 40 8160 (short 0 9 1)
+s5 = stays s5-lent 40 8160 800 (short 0 9 1)
 
 -- seed 9: done 0, rule 2 decides
 abbrev pub s9-lent : Picture
@@ -183,7 +183,7 @@ s9-lent =
     (beside [] [] [])
 
 abbrev pub s9 : Row
-s9 = stays s9-lent 48 8192 (done 0 10 5)
+s9 = stays s9-lent 48 8192 800 (done 0 10 5)
 
 -- seed 10: a register reused, chain of 1, chain of 2, done 2, moves with vias, moves without replay, new list, target
 -- after x, target t
@@ -226,7 +226,7 @@ s10-left =
     (beside [] [] [])
 
 abbrev pub s10 : Row
-s10 = moves s10-lent 60 8240 (done 2 15 10) ((1 ∷ 0 ∷ 2 ∷ 11 ∷ 11 ∷ 7 ∷ []) ∷ (2 ∷ 2 ∷ 3 ∷ 11 ∷ 15 ∷ 10 ∷ []) ∷ []) s10-left
+s10 = moves s10-lent 60 8240 800 (done 2 15 10) ((1 ∷ 0 ∷ 2 ∷ 11 ∷ 11 ∷ 7 ∷ []) ∷ (2 ∷ 2 ∷ 3 ∷ 11 ∷ 15 ∷ 10 ∷ []) ∷ []) s10-left
 
 -- seed 12: done 0, gated
 abbrev pub s12-lent : Picture
@@ -256,7 +256,7 @@ s12-lent =
     (beside [] [] (9 ∷ 10 ∷ 12 ∷ 3 ∷ []))
 
 abbrev pub s12 : Row
-s12 = stays s12-lent 76 8304 (done 0 7 1)
+s12 = stays s12-lent 76 8304 800 (done 0 7 1)
 
 -- seed 15: done 0, rule 1 decides, rule 6 decides
 abbrev pub s15-lent : Picture
@@ -277,7 +277,7 @@ s15-lent =
     (beside [] [] [])
 
 abbrev pub s15 : Row
-s15 = stays s15-lent 32 8128 (done 0 10 10)
+s15 = stays s15-lent 32 8128 800 (done 0 10 10)
 
 -- seed 16: chain of 5, done 1, moves with replay, moves without vias, rule 1 decides, rule 2 decides, target after x,
 -- target f, target renamed
@@ -322,7 +322,7 @@ s16-left =
     (beside [] [] (6 ∷ 12 ∷ 6 ∷ []))
 
 abbrev pub s16 : Row
-s16 = moves s16-lent 64 8256 (done 1 12 0) ((1 ∷ 1 ∷ 6 ∷ 4 ∷ 12 ∷ 0 ∷ []) ∷ []) s16-left
+s16 = moves s16-lent 64 8256 800 (done 1 12 0) ((1 ∷ 1 ∷ 6 ∷ 4 ∷ 12 ∷ 0 ∷ []) ∷ []) s16-left
 
 abbrev pub rows1 : List Row
 rows1 =

@@ -25,7 +25,7 @@ d23-lent =
     (beside [] [] (1 ∷ [])))
 
 abbrev pub d23 : Row
-d23 = stays d23-lent 30 8120 (refused 3)
+d23 = stays d23-lent 30 8120 800 (refused 3)
 
 -- seed 4, the last block ends past the code: refused 3
 abbrev pub d24-lent : Picture
@@ -43,7 +43,7 @@ d24-lent =
     (beside [] [] (1 ∷ [])))
 
 abbrev pub d24 : Row
-d24 = stays d24-lent 30 8120 (refused 3)
+d24 = stays d24-lent 30 8120 800 (refused 3)
 
 -- seed 4, code behind the last block: refused 3
 abbrev pub d25-lent : Picture
@@ -61,7 +61,7 @@ d25-lent =
     (beside [] [] (1 ∷ [])))
 
 abbrev pub d25 : Row
-d25 = stays d25-lent 30 8120 (refused 3)
+d25 = stays d25-lent 30 8120 800 (refused 3)
 
 -- seed 4, kind 101: refused 4
 abbrev pub d27-lent : Picture
@@ -80,7 +80,7 @@ d27-lent =
     (beside [] [] (1 ∷ []))
 
 abbrev pub d27 : Row
-d27 = stays d27-lent 30 8120 (refused 4)
+d27 = stays d27-lent 30 8120 800 (refused 4)
 
 -- seed 4, kind 4294967295: refused 4
 abbrev pub d28-lent : Picture
@@ -99,7 +99,7 @@ d28-lent =
     (beside [] [] (1 ∷ []))
 
 abbrev pub d28 : Row
-d28 = stays d28-lent 30 8120 (refused 4)
+d28 = stays d28-lent 30 8120 800 (refused 4)
 
 -- seed 4, a form past the last: refused 4
 abbrev pub d29-lent : Picture
@@ -118,7 +118,7 @@ d29-lent =
     (beside [] [] (1 ∷ []))
 
 abbrev pub d29 : Row
-d29 = stays d29-lent 30 8120 (refused 4)
+d29 = stays d29-lent 30 8120 800 (refused 4)
 
 -- seed 4, Load or Store of form 0: refused 4
 abbrev pub d30-lent : Picture
@@ -137,7 +137,7 @@ d30-lent =
     (beside [] [] (1 ∷ []))
 
 abbrev pub d30 : Row
-d30 = stays d30-lent 30 8120 (refused 4)
+d30 = stays d30-lent 30 8120 800 (refused 4)
 
 -- seed 4, scalars 65,536: refused 4
 abbrev pub d31-lent : Picture
@@ -156,7 +156,7 @@ d31-lent =
     (beside [] [] (1 ∷ []))
 
 abbrev pub d31 : Row
-d31 = stays d31-lent 30 8120 (refused 4)
+d31 = stays d31-lent 30 8120 800 (refused 4)
 
 -- seed 4, a register R: refused 5
 abbrev pub d33-lent : Picture
@@ -175,7 +175,7 @@ d33-lent =
     (beside [] [] (1 ∷ []))
 
 abbrev pub d33 : Row
-d33 = stays d33-lent 30 8120 (refused 5)
+d33 = stays d33-lent 30 8120 800 (refused 5)
 
 -- seed 4, a slot present that is not visited: refused 5
 abbrev pub d35-lent : Picture
@@ -194,7 +194,7 @@ d35-lent =
     (beside [] [] (1 ∷ []))
 
 abbrev pub d35 : Row
-d35 = stays d35-lent 30 8120 (refused 5)
+d35 = stays d35-lent 30 8120 800 (refused 5)
 
 -- seed 4, a slot absent that is visited: refused 5
 abbrev pub d36-lent : Picture
@@ -213,7 +213,7 @@ d36-lent =
     (beside [] [] (1 ∷ []))
 
 abbrev pub d36 : Row
-d36 = stays d36-lent 30 8120 (refused 5)
+d36 = stays d36-lent 30 8120 800 (refused 5)
 
 -- seed 4, 4294967294 where a slot may be absent: refused 5
 abbrev pub d37-lent : Picture
@@ -232,7 +232,7 @@ d37-lent =
     (beside [] [] (1 ∷ []))
 
 abbrev pub d37 : Row
-d37 = stays d37-lent 30 8120 (refused 5)
+d37 = stays d37-lent 30 8120 800 (refused 5)
 
 -- seed 787, one of two part registers: refused 5
 abbrev pub d38-lent : Picture
@@ -252,7 +252,7 @@ d38-lent =
     (beside [] [] (3 ∷ 7 ∷ 3 ∷ []))
 
 abbrev pub d38 : Row
-d38 = stays d38-lent 38 8152 (refused 5)
+d38 = stays d38-lent 38 8152 800 (refused 5)
 
 -- seed 4, a list on a kind without one: refused 6
 abbrev pub d39-lent : Picture
@@ -271,7 +271,7 @@ d39-lent =
     (beside [] [] (1 ∷ []))
 
 abbrev pub d39 : Row
-d39 = stays d39-lent 30 8120 (refused 6)
+d39 = stays d39-lent 30 8120 800 (refused 6)
 
 -- seed 4, a list start on a kind without one: refused 6
 abbrev pub d40-lent : Picture
@@ -290,7 +290,7 @@ d40-lent =
     (beside [] [] (1 ∷ []))
 
 abbrev pub d40 : Row
-d40 = stays d40-lent 30 8120 (refused 6)
+d40 = stays d40-lent 30 8120 800 (refused 6)
 
 -- seed 4, a list past the operands: refused 6
 abbrev pub d41-lent : Picture
@@ -309,7 +309,7 @@ d41-lent =
     (beside [] [] (1 ∷ []))
 
 abbrev pub d41 : Row
-d41 = stays d41-lent 30 8120 (refused 6)
+d41 = stays d41-lent 30 8120 800 (refused 6)
 
 -- seed 4, an empty list past the operands: refused 6
 abbrev pub d42-lent : Picture
@@ -328,7 +328,7 @@ d42-lent =
     (beside [] [] (1 ∷ []))
 
 abbrev pub d42 : Row
-d42 = stays d42-lent 30 8120 (refused 6)
+d42 = stays d42-lent 30 8120 800 (refused 6)
 
 -- seed 4, start and length that wrap round: refused 6
 abbrev pub d44-lent : Picture
@@ -347,7 +347,7 @@ d44-lent =
     (beside [] [] (1 ∷ []))
 
 abbrev pub d44 : Row
-d44 = stays d44-lent 30 8120 (refused 6)
+d44 = stays d44-lent 30 8120 800 (refused 6)
 
 abbrev pub rows10 : List Row
 rows10 =

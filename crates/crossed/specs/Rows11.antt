@@ -26,7 +26,7 @@ d45-lent =
     (beside [] [] (1 ∷ []))
 
 abbrev pub d45 : Row
-d45 = stays d45-lent 30 8120 (refused 6)
+d45 = stays d45-lent 30 8120 800 (refused 6)
 
 -- seed 5, a Br to no block: refused 7
 abbrev pub d47-lent : Picture
@@ -44,7 +44,7 @@ d47-lent =
     (beside [] [] (3 ∷ []))
 
 abbrev pub d47 : Row
-d47 = stays d47-lent 40 8160 (refused 7)
+d47 = stays d47-lent 40 8160 800 (refused 7)
 
 -- seed 4, a CondBr's t to no block: refused 7
 abbrev pub d48-lent : Picture
@@ -63,7 +63,7 @@ d48-lent =
     (beside [] [] (1 ∷ []))
 
 abbrev pub d48 : Row
-d48 = stays d48-lent 30 8120 (refused 7)
+d48 = stays d48-lent 30 8120 800 (refused 7)
 
 -- seed 4, a CondBr's f to no block: refused 7
 abbrev pub d49-lent : Picture
@@ -82,7 +82,7 @@ d49-lent =
     (beside [] [] (1 ∷ []))
 
 abbrev pub d49 : Row
-d49 = stays d49-lent 30 8120 (refused 7)
+d49 = stays d49-lent 30 8120 800 (refused 7)
 
 -- seed 4, a case target that is no block, in no pair: refused 7
 abbrev pub d50-lent : Picture
@@ -101,7 +101,7 @@ d50-lent =
     (beside [] (3 ∷ []) (1 ∷ []))
 
 abbrev pub d50 : Row
-d50 = stays d50-lent 30 8120 (refused 7)
+d50 = stays d50-lent 30 8120 800 (refused 7)
 
 -- seed 4, an empty case pair: refused 7
 abbrev pub d51-lent : Picture
@@ -120,7 +120,7 @@ d51-lent =
     (beside (0 ∷ 0 ∷ []) [] (1 ∷ []))
 
 abbrev pub d51 : Row
-d51 = stays d51-lent 30 8120 (refused 7)
+d51 = stays d51-lent 30 8120 800 (refused 7)
 
 -- seed 4, a case pair past its targets: refused 7
 abbrev pub d52-lent : Picture
@@ -139,7 +139,7 @@ d52-lent =
     (beside (0 ∷ 1 ∷ []) [] (1 ∷ []))
 
 abbrev pub d52 : Row
-d52 = stays d52-lent 30 8120 (refused 7)
+d52 = stays d52-lent 30 8120 800 (refused 7)
 
 -- seed 4, a Cat list of 34: refused 8
 abbrev pub d54-lent : Picture
@@ -158,7 +158,7 @@ d54-lent =
     (beside [] [] (1 ∷ []))
 
 abbrev pub d54 : Row
-d54 = stays d54-lent 30 8120 (refused 8)
+d54 = stays d54-lent 30 8120 800 (refused 8)
 
 -- seed 4, a type in use of 8: refused 9
 abbrev pub d56-lent : Picture
@@ -177,7 +177,7 @@ d56-lent =
     (beside [] [] (1 ∷ []))
 
 abbrev pub d56 : Row
-d56 = stays d56-lent 30 8120 (refused 9)
+d56 = stays d56-lent 30 8120 800 (refused 9)
 
 -- a work slice one word too short: refused 10
 abbrev pub w64-lent : Picture
@@ -196,7 +196,7 @@ w64-lent =
     (beside [] [] (1 ∷ []))
 
 abbrev pub w64 : Row
-w64 = stays w64-lent 29 8120 (refused 10)
+w64 = stays w64-lent 29 8120 800 (refused 10)
 
 -- a work slice one word too short: refused 10
 abbrev pub w32-lent : Picture
@@ -215,9 +215,28 @@ w32-lent =
     (beside [] [] (1 ∷ []))
 
 abbrev pub w32 : Row
-w32 = stays w32-lent 30 8119 (refused 10)
+w32 = stays w32-lent 30 8119 800 (refused 10)
+
+-- 799 records: refused 10
+abbrev pub few-lent : Picture
+few-lent =
+    pic (
+    (op Const 0 (8 ∷ []) [] (absent ∷ 4294967039 ∷ 0 ∷ 1 ∷ 8 ∷ 3 ∷ 5 ∷ []) ∷ op Alloc 0 (4 ∷ 8 ∷ []) [] []
+    ∷ op Cat 0 (4 ∷ 8 ∷ 8 ∷ []) (0 ∷ 3 ∷ []) (45817 ∷ []) ∷ op SigVal 0 (7 ∷ 8 ∷ 8 ∷ []) [] []
+    ∷ op Store 2 (4 ∷ 8 ∷ []) [] [] ∷ op Index 0 (3 ∷ 4 ∷ 8 ∷ []) [] [] ∷ op Bin 4 (2 ∷ 8 ∷ 0 ∷ []) [] []
+    ∷ op CondBr 0 (1 ∷ []) [] (1 ∷ []) ∷ [])
+    ∷ (op Bin 4 (0 ∷ 8 ∷ 4 ∷ []) [] [] ∷ op CallNative 0 [] (3 ∷ 1 ∷ []) [] ∷ op Ret 0 (8 ∷ []) [] [] ∷ [])
+    ∷ (op Cat 0 (1 ∷ 1 ∷ 1 ∷ []) [] [] ∷ [])
+    ∷ [])
+    (at (upto 12) [])
+    (registers 9 (1 ∷ 0 ∷ 0 ∷ 0 ∷ 2 ∷ 0 ∷ 0 ∷ 1 ∷ 0 ∷ []))
+    (operands 4 (8 ∷ 4 ∷ 4 ∷ 7 ∷ []))
+    (beside [] [] (1 ∷ []))
+
+abbrev pub few : Row
+few = stays few-lent 30 8120 799 (refused 10)
 
 abbrev pub rows11 : List Row
 rows11 =
-    d45 ∷ d47 ∷ d48 ∷ d49 ∷ d50 ∷ d51 ∷ d52 ∷ d54 ∷ d56 ∷ w64 ∷ w32
+    d45 ∷ d47 ∷ d48 ∷ d49 ∷ d50 ∷ d51 ∷ d52 ∷ d54 ∷ d56 ∷ w64 ∷ w32 ∷ few
     ∷ []

@@ -60,7 +60,7 @@ s17-left =
     (beside [] [] (1 ∷ 9 ∷ []))
 
 abbrev pub s17 : Row
-s17 = moves s17-lent 76 8304 (done 2 16 0) ((1 ∷ 7 ∷ 9 ∷ 6 ∷ 12 ∷ 0 ∷ []) ∷ (2 ∷ 9 ∷ 1 ∷ 6 ∷ 16 ∷ 0 ∷ []) ∷ []) s17-left
+s17 = moves s17-lent 76 8304 800 (done 2 16 0) ((1 ∷ 7 ∷ 9 ∷ 6 ∷ 12 ∷ 0 ∷ []) ∷ (2 ∷ 9 ∷ 1 ∷ 6 ∷ 16 ∷ 0 ∷ []) ∷ []) s17-left
 
 -- seed 21: a register reused, chain of 4, done 1, moves with replay, moves without vias, new Sig, new list, rule 2
 -- decides, target before x, target f, target renamed, target's list renamed
@@ -105,7 +105,7 @@ s21-left =
     (beside [] [] (10 ∷ 10 ∷ []))
 
 abbrev pub s21 : Row
-s21 = moves s21-lent 62 8248 (done 1 13 12) ((1 ∷ 5 ∷ 3 ∷ 9 ∷ 13 ∷ 12 ∷ []) ∷ []) s21-left
+s21 = moves s21-lent 62 8248 800 (done 1 13 12) ((1 ∷ 5 ∷ 3 ∷ 9 ∷ 13 ∷ 12 ∷ []) ∷ []) s21-left
 
 -- seed 22: a register reused, chain of 1, chain of 6, done 2, moves without replay, moves without vias, new list,
 -- target after x, target before x, target t
@@ -157,7 +157,7 @@ s22-left =
     (beside [] [] [])
 
 abbrev pub s22 : Row
-s22 = moves s22-lent 70 8280 (done 2 13 3) ((1 ∷ 2 ∷ 1 ∷ 8 ∷ 10 ∷ 2 ∷ []) ∷ (2 ∷ 1 ∷ 7 ∷ 8 ∷ 13 ∷ 3 ∷ []) ∷ []) s22-left
+s22 = moves s22-lent 70 8280 800 (done 2 13 3) ((1 ∷ 2 ∷ 1 ∷ 8 ∷ 10 ∷ 2 ∷ []) ∷ (2 ∷ 1 ∷ 7 ∷ 8 ∷ 13 ∷ 3 ∷ []) ∷ []) s22-left
 
 -- seed 25: done 0, rule 5 on writes decides
 abbrev pub s25-lent : Picture
@@ -181,7 +181,7 @@ s25-lent =
     (beside [] [] [])
 
 abbrev pub s25 : Row
-s25 = stays s25-lent 50 8200 (done 0 11 11)
+s25 = stays s25-lent 50 8200 800 (done 0 11 11)
 
 -- seed 28: rule 2 decides, short 0, short by a register
 abbrev pub s28-lent : Picture
@@ -206,7 +206,7 @@ s28-lent =
     (beside [] [] (10 ∷ 10 ∷ []))
 
 abbrev pub s28 : Row
-s28 = stays s28-lent 60 8240 (short 0 10 0)
+s28 = stays s28-lent 60 8240 800 (short 0 10 0)
 
 -- seed 29: chain of 1, done 1, empty target, moves with replay, moves without vias, new Sig, new list, target after
 -- x, target t
@@ -243,7 +243,7 @@ s29-left =
     (beside [] [] (3 ∷ []))
 
 abbrev pub s29 : Row
-s29 = moves s29-lent 56 8224 (done 1 15 2) ((1 ∷ 1 ∷ 2 ∷ 5 ∷ 15 ∷ 2 ∷ []) ∷ []) s29-left
+s29 = moves s29-lent 56 8224 800 (done 1 15 2) ((1 ∷ 1 ∷ 2 ∷ 5 ∷ 15 ∷ 2 ∷ []) ∷ []) s29-left
 
 -- seed 30: a register reused, chain of 6, done 1, moves with replay, moves without vias, new Sig, new list, target
 -- after x, target t
@@ -289,7 +289,7 @@ s30-left =
     (beside [] [] (4 ∷ 7 ∷ []))
 
 abbrev pub s30 : Row
-s30 = moves s30-lent 62 8248 (done 1 11 4) ((1 ∷ 0 ∷ 9 ∷ 5 ∷ 11 ∷ 4 ∷ []) ∷ []) s30-left
+s30 = moves s30-lent 62 8248 800 (done 1 11 4) ((1 ∷ 0 ∷ 9 ∷ 5 ∷ 11 ∷ 4 ∷ []) ∷ []) s30-left
 
 -- seed 32: a register reused, chain of 1, moves with vias, moves without replay, new Sig, new list, rule 2 decides,
 -- short 1, short by an operand, target after x, target t
@@ -340,7 +340,7 @@ s32-left =
     (beside [] [] [])
 
 abbrev pub s32 : Row
-s32 = moves s32-lent 74 8296 (short 1 14 4) ((1 ∷ 0 ∷ 1 ∷ 10 ∷ 14 ∷ 4 ∷ []) ∷ []) s32-left
+s32 = moves s32-lent 74 8296 800 (short 1 14 4) ((1 ∷ 0 ∷ 1 ∷ 10 ∷ 14 ∷ 4 ∷ []) ∷ []) s32-left
 
 abbrev pub rows2 : List Row
 rows2 =

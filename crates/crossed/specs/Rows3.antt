@@ -46,7 +46,7 @@ s35-left =
     (beside [] [] [])
 
 abbrev pub s35 : Row
-s35 = moves s35-lent 48 8192 (done 1 18 14) ((1 ∷ 0 ∷ 2 ∷ 10 ∷ 18 ∷ 14 ∷ []) ∷ []) s35-left
+s35 = moves s35-lent 48 8192 800 (done 1 18 14) ((1 ∷ 0 ∷ 2 ∷ 10 ∷ 18 ∷ 14 ∷ []) ∷ []) s35-left
 
 -- seed 36: a register reused, chain of 1, done 1, empty target, moves without replay, moves without vias, new Sig,
 -- new list, target before x, target t
@@ -82,7 +82,7 @@ s36-left =
     (beside [] [] [])
 
 abbrev pub s36 : Row
-s36 = moves s36-lent 46 8184 (done 1 14 6) ((1 ∷ 2 ∷ 1 ∷ 9 ∷ 14 ∷ 6 ∷ []) ∷ []) s36-left
+s36 = moves s36-lent 46 8184 800 (done 1 14 6) ((1 ∷ 2 ∷ 1 ∷ 9 ∷ 14 ∷ 6 ∷ []) ∷ []) s36-left
 
 -- seed 37: a register reused, chain of 6, done 1, empty target, moves with vias, moves without replay, new Sig,
 -- target after x, target t
@@ -129,7 +129,7 @@ s37-left =
     (beside [] [] [])
 
 abbrev pub s37 : Row
-s37 = moves s37-lent 68 8272 (done 1 14 1) ((1 ∷ 0 ∷ 1 ∷ 11 ∷ 14 ∷ 1 ∷ []) ∷ []) s37-left
+s37 = moves s37-lent 68 8272 800 (done 1 14 1) ((1 ∷ 0 ∷ 1 ∷ 11 ∷ 14 ∷ 1 ∷ []) ∷ []) s37-left
 
 -- seed 39: 2 members are too few, chain of 4, done 1, moves with replay, moves without vias, new Sig, new list, rule
 -- 2 decides, target after x, target f, target's list renamed
@@ -177,7 +177,7 @@ s39-left =
     (beside [] [] (6 ∷ 3 ∷ []))
 
 abbrev pub s39 : Row
-s39 = moves s39-lent 74 8296 (done 1 14 4) ((1 ∷ 2 ∷ 3 ∷ 3 ∷ 14 ∷ 4 ∷ []) ∷ []) s39-left
+s39 = moves s39-lent 74 8296 800 (done 1 14 4) ((1 ∷ 2 ∷ 3 ∷ 3 ∷ 14 ∷ 4 ∷ []) ∷ []) s39-left
 
 -- seed 40: done 0, rule 1 decides, rule 3 decides
 abbrev pub s40-lent : Picture
@@ -202,7 +202,7 @@ s40-lent =
     (beside [] [] (9 ∷ 9 ∷ []))
 
 abbrev pub s40 : Row
-s40 = stays s40-lent 40 8160 (done 0 8 3)
+s40 = stays s40-lent 40 8160 800 (done 0 8 3)
 
 -- seed 46: chain of 5, done 1, moves with replay, moves with vias, new list, rule 2 decides, target after x, target
 -- f, target renamed, target's list renamed
@@ -248,7 +248,7 @@ s46-left =
     (beside [] [] (7 ∷ 8 ∷ []))
 
 abbrev pub s46 : Row
-s46 = moves s46-lent 62 8248 (done 1 13 6) ((1 ∷ 0 ∷ 5 ∷ 4 ∷ 13 ∷ 6 ∷ []) ∷ []) s46-left
+s46 = moves s46-lent 62 8248 800 (done 1 13 6) ((1 ∷ 0 ∷ 5 ∷ 4 ∷ 13 ∷ 6 ∷ []) ∷ []) s46-left
 
 -- seed 47: chain of 1, done 2, moves with replay, moves without vias, new list, target after x, target t
 abbrev pub s47-lent : Picture
@@ -288,7 +288,7 @@ s47-left =
     (beside [] [] (4 ∷ 2 ∷ []))
 
 abbrev pub s47 : Row
-s47 = moves s47-lent 56 8224 (done 2 15 13) ((1 ∷ 0 ∷ 2 ∷ 4 ∷ 12 ∷ 9 ∷ []) ∷ (2 ∷ 2 ∷ 4 ∷ 4 ∷ 15 ∷ 13 ∷ []) ∷ []) s47-left
+s47 = moves s47-lent 56 8224 800 (done 2 15 13) ((1 ∷ 0 ∷ 2 ∷ 4 ∷ 12 ∷ 9 ∷ []) ∷ (2 ∷ 2 ∷ 4 ∷ 4 ∷ 15 ∷ 13 ∷ []) ∷ []) s47-left
 
 -- seed 50: chain of 1, moves with replay, moves without vias, new list, short 1, short by a register, target after x,
 -- target t
@@ -327,7 +327,7 @@ s50-left =
     (beside [] [] (3 ∷ 1 ∷ []))
 
 abbrev pub s50 : Row
-s50 = moves s50-lent 50 8200 (short 1 11 4) ((1 ∷ 0 ∷ 1 ∷ 4 ∷ 11 ∷ 4 ∷ []) ∷ []) s50-left
+s50 = moves s50-lent 50 8200 800 (short 1 11 4) ((1 ∷ 0 ∷ 1 ∷ 4 ∷ 11 ∷ 4 ∷ []) ∷ []) s50-left
 
 abbrev pub rows3 : List Row
 rows3 =

@@ -54,7 +54,7 @@ s51-left =
     (beside [] [] (9 ∷ 9 ∷ []))
 
 abbrev pub s51 : Row
-s51 = moves s51-lent 64 8256 (short 1 15 5) ((1 ∷ 0 ∷ 1 ∷ 9 ∷ 15 ∷ 5 ∷ []) ∷ []) s51-left
+s51 = moves s51-lent 64 8256 800 (short 1 15 5) ((1 ∷ 0 ∷ 1 ∷ 9 ∷ 15 ∷ 5 ∷ []) ∷ []) s51-left
 
 -- seed 54: 7 members are too few, a register reused, chain of 1, done 1, moves without replay, moves without vias,
 -- new Sig, new list, rule 2 decides, target after x, target f, target renamed
@@ -93,7 +93,7 @@ s54-left =
     (beside [] [] [])
 
 abbrev pub s54 : Row
-s54 = moves s54-lent 42 8168 (done 1 13 14) ((1 ∷ 1 ∷ 3 ∷ 8 ∷ 13 ∷ 14 ∷ []) ∷ []) s54-left
+s54 = moves s54-lent 42 8168 800 (done 1 13 14) ((1 ∷ 1 ∷ 3 ∷ 8 ∷ 13 ∷ 14 ∷ []) ∷ []) s54-left
 
 -- seed 57: 7 members are too few, a register reused, chain of 2, done 1, moves without replay, moves without vias,
 -- new Sig, new list, rule 1 decides, rule 2 decides, target after x, target f, target renamed
@@ -132,7 +132,7 @@ s57-left =
     (beside [] [] [])
 
 abbrev pub s57 : Row
-s57 = moves s57-lent 50 8200 (done 1 17 9) ((1 ∷ 0 ∷ 3 ∷ 10 ∷ 17 ∷ 9 ∷ []) ∷ []) s57-left
+s57 = moves s57-lent 50 8200 800 (done 1 17 9) ((1 ∷ 0 ∷ 3 ∷ 10 ∷ 17 ∷ 9 ∷ []) ∷ []) s57-left
 
 -- seed 59: chain of 1, chain of 2, done 2, moves with replay, moves without vias, new Sig, target after x, target
 -- before x, target t
@@ -174,7 +174,7 @@ s59-left =
     (beside [] [] (1 ∷ 3 ∷ 10 ∷ 1 ∷ []))
 
 abbrev pub s59 : Row
-s59 = moves s59-lent 70 8280 (done 2 19 0) ((1 ∷ 0 ∷ 6 ∷ 4 ∷ 14 ∷ 0 ∷ []) ∷ (2 ∷ 6 ∷ 1 ∷ 4 ∷ 19 ∷ 0 ∷ []) ∷ []) s59-left
+s59 = moves s59-lent 70 8280 800 (done 2 19 0) ((1 ∷ 0 ∷ 6 ∷ 4 ∷ 14 ∷ 0 ∷ []) ∷ (2 ∷ 6 ∷ 1 ∷ 4 ∷ 19 ∷ 0 ∷ []) ∷ []) s59-left
 
 -- seed 65: chain of 1, chain of 3, done 2, moves with replay, moves with vias, new list, target after x, target t
 abbrev pub s65-lent : Picture
@@ -220,7 +220,7 @@ s65-left =
     (beside [] [] (6 ∷ 4 ∷ 12 ∷ 6 ∷ []))
 
 abbrev pub s65 : Row
-s65 = moves s65-lent 66 8264 (done 2 14 9) ((1 ∷ 1 ∷ 4 ∷ 5 ∷ 12 ∷ 6 ∷ []) ∷ (2 ∷ 4 ∷ 5 ∷ 5 ∷ 14 ∷ 9 ∷ []) ∷ []) s65-left
+s65 = moves s65-lent 66 8264 800 (done 2 14 9) ((1 ∷ 1 ∷ 4 ∷ 5 ∷ 12 ∷ 6 ∷ []) ∷ (2 ∷ 4 ∷ 5 ∷ 5 ∷ 14 ∷ 9 ∷ []) ∷ []) s65-left
 
 -- seed 70: done 0, rule 1 decides, rule 5 on writes decides
 abbrev pub s70-lent : Picture
@@ -246,7 +246,7 @@ s70-lent =
     (beside [] [] [])
 
 abbrev pub s70 : Row
-s70 = stays s70-lent 50 8200 (done 0 11 4)
+s70 = stays s70-lent 50 8200 800 (done 0 11 4)
 
 -- seed 95: a register reused, chain of 1, done 3, moves with replay, moves without vias, new Sig, target after x,
 -- target before x, target t
@@ -291,7 +291,7 @@ s95-left =
     (beside [] [] (8 ∷ 6 ∷ 4 ∷ []))
 
 abbrev pub s95 : Row
-s95 = moves s95-lent 74 8296 (done 3 19 0) ((1 ∷ 3 ∷ 2 ∷ 3 ∷ 13 ∷ 0 ∷ []) ∷ (2 ∷ 2 ∷ 6 ∷ 3 ∷ 16 ∷ 0 ∷ []) ∷ (3 ∷ 6 ∷ 1 ∷ 3 ∷ 19 ∷ 0 ∷ []) ∷ []) s95-left
+s95 = moves s95-lent 74 8296 800 (done 3 19 0) ((1 ∷ 3 ∷ 2 ∷ 3 ∷ 13 ∷ 0 ∷ []) ∷ (2 ∷ 2 ∷ 6 ∷ 3 ∷ 16 ∷ 0 ∷ []) ∷ (3 ∷ 6 ∷ 1 ∷ 3 ∷ 19 ∷ 0 ∷ []) ∷ []) s95-left
 
 -- seed 170: a register reused, chain of 2, done 1, moves without replay, moves without vias, rule 3 decides, target
 -- after x, target t
@@ -339,7 +339,7 @@ s170-left =
     (beside [] [] [])
 
 abbrev pub s170 : Row
-s170 = moves s170-lent 54 8216 (done 1 13 2) ((1 ∷ 2 ∷ 5 ∷ 10 ∷ 13 ∷ 2 ∷ []) ∷ []) s170-left
+s170 = moves s170-lent 54 8216 800 (done 1 13 2) ((1 ∷ 2 ∷ 5 ∷ 10 ∷ 13 ∷ 2 ∷ []) ∷ []) s170-left
 
 abbrev pub rows4 : List Row
 rows4 =

@@ -51,7 +51,7 @@ s173-left =
     (beside [] [] (0 ∷ []))
 
 abbrev pub s173 : Row
-s173 = moves s173-lent 58 8232 (done 1 12 4) ((1 ∷ 2 ∷ 0 ∷ 6 ∷ 12 ∷ 4 ∷ []) ∷ []) s173-left
+s173 = moves s173-lent 58 8232 800 (done 1 12 4) ((1 ∷ 2 ∷ 0 ∷ 6 ∷ 12 ∷ 4 ∷ []) ∷ []) s173-left
 
 -- seed 204: done 0, rule 5 on barriers decides
 abbrev pub s204-lent : Picture
@@ -74,7 +74,7 @@ s204-lent =
     (beside [] [] (2 ∷ []))
 
 abbrev pub s204 : Row
-s204 = stays s204-lent 50 8200 (done 0 7 1)
+s204 = stays s204-lent 50 8200 800 (done 0 7 1)
 
 -- seed 211: done 0, rule 5 on barriers decides
 abbrev pub s211-lent : Picture
@@ -99,7 +99,7 @@ s211-lent =
     (beside [] [] [])
 
 abbrev pub s211 : Row
-s211 = stays s211-lent 40 8160 (done 0 8 1)
+s211 = stays s211-lent 40 8160 800 (done 0 8 1)
 
 -- seed 260: chain of 1, chain of 3, done 3, empty target, moves without replay, moves without vias, new list, target
 -- after x, target before x, target f, target t
@@ -147,7 +147,7 @@ s260-left =
     (beside [] [] [])
 
 abbrev pub s260 : Row
-s260 = moves s260-lent 96 8384 (done 3 28 8) ((1 ∷ 0 ∷ 3 ∷ 11 ∷ 16 ∷ 4 ∷ []) ∷ (2 ∷ 3 ∷ 2 ∷ 11 ∷ 22 ∷ 6 ∷ []) ∷ (3 ∷ 2 ∷ 4 ∷ 11 ∷ 28 ∷ 8 ∷ []) ∷ []) s260-left
+s260 = moves s260-lent 96 8384 800 (done 3 28 8) ((1 ∷ 0 ∷ 3 ∷ 11 ∷ 16 ∷ 4 ∷ []) ∷ (2 ∷ 3 ∷ 2 ∷ 11 ∷ 22 ∷ 6 ∷ []) ∷ (3 ∷ 2 ∷ 4 ∷ 11 ∷ 28 ∷ 8 ∷ []) ∷ []) s260-left
 
 -- seed 292: a register reused, chain of 1, chain of 2, done 4, moves with replay, moves without vias, new list,
 -- target after x, target before x, target f, target t
@@ -195,7 +195,7 @@ s292-left =
     (beside [] [] (4 ∷ 7 ∷ 8 ∷ 4 ∷ []))
 
 abbrev pub s292 : Row
-s292 = moves s292-lent 62 8248 (done 4 11 10) ((1 ∷ 0 ∷ 5 ∷ 3 ∷ 8 ∷ 4 ∷ []) ∷ (2 ∷ 5 ∷ 8 ∷ 3 ∷ 9 ∷ 6 ∷ []) ∷ (3 ∷ 8 ∷ 3 ∷ 3 ∷ 10 ∷ 8 ∷ []) ∷ (4 ∷ 3 ∷ 2 ∷ 3 ∷ 11 ∷ 10 ∷ []) ∷ []) s292-left
+s292 = moves s292-lent 62 8248 800 (done 4 11 10) ((1 ∷ 0 ∷ 5 ∷ 3 ∷ 8 ∷ 4 ∷ []) ∷ (2 ∷ 5 ∷ 8 ∷ 3 ∷ 9 ∷ 6 ∷ []) ∷ (3 ∷ 8 ∷ 3 ∷ 3 ∷ 10 ∷ 8 ∷ []) ∷ (4 ∷ 3 ∷ 2 ∷ 3 ∷ 11 ∷ 10 ∷ []) ∷ []) s292-left
 
 -- seed 325: short 0, short by a register, the Rust as it is stops
 abbrev pub s325-lent : Picture
@@ -223,7 +223,7 @@ s325-lent =
     (beside [] [] [])
 
 abbrev pub s325 : Row
-s325 = stays s325-lent 62 8248 (short 0 8 2)
+s325 = stays s325-lent 62 8248 800 (short 0 8 2)
 
 -- seed 326: a register reused, chain of 1, moves without replay, moves without vias, new list, short 2, short by an
 -- operand, target after x, target t
@@ -270,7 +270,7 @@ s326-left =
     (beside [] [] [])
 
 abbrev pub s326 : Row
-s326 = moves s326-lent 76 8304 (short 2 19 7) ((1 ∷ 0 ∷ 1 ∷ 10 ∷ 14 ∷ 5 ∷ []) ∷ (2 ∷ 1 ∷ 2 ∷ 10 ∷ 19 ∷ 7 ∷ []) ∷ []) s326-left
+s326 = moves s326-lent 76 8304 800 (short 2 19 7) ((1 ∷ 0 ∷ 1 ∷ 10 ∷ 14 ∷ 5 ∷ []) ∷ (2 ∷ 1 ∷ 2 ∷ 10 ∷ 19 ∷ 7 ∷ []) ∷ []) s326-left
 
 -- seed 327: chain of 1, chain of 6, done 3, moves with replay, moves without vias, new list, target after x, target
 -- before x, target t
@@ -325,7 +325,7 @@ s327-left =
     (beside [] [] (6 ∷ 10 ∷ 9 ∷ []))
 
 abbrev pub s327 : Row
-s327 = moves s327-lent 80 8320 (done 3 14 22) ((1 ∷ 11 ∷ 12 ∷ 4 ∷ 12 ∷ 10 ∷ []) ∷ (2 ∷ 12 ∷ 10 ∷ 4 ∷ 13 ∷ 16 ∷ []) ∷ (3 ∷ 10 ∷ 6 ∷ 4 ∷ 14 ∷ 22 ∷ []) ∷ []) s327-left
+s327 = moves s327-lent 80 8320 800 (done 3 14 22) ((1 ∷ 11 ∷ 12 ∷ 4 ∷ 12 ∷ 10 ∷ []) ∷ (2 ∷ 12 ∷ 10 ∷ 4 ∷ 13 ∷ 16 ∷ []) ∷ (3 ∷ 10 ∷ 6 ∷ 4 ∷ 14 ∷ 22 ∷ []) ∷ []) s327-left
 
 -- seed 460: rule 2 decides, short 0, short by an operand, the Rust as it is stops
 abbrev pub s460-lent : Picture
@@ -349,7 +349,7 @@ s460-lent =
     (beside [] [] (2 ∷ 7 ∷ []))
 
 abbrev pub s460 : Row
-s460 = stays s460-lent 58 8232 (short 0 10 2)
+s460 = stays s460-lent 58 8232 800 (short 0 10 2)
 
 abbrev pub rows5 : List Row
 rows5 =

@@ -51,7 +51,7 @@ s497-left =
     (beside [] [] [])
 
 abbrev pub s497 : Row
-s497 = moves s497-lent 172 8608 (done 8 66 46) ((1 ∷ 1 ∷ 2 ∷ 11 ∷ 17 ∷ 11 ∷ []) ∷ (2 ∷ 2 ∷ 1 ∷ 11 ∷ 24 ∷ 16 ∷ []) ∷ (3 ∷ 1 ∷ 2 ∷ 11 ∷ 31 ∷ 21 ∷ []) ∷ (4 ∷ 2 ∷ 1 ∷ 11 ∷ 38 ∷ 26 ∷ []) ∷ (5 ∷ 1 ∷ 2 ∷ 11 ∷ 45 ∷ 31 ∷ []) ∷ (6 ∷ 2 ∷ 1 ∷ 11 ∷ 52 ∷ 36 ∷ []) ∷ (7 ∷ 1 ∷ 2 ∷ 11 ∷ 59 ∷ 41 ∷ []) ∷ (8 ∷ 2 ∷ 1 ∷ 11 ∷ 66 ∷ 46 ∷ []) ∷ []) s497-left
+s497 = moves s497-lent 172 8608 800 (done 8 66 46) ((1 ∷ 1 ∷ 2 ∷ 11 ∷ 17 ∷ 11 ∷ []) ∷ (2 ∷ 2 ∷ 1 ∷ 11 ∷ 24 ∷ 16 ∷ []) ∷ (3 ∷ 1 ∷ 2 ∷ 11 ∷ 31 ∷ 21 ∷ []) ∷ (4 ∷ 2 ∷ 1 ∷ 11 ∷ 38 ∷ 26 ∷ []) ∷ (5 ∷ 1 ∷ 2 ∷ 11 ∷ 45 ∷ 31 ∷ []) ∷ (6 ∷ 2 ∷ 1 ∷ 11 ∷ 52 ∷ 36 ∷ []) ∷ (7 ∷ 1 ∷ 2 ∷ 11 ∷ 59 ∷ 41 ∷ []) ∷ (8 ∷ 2 ∷ 1 ∷ 11 ∷ 66 ∷ 46 ∷ []) ∷ []) s497-left
 
 -- seed 544: a register reused, chain of 1, moves without replay, moves without vias, new list, short 2, short by a
 -- register, target after x, target t
@@ -103,7 +103,7 @@ s544-left =
     (beside [] [] [])
 
 abbrev pub s544 : Row
-s544 = moves s544-lent 74 8296 (short 2 17 12) ((1 ∷ 0 ∷ 1 ∷ 10 ∷ 14 ∷ 8 ∷ []) ∷ (2 ∷ 1 ∷ 5 ∷ 10 ∷ 17 ∷ 12 ∷ []) ∷ []) s544-left
+s544 = moves s544-lent 74 8296 800 (short 2 17 12) ((1 ∷ 0 ∷ 1 ∷ 10 ∷ 14 ∷ 8 ∷ []) ∷ (2 ∷ 1 ∷ 5 ∷ 10 ∷ 17 ∷ 12 ∷ []) ∷ []) s544-left
 
 -- seed 577: a register reused, chain of 1, moves without replay, moves without vias, new list, short 6, short by an
 -- operand, target after x, target before x, target t
@@ -150,7 +150,7 @@ s577-left =
     (beside [] [] [])
 
 abbrev pub s577 : Row
-s577 = moves s577-lent 108 8432 (short 6 32 35) ((1 ∷ 1 ∷ 2 ∷ 11 ∷ 12 ∷ 10 ∷ []) ∷ (2 ∷ 2 ∷ 3 ∷ 11 ∷ 16 ∷ 15 ∷ []) ∷ (3 ∷ 3 ∷ 1 ∷ 11 ∷ 20 ∷ 20 ∷ []) ∷ (4 ∷ 1 ∷ 2 ∷ 11 ∷ 24 ∷ 25 ∷ []) ∷ (5 ∷ 2 ∷ 3 ∷ 11 ∷ 28 ∷ 30 ∷ []) ∷ (6 ∷ 3 ∷ 1 ∷ 11 ∷ 32 ∷ 35 ∷ []) ∷ []) s577-left
+s577 = moves s577-lent 108 8432 800 (short 6 32 35) ((1 ∷ 1 ∷ 2 ∷ 11 ∷ 12 ∷ 10 ∷ []) ∷ (2 ∷ 2 ∷ 3 ∷ 11 ∷ 16 ∷ 15 ∷ []) ∷ (3 ∷ 3 ∷ 1 ∷ 11 ∷ 20 ∷ 20 ∷ []) ∷ (4 ∷ 1 ∷ 2 ∷ 11 ∷ 24 ∷ 25 ∷ []) ∷ (5 ∷ 2 ∷ 3 ∷ 11 ∷ 28 ∷ 30 ∷ []) ∷ (6 ∷ 3 ∷ 1 ∷ 11 ∷ 32 ∷ 35 ∷ []) ∷ []) s577-left
 
 -- seed 671: a register reused, chain of 1, moves with vias, moves without replay, new Sig, new list, short 6, short
 -- by an operand, target after x, target before x, target t
@@ -190,7 +190,7 @@ s671-left =
     (beside [] [] [])
 
 abbrev pub s671 : Row
-s671 = moves s671-lent 100 8400 (short 6 32 64) ((1 ∷ 2 ∷ 1 ∷ 8 ∷ 12 ∷ 19 ∷ []) ∷ (2 ∷ 1 ∷ 2 ∷ 8 ∷ 16 ∷ 28 ∷ []) ∷ (3 ∷ 2 ∷ 1 ∷ 8 ∷ 20 ∷ 37 ∷ []) ∷ (4 ∷ 1 ∷ 2 ∷ 8 ∷ 24 ∷ 46 ∷ []) ∷ (5 ∷ 2 ∷ 1 ∷ 8 ∷ 28 ∷ 55 ∷ []) ∷ (6 ∷ 1 ∷ 2 ∷ 8 ∷ 32 ∷ 64 ∷ []) ∷ []) s671-left
+s671 = moves s671-lent 100 8400 800 (short 6 32 64) ((1 ∷ 2 ∷ 1 ∷ 8 ∷ 12 ∷ 19 ∷ []) ∷ (2 ∷ 1 ∷ 2 ∷ 8 ∷ 16 ∷ 28 ∷ []) ∷ (3 ∷ 2 ∷ 1 ∷ 8 ∷ 20 ∷ 37 ∷ []) ∷ (4 ∷ 1 ∷ 2 ∷ 8 ∷ 24 ∷ 46 ∷ []) ∷ (5 ∷ 2 ∷ 1 ∷ 8 ∷ 28 ∷ 55 ∷ []) ∷ (6 ∷ 1 ∷ 2 ∷ 8 ∷ 32 ∷ 64 ∷ []) ∷ []) s671-left
 
 -- seed 690: a register reused, chain of 1, done 3, moves with vias, moves without replay, new Sig, new list, target
 -- after x, target before x, target t
@@ -236,7 +236,7 @@ s690-left =
     (beside [] [] [])
 
 abbrev pub s690 : Row
-s690 = moves s690-lent 92 8368 (done 3 27 17) ((1 ∷ 6 ∷ 3 ∷ 9 ∷ 15 ∷ 9 ∷ []) ∷ (2 ∷ 3 ∷ 4 ∷ 9 ∷ 21 ∷ 13 ∷ []) ∷ (3 ∷ 4 ∷ 2 ∷ 9 ∷ 27 ∷ 17 ∷ []) ∷ []) s690-left
+s690 = moves s690-lent 92 8368 800 (done 3 27 17) ((1 ∷ 6 ∷ 3 ∷ 9 ∷ 15 ∷ 9 ∷ []) ∷ (2 ∷ 3 ∷ 4 ∷ 9 ∷ 21 ∷ 13 ∷ []) ∷ (3 ∷ 4 ∷ 2 ∷ 9 ∷ 27 ∷ 17 ∷ []) ∷ []) s690-left
 
 -- seed 696: a register reused, chain of 1, chain of 3, done 3, empty target, moves with replay, moves without vias,
 -- new Sig, target after x, target before x, target t
@@ -282,7 +282,7 @@ s696-left =
     (beside [] [] (9 ∷ 1 ∷ 2 ∷ []))
 
 abbrev pub s696 : Row
-s696 = moves s696-lent 100 8400 (done 3 30 0) ((1 ∷ 0 ∷ 2 ∷ 5 ∷ 16 ∷ 0 ∷ []) ∷ (2 ∷ 2 ∷ 1 ∷ 5 ∷ 23 ∷ 0 ∷ []) ∷ (3 ∷ 1 ∷ 9 ∷ 5 ∷ 30 ∷ 0 ∷ []) ∷ []) s696-left
+s696 = moves s696-lent 100 8400 800 (done 3 30 0) ((1 ∷ 0 ∷ 2 ∷ 5 ∷ 16 ∷ 0 ∷ []) ∷ (2 ∷ 2 ∷ 1 ∷ 5 ∷ 23 ∷ 0 ∷ []) ∷ (3 ∷ 1 ∷ 9 ∷ 5 ∷ 30 ∷ 0 ∷ []) ∷ []) s696-left
 
 -- seed 739: chain of 1, done 3, moves with replay, moves without vias, new Sig, target after x, target before x,
 -- target f, target t
@@ -322,7 +322,7 @@ s739-left =
     (beside [] [] (6 ∷ 5 ∷ 3 ∷ []))
 
 abbrev pub s739 : Row
-s739 = moves s739-lent 66 8264 (done 3 19 0) ((1 ∷ 4 ∷ 3 ∷ 5 ∷ 11 ∷ 0 ∷ []) ∷ (2 ∷ 3 ∷ 5 ∷ 5 ∷ 15 ∷ 0 ∷ []) ∷ (3 ∷ 5 ∷ 6 ∷ 5 ∷ 19 ∷ 0 ∷ []) ∷ []) s739-left
+s739 = moves s739-lent 66 8264 800 (done 3 19 0) ((1 ∷ 4 ∷ 3 ∷ 5 ∷ 11 ∷ 0 ∷ []) ∷ (2 ∷ 3 ∷ 5 ∷ 5 ∷ 15 ∷ 0 ∷ []) ∷ (3 ∷ 5 ∷ 6 ∷ 5 ∷ 19 ∷ 0 ∷ []) ∷ []) s739-left
 
 -- seed 850: a register reused, chain of 1, moves without replay, moves without vias, new Sig, new list, short 5,
 -- short by an operand, target after x, target before x, target t
@@ -363,7 +363,7 @@ s850-left =
     (beside [] [] [])
 
 abbrev pub s850 : Row
-s850 = moves s850-lent 172 8608 (short 5 45 38) ((1 ∷ 1 ∷ 2 ∷ 10 ∷ 17 ∷ 14 ∷ []) ∷ (2 ∷ 2 ∷ 1 ∷ 10 ∷ 24 ∷ 20 ∷ []) ∷ (3 ∷ 1 ∷ 2 ∷ 10 ∷ 31 ∷ 26 ∷ []) ∷ (4 ∷ 2 ∷ 1 ∷ 10 ∷ 38 ∷ 32 ∷ []) ∷ (5 ∷ 1 ∷ 2 ∷ 10 ∷ 45 ∷ 38 ∷ []) ∷ []) s850-left
+s850 = moves s850-lent 172 8608 800 (short 5 45 38) ((1 ∷ 1 ∷ 2 ∷ 10 ∷ 17 ∷ 14 ∷ []) ∷ (2 ∷ 2 ∷ 1 ∷ 10 ∷ 24 ∷ 20 ∷ []) ∷ (3 ∷ 1 ∷ 2 ∷ 10 ∷ 31 ∷ 26 ∷ []) ∷ (4 ∷ 2 ∷ 1 ∷ 10 ∷ 38 ∷ 32 ∷ []) ∷ (5 ∷ 1 ∷ 2 ∷ 10 ∷ 45 ∷ 38 ∷ []) ∷ []) s850-left
 
 abbrev pub rows6 : List Row
 rows6 =

@@ -51,7 +51,7 @@ s855-left =
     (beside [] [] [])
 
 abbrev pub s855 : Row
-s855 = moves s855-lent 132 8528 (short 7 51 1) ((1 ∷ 2 ∷ 4 ∷ 11 ∷ 15 ∷ 1 ∷ []) ∷ (2 ∷ 4 ∷ 2 ∷ 11 ∷ 21 ∷ 1 ∷ []) ∷ (3 ∷ 2 ∷ 4 ∷ 11 ∷ 27 ∷ 1 ∷ []) ∷ (4 ∷ 4 ∷ 2 ∷ 11 ∷ 33 ∷ 1 ∷ []) ∷ (5 ∷ 2 ∷ 4 ∷ 11 ∷ 39 ∷ 1 ∷ []) ∷ (6 ∷ 4 ∷ 2 ∷ 11 ∷ 45 ∷ 1 ∷ []) ∷ (7 ∷ 2 ∷ 4 ∷ 11 ∷ 51 ∷ 1 ∷ []) ∷ []) s855-left
+s855 = moves s855-lent 132 8528 800 (short 7 51 1) ((1 ∷ 2 ∷ 4 ∷ 11 ∷ 15 ∷ 1 ∷ []) ∷ (2 ∷ 4 ∷ 2 ∷ 11 ∷ 21 ∷ 1 ∷ []) ∷ (3 ∷ 2 ∷ 4 ∷ 11 ∷ 27 ∷ 1 ∷ []) ∷ (4 ∷ 4 ∷ 2 ∷ 11 ∷ 33 ∷ 1 ∷ []) ∷ (5 ∷ 2 ∷ 4 ∷ 11 ∷ 39 ∷ 1 ∷ []) ∷ (6 ∷ 4 ∷ 2 ∷ 11 ∷ 45 ∷ 1 ∷ []) ∷ (7 ∷ 2 ∷ 4 ∷ 11 ∷ 51 ∷ 1 ∷ []) ∷ []) s855-left
 
 -- seed 859: a seventh block decides, done 0
 abbrev pub s859-lent : Picture
@@ -79,7 +79,7 @@ s859-lent =
     (beside [] [] (2 ∷ 4 ∷ []))
 
 abbrev pub s859 : Row
-s859 = stays s859-lent 76 8304 (done 0 10 0)
+s859 = stays s859-lent 76 8304 800 (done 0 10 0)
 
 -- seed 1047: 2 members are too few, a constant just past a length decides, chain of 5, done 1, moves with replay,
 -- moves with vias, new Sig, rule 1 decides, rule 2 decides, target after x, target f, target renamed
@@ -129,7 +129,7 @@ s1047-left =
     (beside [] [] (6 ∷ []))
 
 abbrev pub s1047 : Row
-s1047 = moves s1047-lent 64 8256 (done 1 14 0) ((1 ∷ 0 ∷ 5 ∷ 5 ∷ 14 ∷ 0 ∷ []) ∷ []) s1047-left
+s1047 = moves s1047-lent 64 8256 800 (done 1 14 0) ((1 ∷ 0 ∷ 5 ∷ 5 ∷ 14 ∷ 0 ∷ []) ∷ []) s1047-left
 
 -- seed 1056: a seventh block decides, done 0
 abbrev pub s1056-lent : Picture
@@ -156,7 +156,7 @@ s1056-lent =
     (beside [] [] (3 ∷ 2 ∷ []))
 
 abbrev pub s1056 : Row
-s1056 = stays s1056-lent 76 8304 (done 0 9 0)
+s1056 = stays s1056-lent 76 8304 800 (done 0 9 0)
 
 -- seed 1073: a register reused, chain of 1, done 4, empty target, moves with vias, moves without replay, new Sig,
 -- target after x, target before x, target t
@@ -207,7 +207,7 @@ s1073-left =
     (beside [] [] [])
 
 abbrev pub s1073 : Row
-s1073 = moves s1073-lent 114 8456 (done 4 37 0) ((1 ∷ 0 ∷ 4 ∷ 11 ∷ 16 ∷ 0 ∷ []) ∷ (2 ∷ 4 ∷ 6 ∷ 11 ∷ 23 ∷ 0 ∷ []) ∷ (3 ∷ 6 ∷ 5 ∷ 11 ∷ 30 ∷ 0 ∷ []) ∷ (4 ∷ 5 ∷ 7 ∷ 11 ∷ 37 ∷ 0 ∷ []) ∷ []) s1073-left
+s1073 = moves s1073-lent 114 8456 800 (done 4 37 0) ((1 ∷ 0 ∷ 4 ∷ 11 ∷ 16 ∷ 0 ∷ []) ∷ (2 ∷ 4 ∷ 6 ∷ 11 ∷ 23 ∷ 0 ∷ []) ∷ (3 ∷ 6 ∷ 5 ∷ 11 ∷ 30 ∷ 0 ∷ []) ∷ (4 ∷ 5 ∷ 7 ∷ 11 ∷ 37 ∷ 0 ∷ []) ∷ []) s1073-left
 
 -- seed 1183: a register reused, chain of 1, done 8, moves with vias, moves without replay, new Sig, new list, target
 -- after x, target before x, target t
@@ -256,7 +256,7 @@ s1183-left =
     (beside [] [] [])
 
 abbrev pub s1183 : Row
-s1183 = moves s1183-lent 138 8552 (done 8 55 44) ((1 ∷ 1 ∷ 3 ∷ 11 ∷ 13 ∷ 9 ∷ []) ∷ (2 ∷ 3 ∷ 6 ∷ 11 ∷ 19 ∷ 14 ∷ []) ∷ (3 ∷ 6 ∷ 1 ∷ 11 ∷ 25 ∷ 19 ∷ []) ∷ (4 ∷ 1 ∷ 3 ∷ 11 ∷ 31 ∷ 24 ∷ []) ∷ (5 ∷ 3 ∷ 6 ∷ 11 ∷ 37 ∷ 29 ∷ []) ∷ (6 ∷ 6 ∷ 1 ∷ 11 ∷ 43 ∷ 34 ∷ []) ∷ (7 ∷ 1 ∷ 3 ∷ 11 ∷ 49 ∷ 39 ∷ []) ∷ (8 ∷ 3 ∷ 6 ∷ 11 ∷ 55 ∷ 44 ∷ []) ∷ []) s1183-left
+s1183 = moves s1183-lent 138 8552 800 (done 8 55 44) ((1 ∷ 1 ∷ 3 ∷ 11 ∷ 13 ∷ 9 ∷ []) ∷ (2 ∷ 3 ∷ 6 ∷ 11 ∷ 19 ∷ 14 ∷ []) ∷ (3 ∷ 6 ∷ 1 ∷ 11 ∷ 25 ∷ 19 ∷ []) ∷ (4 ∷ 1 ∷ 3 ∷ 11 ∷ 31 ∷ 24 ∷ []) ∷ (5 ∷ 3 ∷ 6 ∷ 11 ∷ 37 ∷ 29 ∷ []) ∷ (6 ∷ 6 ∷ 1 ∷ 11 ∷ 43 ∷ 34 ∷ []) ∷ (7 ∷ 1 ∷ 3 ∷ 11 ∷ 49 ∷ 39 ∷ []) ∷ (8 ∷ 3 ∷ 6 ∷ 11 ∷ 55 ∷ 44 ∷ []) ∷ []) s1183-left
 
 -- seed 1223: a second writer decides, chain of 4, done 1, moves with replay, moves without vias, new Sig, rule 6
 -- decides, target before x, target t
@@ -308,7 +308,7 @@ s1223-left =
     (beside [] [] (2 ∷ 4 ∷ []))
 
 abbrev pub s1223 : Row
-s1223 = moves s1223-lent 78 8312 (done 1 12 5) ((1 ∷ 5 ∷ 4 ∷ 3 ∷ 12 ∷ 5 ∷ []) ∷ []) s1223-left
+s1223 = moves s1223-lent 78 8312 800 (done 1 12 5) ((1 ∷ 5 ∷ 4 ∷ 3 ∷ 12 ∷ 5 ∷ []) ∷ []) s1223-left
 
 -- seed 1246: chain of 1, chain of 2, done 4, moves with replay, moves without vias, target after x, target t
 abbrev pub s1246-lent : Picture
@@ -357,7 +357,7 @@ s1246-left =
     (beside [] [] (6 ∷ 4 ∷ 3 ∷ 9 ∷ []))
 
 abbrev pub s1246 : Row
-s1246 = moves s1246-lent 102 8408 (done 4 25 0) ((1 ∷ 0 ∷ 2 ∷ 5 ∷ 13 ∷ 0 ∷ []) ∷ (2 ∷ 2 ∷ 3 ∷ 5 ∷ 17 ∷ 0 ∷ []) ∷ (3 ∷ 3 ∷ 4 ∷ 5 ∷ 21 ∷ 0 ∷ []) ∷ (4 ∷ 4 ∷ 6 ∷ 5 ∷ 25 ∷ 0 ∷ []) ∷ []) s1246-left
+s1246 = moves s1246-lent 102 8408 800 (done 4 25 0) ((1 ∷ 0 ∷ 2 ∷ 5 ∷ 13 ∷ 0 ∷ []) ∷ (2 ∷ 2 ∷ 3 ∷ 5 ∷ 17 ∷ 0 ∷ []) ∷ (3 ∷ 3 ∷ 4 ∷ 5 ∷ 21 ∷ 0 ∷ []) ∷ (4 ∷ 4 ∷ 6 ∷ 5 ∷ 25 ∷ 0 ∷ []) ∷ []) s1246-left
 
 abbrev pub rows7 : List Row
 rows7 =

@@ -50,7 +50,7 @@ s1287-left =
     (beside [] [] [])
 
 abbrev pub s1287 : Row
-s1287 = moves s1287-lent 96 8384 (short 7 35 26) ((1 ∷ 1 ∷ 2 ∷ 11 ∷ 11 ∷ 8 ∷ []) ∷ (2 ∷ 2 ∷ 1 ∷ 11 ∷ 15 ∷ 11 ∷ []) ∷ (3 ∷ 1 ∷ 2 ∷ 11 ∷ 19 ∷ 14 ∷ []) ∷ (4 ∷ 2 ∷ 1 ∷ 11 ∷ 23 ∷ 17 ∷ []) ∷ (5 ∷ 1 ∷ 2 ∷ 11 ∷ 27 ∷ 20 ∷ []) ∷ (6 ∷ 2 ∷ 1 ∷ 11 ∷ 31 ∷ 23 ∷ []) ∷ (7 ∷ 1 ∷ 2 ∷ 11 ∷ 35 ∷ 26 ∷ []) ∷ []) s1287-left
+s1287 = moves s1287-lent 96 8384 800 (short 7 35 26) ((1 ∷ 1 ∷ 2 ∷ 11 ∷ 11 ∷ 8 ∷ []) ∷ (2 ∷ 2 ∷ 1 ∷ 11 ∷ 15 ∷ 11 ∷ []) ∷ (3 ∷ 1 ∷ 2 ∷ 11 ∷ 19 ∷ 14 ∷ []) ∷ (4 ∷ 2 ∷ 1 ∷ 11 ∷ 23 ∷ 17 ∷ []) ∷ (5 ∷ 1 ∷ 2 ∷ 11 ∷ 27 ∷ 20 ∷ []) ∷ (6 ∷ 2 ∷ 1 ∷ 11 ∷ 31 ∷ 23 ∷ []) ∷ (7 ∷ 1 ∷ 2 ∷ 11 ∷ 35 ∷ 26 ∷ []) ∷ []) s1287-left
 
 -- seed 1602: a constant just past a length decides, chain of 1, done 1, moves with replay, moves without vias, rule 6
 -- decides, target before x, target renamed, target t
@@ -88,7 +88,7 @@ s1602-left =
     (beside [] [] (2 ∷ []))
 
 abbrev pub s1602 : Row
-s1602 = moves s1602-lent 46 8184 (done 1 10 4) ((1 ∷ 3 ∷ 2 ∷ 3 ∷ 10 ∷ 4 ∷ []) ∷ []) s1602-left
+s1602 = moves s1602-lent 46 8184 800 (done 1 10 4) ((1 ∷ 3 ∷ 2 ∷ 3 ∷ 10 ∷ 4 ∷ []) ∷ []) s1602-left
 
 -- seed 1674: a register reused, chain of 1, moves without replay, moves without vias, new Sig, short 4, short by a
 -- register, target after x, target before x, target t
@@ -131,7 +131,7 @@ s1674-left =
     (beside [] [] [])
 
 abbrev pub s1674 : Row
-s1674 = moves s1674-lent 100 8400 (short 4 35 0) ((1 ∷ 1 ∷ 2 ∷ 11 ∷ 17 ∷ 0 ∷ []) ∷ (2 ∷ 2 ∷ 1 ∷ 11 ∷ 23 ∷ 0 ∷ []) ∷ (3 ∷ 1 ∷ 2 ∷ 11 ∷ 29 ∷ 0 ∷ []) ∷ (4 ∷ 2 ∷ 1 ∷ 11 ∷ 35 ∷ 0 ∷ []) ∷ []) s1674-left
+s1674 = moves s1674-lent 100 8400 800 (short 4 35 0) ((1 ∷ 1 ∷ 2 ∷ 11 ∷ 17 ∷ 0 ∷ []) ∷ (2 ∷ 2 ∷ 1 ∷ 11 ∷ 23 ∷ 0 ∷ []) ∷ (3 ∷ 1 ∷ 2 ∷ 11 ∷ 29 ∷ 0 ∷ []) ∷ (4 ∷ 2 ∷ 1 ∷ 11 ∷ 35 ∷ 0 ∷ []) ∷ []) s1674-left
 
 -- seed 1720: a register reused, chain of 1, moves without replay, moves without vias, new Sig, new list, short 3,
 -- short by a register, target after x, target before x, target t
@@ -170,7 +170,7 @@ s1720-left =
     (beside [] [] [])
 
 abbrev pub s1720 : Row
-s1720 = moves s1720-lent 78 8312 (short 3 25 6) ((1 ∷ 1 ∷ 2 ∷ 9 ∷ 15 ∷ 4 ∷ []) ∷ (2 ∷ 2 ∷ 1 ∷ 9 ∷ 20 ∷ 5 ∷ []) ∷ (3 ∷ 1 ∷ 2 ∷ 9 ∷ 25 ∷ 6 ∷ []) ∷ []) s1720-left
+s1720 = moves s1720-lent 78 8312 800 (short 3 25 6) ((1 ∷ 1 ∷ 2 ∷ 9 ∷ 15 ∷ 4 ∷ []) ∷ (2 ∷ 2 ∷ 1 ∷ 9 ∷ 20 ∷ 5 ∷ []) ∷ (3 ∷ 1 ∷ 2 ∷ 9 ∷ 25 ∷ 6 ∷ []) ∷ []) s1720-left
 
 -- seed 1981: a register reused, chain of 1, moves with vias, moves without replay, new list, short 5, short by an
 -- operand, target after x, target before x, target t
@@ -217,7 +217,7 @@ s1981-left =
     (beside [] [] [])
 
 abbrev pub s1981 : Row
-s1981 = moves s1981-lent 106 8424 (short 5 27 36) ((1 ∷ 1 ∷ 2 ∷ 11 ∷ 11 ∷ 12 ∷ []) ∷ (2 ∷ 2 ∷ 3 ∷ 11 ∷ 15 ∷ 18 ∷ []) ∷ (3 ∷ 3 ∷ 1 ∷ 11 ∷ 19 ∷ 24 ∷ []) ∷ (4 ∷ 1 ∷ 2 ∷ 11 ∷ 23 ∷ 30 ∷ []) ∷ (5 ∷ 2 ∷ 3 ∷ 11 ∷ 27 ∷ 36 ∷ []) ∷ []) s1981-left
+s1981 = moves s1981-lent 106 8424 800 (short 5 27 36) ((1 ∷ 1 ∷ 2 ∷ 11 ∷ 11 ∷ 12 ∷ []) ∷ (2 ∷ 2 ∷ 3 ∷ 11 ∷ 15 ∷ 18 ∷ []) ∷ (3 ∷ 3 ∷ 1 ∷ 11 ∷ 19 ∷ 24 ∷ []) ∷ (4 ∷ 1 ∷ 2 ∷ 11 ∷ 23 ∷ 30 ∷ []) ∷ (5 ∷ 2 ∷ 3 ∷ 11 ∷ 27 ∷ 36 ∷ []) ∷ []) s1981-left
 
 -- seed 1984: a register reused, chain of 1, done 4, moves with replay, moves with vias, new Sig, target after x,
 -- target before x, target t
@@ -265,7 +265,7 @@ s1984-left =
     (beside [] [] (7 ∷ 3 ∷ 8 ∷ 9 ∷ []))
 
 abbrev pub s1984 : Row
-s1984 = moves s1984-lent 98 8392 (done 4 27 0) ((1 ∷ 1 ∷ 10 ∷ 5 ∷ 12 ∷ 0 ∷ []) ∷ (2 ∷ 10 ∷ 2 ∷ 5 ∷ 17 ∷ 0 ∷ []) ∷ (3 ∷ 2 ∷ 4 ∷ 5 ∷ 22 ∷ 0 ∷ []) ∷ (4 ∷ 4 ∷ 7 ∷ 5 ∷ 27 ∷ 0 ∷ []) ∷ []) s1984-left
+s1984 = moves s1984-lent 98 8392 800 (done 4 27 0) ((1 ∷ 1 ∷ 10 ∷ 5 ∷ 12 ∷ 0 ∷ []) ∷ (2 ∷ 10 ∷ 2 ∷ 5 ∷ 17 ∷ 0 ∷ []) ∷ (3 ∷ 2 ∷ 4 ∷ 5 ∷ 22 ∷ 0 ∷ []) ∷ (4 ∷ 4 ∷ 7 ∷ 5 ∷ 27 ∷ 0 ∷ []) ∷ []) s1984-left
 
 -- seed 2097: a register reused, chain of 1, chain of 2, done 4, moves without replay, moves without vias, new Sig,
 -- target after x, target before x, target f, target t
@@ -316,7 +316,7 @@ s2097-left =
     (beside [] [] [])
 
 abbrev pub s2097 : Row
-s2097 = moves s2097-lent 82 8328 (done 4 25 2) ((1 ∷ 0 ∷ 7 ∷ 11 ∷ 13 ∷ 2 ∷ []) ∷ (2 ∷ 7 ∷ 3 ∷ 11 ∷ 17 ∷ 2 ∷ []) ∷ (3 ∷ 3 ∷ 1 ∷ 11 ∷ 21 ∷ 2 ∷ []) ∷ (4 ∷ 1 ∷ 2 ∷ 11 ∷ 25 ∷ 2 ∷ []) ∷ []) s2097-left
+s2097 = moves s2097-lent 82 8328 800 (done 4 25 2) ((1 ∷ 0 ∷ 7 ∷ 11 ∷ 13 ∷ 2 ∷ []) ∷ (2 ∷ 7 ∷ 3 ∷ 11 ∷ 17 ∷ 2 ∷ []) ∷ (3 ∷ 3 ∷ 1 ∷ 11 ∷ 21 ∷ 2 ∷ []) ∷ (4 ∷ 1 ∷ 2 ∷ 11 ∷ 25 ∷ 2 ∷ []) ∷ []) s2097-left
 
 -- seed 2190: done 0, rule 4 decides
 abbrev pub s2190-lent : Picture
@@ -341,7 +341,7 @@ s2190-lent =
     (beside [] [] (1 ∷ 5 ∷ 11 ∷ 1 ∷ []))
 
 abbrev pub s2190 : Row
-s2190 = stays s2190-lent 50 8200 (done 0 8 1)
+s2190 = stays s2190-lent 50 8200 800 (done 0 8 1)
 
 -- seed 2380: done 0, rule 4 decides
 abbrev pub s2380-lent : Picture
@@ -362,7 +362,7 @@ s2380-lent =
     (beside [] [] (2 ∷ []))
 
 abbrev pub s2380 : Row
-s2380 = stays s2380-lent 48 8192 (done 0 10 3)
+s2380 = stays s2380-lent 48 8192 800 (done 0 10 3)
 
 abbrev pub rows8 : List Row
 rows8 =

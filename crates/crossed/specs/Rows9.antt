@@ -34,7 +34,7 @@ s2573-lent =
     (beside [] [] (0 ∷ 6 ∷ 2 ∷ 9 ∷ []))
 
 abbrev pub s2573 : Row
-s2573 = stays s2573-lent 74 8296 (short 0 9 2)
+s2573 = stays s2573-lent 74 8296 800 (short 0 9 2)
 
 -- seed 2658: a register reused, chain of 1, moves without replay, moves without vias, new Sig, new list, short 3,
 -- short by a register, target after x, target before x, target t
@@ -79,7 +79,7 @@ s2658-left =
     (beside [] [] [])
 
 abbrev pub s2658 : Row
-s2658 = moves s2658-lent 88 8352 (short 3 25 36) ((1 ∷ 3 ∷ 2 ∷ 10 ∷ 13 ∷ 18 ∷ []) ∷ (2 ∷ 2 ∷ 1 ∷ 10 ∷ 19 ∷ 27 ∷ []) ∷ (3 ∷ 1 ∷ 3 ∷ 10 ∷ 25 ∷ 36 ∷ []) ∷ []) s2658-left
+s2658 = moves s2658-lent 88 8352 800 (short 3 25 36) ((1 ∷ 3 ∷ 2 ∷ 10 ∷ 13 ∷ 18 ∷ []) ∷ (2 ∷ 2 ∷ 1 ∷ 10 ∷ 19 ∷ 27 ∷ []) ∷ (3 ∷ 1 ∷ 3 ∷ 10 ∷ 25 ∷ 36 ∷ []) ∷ []) s2658-left
 
 -- seed 2998: chain of 2, done 1, moves with replay, moves without vias, new list, rule 1 decides, rule 2 decides,
 -- rule 5 on origins decides, target before x, target t
@@ -116,7 +116,7 @@ s2998-left =
     (beside [] [] (0 ∷ []))
 
 abbrev pub s2998 : Row
-s2998 = moves s2998-lent 46 8184 (done 1 12 4) ((1 ∷ 1 ∷ 0 ∷ 3 ∷ 12 ∷ 4 ∷ []) ∷ []) s2998-left
+s2998 = moves s2998-lent 46 8184 800 (done 1 12 4) ((1 ∷ 1 ∷ 0 ∷ 3 ∷ 12 ∷ 4 ∷ []) ∷ []) s2998-left
 
 -- seed 3190: a second writer decides, done 0
 abbrev pub s3190-lent : Picture
@@ -140,7 +140,7 @@ s3190-lent =
     (beside [] [] (8 ∷ 3 ∷ []))
 
 abbrev pub s3190 : Row
-s3190 = stays s3190-lent 56 8224 (done 0 8 0)
+s3190 = stays s3190-lent 56 8224 800 (done 0 8 0)
 
 -- seed 4, more registers in use than lent: refused 1
 abbrev pub d12-lent : Picture
@@ -159,7 +159,7 @@ d12-lent =
     (beside [] [] (1 ∷ []))
 
 abbrev pub d12 : Row
-d12 = stays d12-lent 30 8120 (refused 1)
+d12 = stays d12-lent 30 8120 800 (refused 1)
 
 -- seed 4, more operands in use than lent: refused 1
 abbrev pub d13-lent : Picture
@@ -178,7 +178,7 @@ d13-lent =
     (beside [] [] (1 ∷ []))
 
 abbrev pub d13 : Row
-d13 = stays d13-lent 30 8120 (refused 1)
+d13 = stays d13-lent 30 8120 800 (refused 1)
 
 -- seed 4, a record word too few: refused 2
 abbrev pub d14-lent : Picture
@@ -196,7 +196,7 @@ d14-lent =
     (beside [] [] (1 ∷ []))))
 
 abbrev pub d14 : Row
-d14 = stays d14-lent 30 8120 (refused 2)
+d14 = stays d14-lent 30 8120 800 (refused 2)
 
 -- seed 4, a record word too many: refused 2
 abbrev pub d15-lent : Picture
@@ -215,7 +215,7 @@ d15-lent =
     (beside [] [] (1 ∷ [])))
 
 abbrev pub d15 : Row
-d15 = stays d15-lent 30 8120 (refused 2)
+d15 = stays d15-lent 30 8120 800 (refused 2)
 
 -- seed 4, a loc too many: refused 2
 abbrev pub d16-lent : Picture
@@ -234,7 +234,7 @@ d16-lent =
     (beside [] [] (1 ∷ []))
 
 abbrev pub d16 : Row
-d16 = stays d16-lent 30 8120 (refused 2)
+d16 = stays d16-lent 30 8120 800 (refused 2)
 
 -- seed 4, a via too few: refused 2
 abbrev pub d17-lent : Picture
@@ -253,7 +253,7 @@ d17-lent =
     (beside [] [] (1 ∷ []))
 
 abbrev pub d17 : Row
-d17 = stays d17-lent 30 8120 (refused 2)
+d17 = stays d17-lent 30 8120 800 (refused 2)
 
 -- seed 4, a via too many: refused 2
 abbrev pub d18-lent : Picture
@@ -272,7 +272,7 @@ d18-lent =
     (beside [] [] (1 ∷ []))
 
 abbrev pub d18 : Row
-d18 = stays d18-lent 30 8120 (refused 2)
+d18 = stays d18-lent 30 8120 800 (refused 2)
 
 -- seed 4, odd block words: refused 2
 abbrev pub d19-lent : Picture
@@ -290,7 +290,7 @@ d19-lent =
     (beside [] [] (1 ∷ [])))
 
 abbrev pub d19 : Row
-d19 = stays d19-lent 30 8120 (refused 2)
+d19 = stays d19-lent 30 8120 800 (refused 2)
 
 -- seed 4, odd pair words: refused 2
 abbrev pub d20-lent : Picture
@@ -309,7 +309,7 @@ d20-lent =
     (beside (0 ∷ []) [] (1 ∷ []))
 
 abbrev pub d20 : Row
-d20 = stays d20-lent 30 8120 (refused 2)
+d20 = stays d20-lent 30 8120 800 (refused 2)
 
 -- seed 4, a block starts late: refused 3
 abbrev pub d21-lent : Picture
@@ -327,7 +327,7 @@ d21-lent =
     (beside [] [] (1 ∷ [])))
 
 abbrev pub d21 : Row
-d21 = stays d21-lent 30 8120 (refused 3)
+d21 = stays d21-lent 30 8120 800 (refused 3)
 
 -- seed 4, a block ends early: refused 3
 abbrev pub d22-lent : Picture
@@ -345,7 +345,7 @@ d22-lent =
     (beside [] [] (1 ∷ [])))
 
 abbrev pub d22 : Row
-d22 = stays d22-lent 30 8120 (refused 3)
+d22 = stays d22-lent 30 8120 800 (refused 3)
 
 abbrev pub rows9 : List Row
 rows9 =

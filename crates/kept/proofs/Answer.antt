@@ -48,8 +48,8 @@ all-left G (suc k) n P was = go (λ a. all-left G k (suc n) (apply P a) (carried
         subst (Left G n P was) (sym (sink-more k n G P a e f))
         (record { more = suc (l .more); counted = l .counted ∙ suc-add n (l .more) ∙ sym (add-suc n (l .more)); left-is = l .left-is ∙ ap (λ (s : Stage). s .now) (sym (stage-more G (l .more) P was a e f)) })
 
-pub left-after : (P : Picture) (w64 w32 : ℕ) → refusal P w64 w32 ≡ 0 → sink P w64 w32 .left ≡ after P (rounds (sink P w64 w32 .answer)) .now
-left-after P w64 w32 ok = ⊎-elim (λ e. subst Ends (sym (sink-gated P w64 w32 ok e)) refl) (λ e. subst Ends (sym (sink-through P w64 w32 ok e)) run) (bool? (gated P))
+pub left-after : (P : Picture) (w64 w32 nf : ℕ) → refusal P w64 w32 nf ≡ 0 → sink P w64 w32 nf .left ≡ after P (rounds (sink P w64 w32 nf .answer)) .now
+left-after P w64 w32 nf ok = ⊎-elim (λ e. subst Ends (sym (sink-gated P w64 w32 nf ok e)) refl) (λ e. subst Ends (sym (sink-through P w64 w32 nf ok e)) run) (bool? (gated P))
   where
     Ends : Outcome → Type 0
     Ends o = o .left ≡ after P (rounds (o .answer)) .now
@@ -61,9 +61,9 @@ left-after P w64 w32 ok = ⊎-elim (λ e. subst Ends (sym (sink-gated P w64 w32 
 
 -- ---- DEMAND 3
 
-module _ (P : Picture) (w64 w32 : ℕ) (accept : refusal P w64 w32 ≡ 0) where
+module _ (P : Picture) (w64 w32 nf : ℕ) (accept : refusal P w64 w32 nf ≡ 0) where
   ok : Accepted P
-  ok = accepted P w64 w32 accept
+  ok = accepted P w64 w32 nf accept
 
   pub kept-after : (k : ℕ) → Keeps P (after P k .now) (after P k .was)
   kept-after k =
@@ -75,10 +75,10 @@ module _ (P : Picture) (w64 w32 : ℕ) (accept : refusal P w64 w32 ≡ 0) where
 
 -- for every accepted picture, every number of rounds up to those that the call says, and every walk
 pub demand3 : Demand3
-demand3 P w64 w32 k accept h = kept-after P w64 w32 accept k
+demand3 P w64 w32 nf k accept h = kept-after P w64 w32 nf accept k
 
 -- and so of what the call leaves, in Done and in Short
-pub kept-at-end : (P : Picture) (w64 w32 : ℕ) → refusal P w64 w32 ≡ 0 → Keeps P (sink P w64 w32 .left) (after P (rounds (sink P w64 w32 .answer)) .was)
-kept-at-end P w64 w32 accept =
-    let k = rounds (sink P w64 w32 .answer) in
-    subst (λ (Q : Picture). Keeps P Q (after P k .was)) (sym (left-after P w64 w32 accept)) (demand3 P w64 w32 k accept (le-refl k))
+pub kept-at-end : (P : Picture) (w64 w32 nf : ℕ) → refusal P w64 w32 nf ≡ 0 → Keeps P (sink P w64 w32 nf .left) (after P (rounds (sink P w64 w32 nf .answer)) .was)
+kept-at-end P w64 w32 nf accept =
+    let k = rounds (sink P w64 w32 nf .answer) in
+    subst (λ (Q : Picture). Keeps P Q (after P k .was)) (sym (left-after P w64 w32 nf accept)) (demand3 P w64 w32 nf k accept (le-refl k))

@@ -8,6 +8,7 @@ use native.Mathlib.Omega.{arith}
 use lib.Dec.{T}
 use lib.ListN.{replicate}
 use Rattle.model.specs.Picture.{Picture}
+use Rattle.model.specs.Refusal.{records}
 use Rattle.model.specs.Pass.{rounds, sink}
 use Rattle.model.specs.Build.{shows}
 use Rattle.model.specs.Marked.{konst, cmp, branch, output, ret, sunk, lent, nine, behind}
@@ -19,16 +20,16 @@ use Rattle.kept.proofs.Accord.{refuted}
 -- ---- what the theorem says of two pictures
 
 pub listing-kept : Keeps listing (after listing 1 .now) (after listing 1 .was)
-listing-kept = demand3 listing 1000 9000 1 refl (omega arith)
+listing-kept = demand3 listing 1000 9000 records 1 refl (omega arith)
 
 -- eight members stand behind the Const and the CondBr
 pub listing-moved : after listing 1 .was ≡ 0 ∷ 9 ∷ 1 ∷ 2 ∷ 3 ∷ 4 ∷ 5 ∷ 6 ∷ 7 ∷ 8 ∷ 10 ∷ 11 ∷ 12 ∷ []
 listing-moved = refl
 
 pub twice-kept : (w : List ℕ) → T (is-walk twice w) → Follows twice (after twice 2 .now) (after twice 2 .was) w
-twice-kept = demand3 twice 1000 9000 2 refl (omega arith) .along tt
+twice-kept = demand3 twice 1000 9000 records 2 refl (omega arith) .along tt
 
-pub answers : rounds (sink listing 1000 9000 .answer) ∷ rounds (sink twice 1000 9000 .answer) ∷ [] ≡ 1 ∷ 2 ∷ []
+pub answers : rounds (sink listing 1000 9000 records .answer) ∷ rounds (sink twice 1000 9000 records .answer) ∷ [] ≡ 1 ∷ 2 ∷ []
 answers = refl
 
 -- ---- what it shuts out

@@ -10,7 +10,7 @@ use lib.ListN.{getD, length, replicate}
 use Rattle.words.specs.Lists.{_implies_, upto, all, any, concat}
 use Rattle.model.specs.Picture.{Picture, places}
 use Rattle.model.specs.Analyse.{when-some, unless-some}
-use Rattle.model.specs.Refusal.{refusal}
+use Rattle.model.specs.Refusal.{records, refusal}
 use Rattle.model.specs.Pass.{rounds, sink}
 use Rattle.model.specs.Marked.{konst, cmp, cat, branch, jump, output, ret, first, ends, lent, nine}
 use Rattle.kept.specs.Walk.{after, clear-entry, is-walk, Run, Write, takes, is-run, match}
@@ -69,7 +69,7 @@ row P k w = record { what = P; rounds-done = k; walk = w }
 abbrev pub premises : Row → Bool
 premises r =
     let P = r .what in
-    eqb (refusal P 1000 9000) 0 && leb (r .rounds-done) (rounds (sink P 1000 9000 .answer)) && clear-entry P && is-walk P (r .walk)
+    eqb (refusal P 1000 9000 records) 0 && leb (r .rounds-done) (rounds (sink P 1000 9000 records .answer)) && clear-entry P && is-walk P (r .walk)
 
 abbrev pub claim : Row → Bool
 claim r =

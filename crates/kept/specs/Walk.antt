@@ -186,4 +186,4 @@ pub record Keeps (L Q : Picture) (was : List ℕ) : Type 0 where
 
 -- For every accepted picture, and at whatever point between rounds the work stops: k from 0 to the number that Done or Short gives.
 abbrev pub Demand3 : Type 0
-Demand3 = (P : Picture) (w64 w32 k : ℕ) → refusal P w64 w32 ≡ 0 → k ≤ rounds (sink P w64 w32 .answer) → Keeps P (after P k .now) (after P k .was)
+Demand3 = (P : Picture) (w64 w32 nf k : ℕ) → refusal P w64 w32 nf ≡ 0 → k ≤ rounds (sink P w64 w32 nf .answer) → Keeps P (after P k .now) (after P k .was)

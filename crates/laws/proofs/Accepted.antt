@@ -1,10 +1,10 @@
--- Acceptance: every cause of the table but 10 (the work slices) is absent. `accepted` gives it from a refusal of 0, and
+-- Acceptance: every cause of the table but 10 (what the pass works in) is absent. `accepted` gives it from a refusal of 0, and
 -- `not-refused` goes back. What follows from it stands in Sizes and Admitted; that a round keeps it, in Keeps. Assumes nothing.
 use mathlib.Core.Path.{_≡_, refl, sym, ap, ap₂, _∙_, subst}
 use mathlib.Core.Bool.{Bool, true, false, _&&_, _||_}
 use mathlib.Core.List.{List, [], _∷_}
 use Prim.Native.Nat.{ℕ, zero, suc, _≤_, _<_}
-use native.Mathlib.Nat.{suc-ne-zero}
+use native.Mathlib.Nat.{suc-ne-zero, le-refl}
 use native.Mathlib.Omega.{arith}
 use lib.Dec.{ltb, leb}
 use lib.ListN.{getD, length, take}
@@ -15,7 +15,7 @@ use Rattle.words.proofs.Members.{any-no, no-any, in-map, map-in, in-range, rang
 use Rattle.words.proofs.Each.{Each}
 use Rattle.model.specs.Kinds.{row, Cat}
 use Rattle.model.specs.Picture.{Picture, Inst, inst, kind, is-kind, roles, slots, writes, nblocks}
-use Rattle.model.specs.Refusal.{all-code, too-large, uneven, gaps, bad-kind, bad-slots, half-part, bad-list, bad-branch, bad-pairs, may-move, work64, work32, causes, lowest, refusal}
+use Rattle.model.specs.Refusal.{all-code, too-large, uneven, gaps, bad-kind, bad-slots, half-part, bad-list, bad-branch, bad-pairs, may-move, work64, work32, records, causes, lowest, refusal}
 
 -- of a single instruction: causes 4, 5, 6, 7, 8 and 11
 pub record Admitted (P : Picture) (i : Inst) : Type 0 where
@@ -59,10 +59,10 @@ module _ (P : Picture) where
       let l = r .1 in
       subst (λ (y : Inst). f y ≡ false) (sym (z .2)) (h (z .0) (omega arith)))
 
-  pub accepted : (w64 w32 : ℕ) → refusal P w64 w32 ≡ 0 → Accepted P
-  accepted w64 w32 ok =
+  pub accepted : (w64 w32 nf : ℕ) → refusal P w64 w32 nf ≡ 0 → Accepted P
+  accepted w64 w32 nf ok =
       let is = all-code P in
-      let none : (k : ℕ) → getD (causes P w64 w32) k false ≡ false = none-below 0 (causes P w64 w32) ok in
+      let none : (k : ℕ) → getD (causes P w64 w32 nf) k false ≡ false = none-below 0 (causes P w64 w32 nf) ok in
       let lists = any (bad-list (P .opers)) is in
       let ops = any (leb (P .regs)) (take (P .opers) (P .ops)) in
       let branches = any (bad-branch (nblocks P)) is in
@@ -97,9 +97,9 @@ all-absent : (n : ℕ) (cs : List Bool) → Each (λ c. c ≡ false) cs → lowe
 all-absent n [] e = refl
 all-absent n (c ∷ cs) e = ap (λ (b : Bool). lowest n (b ∷ cs)) (e .0) ∙ all-absent (suc n) cs (e .1)
 
-pub not-refused : (P : Picture) (w64 w32 : ℕ) → Accepted P → work64 P ≤ w64 → work32 P ≤ w32 → refusal P w64 w32 ≡ 0
-not-refused P w64 w32 ok a b =
-    all-absent 1 (causes P w64 w32) (
+pub not-refused : (P : Picture) (w64 w32 nf : ℕ) → Accepted P → work64 P ≤ w64 → work32 P ≤ w32 → records ≤ nf → refusal P w64 w32 nf ≡ 0
+not-refused P w64 w32 nf ok a b r =
+    all-absent 1 (causes P w64 w32 nf) (
       ok .sizes,
       (
         ok .even,
@@ -118,7 +118,7 @@ not-refused P w64 w32 ok a b =
                     (
                       ok .types-used,
                       (
-                        ap₂ _||_ (le-ltb w64 (work64 P) a) (le-ltb w32 (work32 P) b),
+                        ap₂ _||_ (ap₂ _||_ (le-ltb w64 (work64 P) a) (le-ltb w32 (work32 P) b)) (le-ltb nf records r),
                         (
                           over-all P (λ i. may-move (row (kind i) .arm) && ltb 1 (length (writes i))) (λ p h. ok .each p h .one-result),
                           tt,
@@ -134,8 +134,15 @@ not-refused P w64 w32 ok a b =
       ),
     )
 
--- the work slices are long enough
-pub work-room : (P : Picture) (w64 w32 : ℕ) → refusal P w64 w32 ≡ 0 → (work64 P ≤ w64) × (work32 P ≤ w32)
-work-room P w64 w32 ok =
-    let e : (ltb w64 (work64 P) || ltb w32 (work32 P)) ≡ false = none-below 0 (causes P w64 w32) ok 9 in
-    (ltb-false w64 (work64 P) (or-left (ltb w64 (work64 P)) (ltb w32 (work32 P)) e), ltb-false w32 (work32 P) (or-right (ltb w64 (work64 P)) (ltb w32 (work32 P)) e))
+-- the work slices are long enough, and the records are enough
+pub work-room : (P : Picture) (w64 w32 nf : ℕ) → refusal P w64 w32 nf ≡ 0 → (work64 P ≤ w64) × (work32 P ≤ w32) × (records ≤ nf)
+work-room P w64 w32 nf ok =
+    let a = ltb w64 (work64 P) in
+    let b = ltb w32 (work32 P) in
+    let e : (a || b || ltb nf records) ≡ false = none-below 0 (causes P w64 w32 nf) ok 9 in
+    let d : (a || b) ≡ false = or-left (a || b) (ltb nf records) e in
+    (ltb-false w64 (work64 P) (or-left a b d), ltb-false w32 (work32 P) (or-right a b d), ltb-false nf records (or-right (a || b) (ltb nf records) e))
+
+-- so those that are needed would be enough
+pub needed-records : (P : Picture) (w64 w32 nf : ℕ) → refusal P w64 w32 nf ≡ 0 → refusal P w64 w32 records ≡ 0
+needed-records P w64 w32 nf ok = let w = work-room P w64 w32 nf ok in not-refused P w64 w32 records (accepted P w64 w32 nf ok) (w .0) (w .1) (le-refl records)

@@ -51,6 +51,6 @@ all-ended (suc k) n G P = go (λ a. all-ended k (suc n) G (apply P a)) (next P G
     go r (no-room a e f) = subst (Ends (n + suc k) G) (sym (sink-short k n G P a e f)) (λ u e h. absurd (not-done (used n P) u e))
     go r (goes-on a e f) = subst (Ends (n + suc k) G) (sym (sink-more k n G P a e f)) (λ u e h. r a u e (omega arith))
 
-pub ended : (P : Picture) (w64 w32 : ℕ) → refusal P w64 w32 ≡ 0 → gated P ≡ false
-    → (u : Used) → sink P w64 w32 .answer ≡ Done u → u .rounds < most-rounds → Settled (sink P w64 w32 .left) (facts P)
-ended P w64 w32 ok through = subst (Ends most-rounds (facts P)) (sym (sink-through P w64 w32 ok through)) (all-ended most-rounds 0 (facts P) P)
+pub ended : (P : Picture) (w64 w32 nf : ℕ) → refusal P w64 w32 nf ≡ 0 → gated P ≡ false
+    → (u : Used) → sink P w64 w32 nf .answer ≡ Done u → u .rounds < most-rounds → Settled (sink P w64 w32 nf .left) (facts P)
+ended P w64 w32 nf ok through = subst (Ends most-rounds (facts P)) (sym (sink-through P w64 w32 nf ok through)) (all-ended most-rounds 0 (facts P) P)

@@ -210,13 +210,13 @@ moving P G a ok e f = record { ok = ok; choice = chosen P G a e; room = f }
 pub keeps : (P : Picture) (G : Facts) (a : Plan) → Accepted P → round P G ≡ some a → fits P (apply P a) ≡ true → Accepted (apply P a)
 keeps P G a ok e f = move-keeps P G a (moving P G a ok e f)
 
--- and what was not refused is not, with the same work slices
-pub round-not-refused : (P : Picture) (G : Facts) (a : Plan) (w64 w32 : ℕ) → refusal P w64 w32 ≡ 0 → round P G ≡ some a → fits P (apply P a) ≡ true → refusal (apply P a) w64 w32 ≡ 0
-round-not-refused P G a w64 w32 z e f =
-    let ok = accepted P w64 w32 z in
+-- and what was not refused is not, with the same work slices and records
+pub round-not-refused : (P : Picture) (G : Facts) (a : Plan) (w64 w32 nf : ℕ) → refusal P w64 w32 nf ≡ 0 → round P G ≡ some a → fits P (apply P a) ≡ true → refusal (apply P a) w64 w32 nf ≡ 0
+round-not-refused P G a w64 w32 nf z e f =
+    let ok = accepted P w64 w32 nf z in
     let mv = moving P G a ok e f in
-    let w = work-room P w64 w32 z in
-    not-refused (apply P a) w64 w32 (move-keeps P G a mv) (le-trans (le-of-eq (same-work64 P G a mv)) (w .0)) (le-trans (le-of-eq (same-work32 P G a mv)) (w .1))
+    let w = work-room P w64 w32 nf z in
+    not-refused (apply P a) w64 w32 nf (move-keeps P G a mv) (le-trans (le-of-eq (same-work64 P G a mv)) (w .0)) (le-trans (le-of-eq (same-work32 P G a mv)) (w .1)) (w .2)
 
 -- Q is what some rounds make of P
 pub data Rounds (G : Facts) : Picture → Picture → Type 0 where
@@ -227,6 +227,6 @@ pub rounds-keep : {G : Facts} {P Q : Picture} → Rounds G P Q → Accepted P �
 rounds-keep none-yet ok = ok
 rounds-keep {G} (one-more {Q = Q} a r e f) ok = keeps Q G a (rounds-keep r ok) e f
 
-pub rounds-not-refused : {G : Facts} {P Q : Picture} (w64 w32 : ℕ) → Rounds G P Q → refusal P w64 w32 ≡ 0 → refusal Q w64 w32 ≡ 0
-rounds-not-refused w64 w32 none-yet z = z
-rounds-not-refused {G} w64 w32 (one-more {Q = Q} a r e f) z = round-not-refused Q G a w64 w32 (rounds-not-refused w64 w32 r z) e f
+pub rounds-not-refused : {G : Facts} {P Q : Picture} (w64 w32 nf : ℕ) → Rounds G P Q → refusal P w64 w32 nf ≡ 0 → refusal Q w64 w32 nf ≡ 0
+rounds-not-refused w64 w32 nf none-yet z = z
+rounds-not-refused {G} w64 w32 nf (one-more {Q = Q} a r e f) z = round-not-refused Q G a w64 w32 nf (rounds-not-refused w64 w32 nf r z) e f

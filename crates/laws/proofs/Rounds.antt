@@ -50,15 +50,15 @@ module _ (k n : ℕ) (G : Facts) (P : Picture) where
 
 -- ---- the call on an accepted picture: the gates, then the rounds
 
-module _ (P : Picture) (w64 w32 : ℕ) (ok : refusal P w64 w32 ≡ 0) where
+module _ (P : Picture) (w64 w32 nf : ℕ) (ok : refusal P w64 w32 nf ≡ 0) where
   abbrev gates : Bool → Outcome
   gates b = elim b as (λ z. Outcome) [ true ↦ ends-in (Done (used 0 P)) P | false ↦ sink-all most-rounds 0 (facts P) P ]
 
   abbrev by-refusal : ℕ → Outcome
   by-refusal n = elim n as (λ z. Outcome) [ suc n ↦ ends-in (Refused (suc n)) P | zero ↦ gates (gated P) ]
 
-  pub sink-gated : gated P ≡ true → sink P w64 w32 ≡ ends-in (Done (used 0 P)) P
+  pub sink-gated : gated P ≡ true → sink P w64 w32 nf ≡ ends-in (Done (used 0 P)) P
   sink-gated e = ap by-refusal ok ∙ ap gates e
 
-  pub sink-through : gated P ≡ false → sink P w64 w32 ≡ sink-all most-rounds 0 (facts P) P
+  pub sink-through : gated P ≡ false → sink P w64 w32 nf ≡ sink-all most-rounds 0 (facts P) P
   sink-through e = ap by-refusal ok ∙ ap gates e

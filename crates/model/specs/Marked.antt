@@ -9,6 +9,7 @@ use Rattle.model.specs.declared.Answer.{Answer}
 use Rattle.model.specs.declared.Answer.the-variants.{Done, Short, Refused}
 use Rattle.model.specs.Kinds.{Const, AddrOf, Alloc, Cmp, Cat, CondBr, Br, Output, Ret, Stmt, Suspend}
 use Rattle.model.specs.Picture.{Picture, Inst}
+use Rattle.model.specs.Refusal.{records}
 use Rattle.model.specs.Pass.{Outcome, ends-in, used, sink}
 use Rattle.model.specs.Build.{op, Room, shows}
 
@@ -182,9 +183,9 @@ more =
 
 -- ---- by computation: each row's answer, lines and whole picture
 
--- the call with work slices that are long enough
+-- the call with work slices that are long enough, and records enough
 abbrev answered : Row → Outcome
-answered w = sink (w .what) 1000 9000
+answered w = sink (w .what) 1000 9000 records
 
 pub marked-cases : map answered marked ≡ map (λ w. w .gives) marked
 marked-cases = refl

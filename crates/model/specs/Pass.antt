@@ -96,10 +96,10 @@ budget = 2097152
 abbrev pub gated : Picture → Bool
 gated P = eqb (nblocks P) 0 || ltb budget (P .regs * nblocks P) || not (any (λ i. is-kind Cat i && eqb (form i) 0) (all-code P))
 
--- the whole call, given the lengths of the two work slices; refusals come before gates
-abbrev pub sink : Picture → ℕ → ℕ → Outcome
-sink P w64 w32 =
-    elim (refusal P w64 w32) [
+-- the whole call, given the lengths of the two work slices and the records lent; refusals come before gates
+abbrev pub sink : Picture → ℕ → ℕ → ℕ → Outcome
+sink P w64 w32 nf =
+    elim (refusal P w64 w32 nf) [
       | suc n ↦ ends-in (Refused (suc n)) P
       | zero ↦ elim (gated P) [ true ↦ ends-in (Done (used 0 P)) P | false ↦ sink-all most-rounds 0 (facts P) P ]
     ]

@@ -1,5 +1,5 @@
--- 01, "The call": the table of causes, cause by cause in its order and words; the sizes of the work slices; and the lowest number
--- whose cause is present. Assumes nothing.
+-- 01, "The call": the table of causes, cause by cause in its order and words; the sizes of the work slices, and the records
+-- ("What changes shape"); and the lowest number whose cause is present. Assumes nothing.
 use mathlib.Core.Bool.{Bool, true, false, not, _&&_, _||_, cond}
 use mathlib.Core.List.{List, [], _∷_, _++_, map}
 use Prim.Native.Nat.{ℕ, zero, suc, _+_, _-_, _*_, _/_, _%_}
@@ -98,9 +98,13 @@ work64 P = 4 * nblocks P * ((length (P .types) + 63) / 64) + 2 * length (P .type
 abbrev pub work32 : Picture → ℕ
 work32 P = 8 * length (P .types) + 16 * nblocks P + 8000
 
--- each cause, in order, of a picture and the lengths of the two work slices
-abbrev pub causes : Picture → ℕ → ℕ → List Bool
-causes P w64 w32 =
+-- the facts that it works in: one record per position of a chain
+abbrev pub records : ℕ
+records = 800
+
+-- each cause, in order, of a picture, the lengths of the two work slices and the records lent
+abbrev pub causes : Picture → ℕ → ℕ → ℕ → List Bool
+causes P w64 w32 nf =
     let is = all-code P in
     too-large P
     ∷ uneven P
@@ -115,8 +119,8 @@ causes P w64 w32 =
     ∷ any (λ i. is-kind Cat i && ltb 33 (getD i 8 0)) is
     -- 9: a type in use above 7
     ∷ any (ltb 7) (take (P .regs) (P .types))
-    -- 10: work slices too short
-    ∷ (ltb w64 (work64 P) || ltb w32 (work32 P))
+    -- 10: work slices too short; fewer than 800 records is cause 10 too
+    ∷ (ltb w64 (work64 P) || ltb w32 (work32 P) || ltb nf records)
     -- 11: a movable instruction writes two registers
     ∷ any (λ i. may-move (row (kind i) .arm) && ltb 1 (length (Pic.writes i))) is
     ∷ []
@@ -127,5 +131,5 @@ lowest n [] = 0
 lowest n (true ∷ cs) = n
 lowest n (false ∷ cs) = lowest (suc n) cs
 
-abbrev pub refusal : Picture → ℕ → ℕ → ℕ
-refusal P w64 w32 = lowest 1 (causes P w64 w32)
+abbrev pub refusal : Picture → ℕ → ℕ → ℕ → ℕ
+refusal P w64 w32 nf = lowest 1 (causes P w64 w32 nf)

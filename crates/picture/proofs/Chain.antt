@@ -14,7 +14,7 @@ use Rattle.picture.proofs.Writes.{one-at-most}
 
 -- ---- the causes from each number on
 
-module _ (P : Picture) (w64 w32 : ℕ) where
+module _ (P : Picture) (w64 w32 nf : ℕ) where
   abbrev n : ℕ
   n = length (P .locs)
 
@@ -22,7 +22,7 @@ module _ (P : Picture) (w64 w32 : ℕ) where
   from11 = any two-writes (code (P .recs) n) ∷ []
 
   unfoldable pub from10 : List Bool
-  from10 = too-short (length (P .bounds)) (length (P .types)) w64 w32 ∷ from11
+  from10 = too-short (length (P .bounds)) (length (P .types)) w64 w32 nf ∷ from11
 
   unfoldable pub from9 : List Bool
   from9 = bad-types (P .types) (P .regs) ∷ from10
@@ -51,7 +51,7 @@ module _ (P : Picture) (w64 w32 : ℕ) where
   unfoldable pub from1 : List Bool
   from1 = too-many (length (P .bounds)) n (length (P .types)) (length (P .ops)) (length (P .pairs)) (length (P .targets)) (P .regs) (P .opers) ∷ from2
 
-  pub whole-chain : lowest 1 from1 ≡ refusal P w64 w32
+  pub whole-chain : lowest 1 from1 ≡ refusal P w64 w32 nf
   unfolding from1 from2 from3 from4 from5 from6 from7 from8 from9 from10 from11 code too-many unlike too-short bad-regs two-writes bad-lists bad-targets bad-types
   whole-chain = refl
 
@@ -64,9 +64,9 @@ module _ (P : Picture) (w64 w32 : ℕ) where
 -- ---- what the answers do not look at
 
 -- replay, in a refusal
-pub whatever-replay : (P : Picture) (w64 w32 : ℕ)
-    → refusal (picture-of (P .bounds) (P .recs) (P .locs) (P .vias) (P .types) (P .regs) (P .ops) (P .opers) (P .pairs) (P .targets) []) w64 w32 ≡ refusal P w64 w32
-whatever-replay P w64 w32 = refl
+pub whatever-replay : (P : Picture) (w64 w32 nf : ℕ)
+    → refusal (picture-of (P .bounds) (P .recs) (P .locs) (P .vias) (P .types) (P .regs) (P .ops) (P .opers) (P .pairs) (P .targets) []) w64 w32 nf ≡ refusal P w64 w32 nf
+whatever-replay P w64 w32 nf = refl
 
 -- all but bounds, records, locs and registers in use, in the gates
 pub whatever-rest : (P : Picture) → gated (picture-of (P .bounds) (P .recs) (P .locs) [] [] (P .regs) [] 0 [] [] []) ≡ gated P

@@ -9,7 +9,7 @@ use Rattle.words.specs.Lists.{upto, any}
 use Rattle.model.specs.Kinds.{row, Cat}
 use Rattle.model.specs.Picture.{Picture, Inst, inst, absent, kind, form, is-kind, slots, roles}
 use Rattle.model.specs.Picture as Pic
-use Rattle.model.specs.Refusal.{bad-slots, half-part, bad-pairs, may-move}
+use Rattle.model.specs.Refusal.{bad-slots, half-part, bad-pairs, may-move, records}
 
 -- bounds, records, locs, vias, types and registers in use, operands and those in use, case pairs, targets, replay
 abbrev pub picture-of : List ℕ → List ℕ → List ℕ → List ℕ → List ℕ → ℕ → List ℕ → ℕ → List ℕ → List ℕ → List ℕ → Picture
@@ -32,8 +32,8 @@ unfoldable pub unlike : ℕ → ℕ → ℕ → ℕ → ℕ → Bool
 unlike nr nl nv nb np = not (eqb nr (16 * nl)) || not (eqb nv 0 || eqb nv nl) || eqb (nb % 2) 1 || eqb (np % 2) 1
 
 -- 10, by the lengths of bounds and types
-unfoldable pub too-short : ℕ → ℕ → ℕ → ℕ → Bool
-too-short nb nt w64 w32 = ltb w64 (4 * (nb / 2) * ((nt + 63) / 64) + 2 * nt) || ltb w32 (8 * nt + 16 * (nb / 2) + 8000)
+unfoldable pub too-short : ℕ → ℕ → ℕ → ℕ → ℕ → Bool
+too-short nb nt w64 w32 nf = ltb w64 (4 * (nb / 2) * ((nt + 63) / 64) + 2 * nt) || ltb w32 (8 * nt + 16 * (nb / 2) + 8000) || ltb nf records
 
 -- ---- one instruction
 

@@ -23,8 +23,8 @@ ghost use Rattle.model.specs.Refusal.{refusal};
 ghost use Rattle.inst.specs.Table.{rows};
 ghost use Rattle.picture.specs.Causes.{picture-of};
 
-// The lowest number whose cause is present in the picture, or 0, given the lengths of the two work slices. Cause 11 needs no
-// test: it is absent wherever cause 4 is (proofs/Writes).
+// The lowest number whose cause is present in the picture, or 0, given the lengths of the two work slices and the records
+// lent. Cause 11 needs no test: it is absent wherever cause 4 is (proofs/Writes).
 pub fn refusal(
     bounds: &[u32],
     recs: &[u32],
@@ -38,10 +38,11 @@ pub fn refusal(
     targets: &[u32],
     w64: usize,
     w32: usize,
+    records: usize,
     table: &[u32; 202],
 ) -> u32
     requires { ⌜ now table ≡ rows ⌝ }
-    ensures { λ r. ⌜ r ≡ refusal (picture-of (now (bounds .entry)) (now (recs .entry)) (now (locs .entry)) (now (vias .entry)) (now (types .entry)) regs (now (ops .entry)) opers (now (pairs .entry)) (now (targets .entry)) []) w64 w32 ⌝ }
+    ensures { λ r. ⌜ r ≡ refusal (picture-of (now (bounds .entry)) (now (recs .entry)) (now (locs .entry)) (now (vias .entry)) (now (types .entry)) regs (now (ops .entry)) opers (now (pairs .entry)) (now (targets .entry)) []) w64 w32 records ⌝ }
 {
     let b = bounds.len();
     let n = locs.len();
@@ -74,7 +75,7 @@ pub fn refusal(
     if bad_types(types, regs) {
         return 9;
     }
-    if too_short(b, k, w64, w32) {
+    if too_short(b, k, w64, w32, records) {
         return 10;
     }
     0

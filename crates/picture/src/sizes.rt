@@ -1,5 +1,5 @@
-// Causes 1, 2 and 10 (01, "The call", the table; work sizes under "Port order and sizes"), by lengths alone: they are
-// tested before anything is indexed, and no product can wrap.
+// Causes 1, 2 and 10 (01, "The call", the table; work sizes under "Port order and sizes", records under "What changes
+// shape"), by lengths alone: they are tested before anything is indexed, and no product can wrap.
 use inst::record::wide;
 ghost use mathlib.Core.Path.{_≡_};
 ghost use Prim.Native.Nat.{_/_, _≤_};
@@ -36,10 +36,12 @@ pub fn unlike(nr: usize, nl: usize, nv: usize, nb: usize, np: usize) -> bool
     (nr != 16 * nl) | !((nv == 0) | (nv == nl)) | (nb % 2 == 1) | (np % 2 == 1)
 }
 
-// 10: of the lengths of bounds and types, and of the two work slices.
-pub fn too_short(nb: usize, nt: usize, w64: usize, w32: usize) -> bool
+// 10: of the lengths of bounds and types, of the two work slices, and of the records lent.
+pub fn too_short(nb: usize, nt: usize, w64: usize, w32: usize, records: usize) -> bool
     requires { ⌜ (nb / 2 ≤ 4096) × (nt ≤ 65536) ⌝ }
-    ensures { λ r. ⌜ r ≡ too-short nb nt w64 w32 ⌝ }
+    ensures { λ r. ⌜ r ≡ too-short nb nt w64 w32 records ⌝ }
 {
-    (w64 < 4 * (nb / 2) * ((nt + 63) / 64) + 2 * nt) | (w32 < 8 * nt + 16 * (nb / 2) + 8000)
+    (w64 < 4 * (nb / 2) * ((nt + 63) / 64) + 2 * nt)
+        | (w32 < 8 * nt + 16 * (nb / 2) + 8000)
+        | (records < 800)
 }

@@ -6,6 +6,7 @@ use native.Mathlib.Nat.{le-of-eq}
 use native.Mathlib.Omega.{arith}
 use lib.ListN.{length, drop}
 use Rattle.model.specs.Picture.{Picture, nblocks}
+use Rattle.model.specs.Refusal.{records}
 use Rattle.model.specs.Analyse.{Facts}
 use Rattle.laws.proofs.Accepted.{Accepted, accepted}
 use Rattle.laws.proofs.Sizes as S
@@ -63,7 +64,7 @@ module _ {bounds recs ops pairs targets replay : List ℕ} {s : Sizes} {work64 w
       let wide : w ≡ width (P .regs) = ew ∙ ap width (er ∙ l .regs-are) in
       let rows : length bounds / 2 * w ≡ nblocks P * width (P .regs) = ap₂ (λ (k : List ℕ) (v : ℕ). length k / 2 * v) (l .bounds-are) wide in
       record {
-        begun = begun-kept (firm-back P (accepted P (length work64) (length work32) (l .accepted)) (length bounds / 2 * w) work64 bits (le-of-eq rows) (n .behind)) refl b;
+        begun = begun-kept (firm-back P (accepted P (length work64) (length work32) records (l .accepted)) (length bounds / 2 * w) work64 bits (le-of-eq rows) (n .behind)) refl b;
         live = subst (λ (v : ℕ). Live P v bits) wide (live-rows-whole P w bits (subst (λ (Q : Picture). Live Q w bits) d (n .live)));
       }
 
@@ -72,7 +73,7 @@ module _ {bounds recs ops pairs targets replay : List ℕ} {s : Sizes} {work64 w
 
 module _ {bounds recs ops pairs targets replay : List ℕ} {s : Sizes} {work64 work32 : List ℕ} (k : Looking bounds recs ops pairs targets replay s work64 work32) where
   good : Accepted (k .P)
-  good = accepted (k .P) (length work64) (length work32) (k .shown .lists .accepted)
+  good = accepted (k .P) (length work64) (length work32) records (k .shown .lists .accepted)
 
   pub regs-few : s .regs ≤ 65536
   regs-few = let e = k .shown .lists .regs-are in let a = S.regs-lent (k .P) good in let b = S.few-types (k .P) good in omega arith

@@ -13,6 +13,7 @@ use lib.ListN.{getD, length, take, drop}
 use Rattle.words.specs.Lists.{range, upto}
 use Rattle.words.proofs.Lists.{range-append, range-snoc}
 use Rattle.model.specs.Picture.{Picture, nblocks, size}
+use Rattle.model.specs.Refusal.{records}
 use Rattle.model.specs.Analyse.{Facts}
 use Rattle.model.specs.Move as M
 use Rattle.model.specs.Move.{Plan, chain, min-replay, minimum, replays, worth-a-look, plan, run-of, plan-chain, try-block}
@@ -125,7 +126,7 @@ module _ {bounds recs replay : List ℕ} {s : Sizes} {work32 : List ℕ} (g : Se
   lists = g .sees .shown .lists
 
   good : Accepted (g .P)
-  good = accepted (g .P) (g .sees .w64) (length work32) (lists .accepted)
+  good = accepted (g .P) (g .sees .w64) (length work32) records (lists .accepted)
 
   pub rooms : Room (s .blocks) (s .regs) (s .lent) (g .sees .w64) (length work32)
   rooms = room lists

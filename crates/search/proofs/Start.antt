@@ -13,7 +13,7 @@ use lib.Seq.{take-at, drop-at, length-take-le}
 use Rattle.words.specs.Lists.{upto}
 use Rattle.words.proofs.Lists.{length-range}
 use Rattle.model.specs.Picture.{Picture, nblocks, preds}
-use Rattle.model.specs.Refusal.{refusal}
+use Rattle.model.specs.Refusal.{records, refusal}
 use Rattle.model.specs.Analyse.{facts}
 use Rattle.laws.proofs.Accepted.{Accepted, accepted, work-room}
 use Rattle.laws.proofs.Sizes as S
@@ -52,9 +52,9 @@ pub record Rooms (b lent insts w64 w32 : ℕ) : Type 0 where
 pub small-product : (a b : ℕ) → a ≤ 16384 → b ≤ 1024 → a * b ≤ 16777216
 small-product a b h g = mul-le-mul h g
 
-pub rooms-of : (P : Picture) (w64 w32 : ℕ) → refusal P w64 w32 ≡ 0 → Rooms (nblocks P) (length (P .types)) (length (P .locs)) w64 w32
+pub rooms-of : (P : Picture) (w64 w32 : ℕ) → refusal P w64 w32 records ≡ 0 → Rooms (nblocks P) (length (P .types)) (length (P .locs)) w64 w32
 rooms-of P w64 w32 r =
-    let ok = accepted P w64 w32 r in
+    let ok = accepted P w64 w32 records r in
     let b = S.few-blocks P ok in
     let k = S.few-types P ok in
     record {
@@ -62,11 +62,11 @@ rooms-of P w64 w32 r =
       few-lent = k;
       few-insts = S.few-insts P ok;
       small = small-product (4 * nblocks P) (width (length (P .types))) (omega arith) (omega arith);
-      room64 = work-room P w64 w32 r .0;
-      room32 = work-room P w64 w32 r .1;
+      room64 = work-room P w64 w32 records r .0;
+      room32 = work-room P w64 w32 records r .1;
     }
 
-pub rooms-at : (P : Picture) (w64 w32 : ℕ) → refusal P w64 w32 ≡ 0 → {b lent insts : ℕ} → b ≡ nblocks P → lent ≡ length (P .types) → insts ≡ length (P .locs) → Rooms b lent insts w64 w32
+pub rooms-at : (P : Picture) (w64 w32 : ℕ) → refusal P w64 w32 records ≡ 0 → {b lent insts : ℕ} → b ≡ nblocks P → lent ≡ length (P .types) → insts ≡ length (P .locs) → Rooms b lent insts w64 w32
 rooms-at P w64 w32 r {b} {lent} {insts} e f g =
     subst (λ (z : ℕ). Rooms z lent insts w64 w32) (sym e)
     (subst (λ (z : ℕ). Rooms (nblocks P) z insts w64 w32) (sym f)
@@ -113,10 +113,10 @@ preds-at P {bounds} {recs} {pairs} {targets} {words} e f g h z =
 abbrev pub RowsAsk : List ℕ → List ℕ → List ℕ → ℕ → List ℕ → Type 0
 RowsAsk bounds recs ops w bits = Blocks bounds recs × Code recs ops × Below recs ops (64 * w) × RowRoom (length bounds / 2) w bits
 
-pub rows-asked : (P : Picture) (w32 : ℕ) {bounds recs ops : List ℕ} {w : ℕ} (bits : List ℕ) → refusal P (length bits) w32 ≡ 0 → bounds ≡ P .bounds → recs ≡ P .recs → ops ≡ P .ops → w ≡ width (P .regs)
+pub rows-asked : (P : Picture) (w32 : ℕ) {bounds recs ops : List ℕ} {w : ℕ} (bits : List ℕ) → refusal P (length bits) w32 records ≡ 0 → bounds ≡ P .bounds → recs ≡ P .recs → ops ≡ P .ops → w ≡ width (P .regs)
     → RowsAsk bounds recs ops w bits
 rows-asked P w32 {bounds} {recs} {ops} {w} bits r eb er eo ew =
-    let ok = accepted P (length bits) w32 r in
+    let ok = accepted P (length bits) w32 records r in
     subst (λ (l : List ℕ). RowsAsk l recs ops w bits) (sym eb)
     (subst (λ (l : List ℕ). RowsAsk (P .bounds) l ops w bits) (sym er)
     (subst (λ (l : List ℕ). RowsAsk (P .bounds) (P .recs) l w bits) (sym eo)
@@ -147,7 +147,7 @@ module _ {bounds recs ops pairs targets work64 work32 : List ℕ} {lent insts re
   room-at r e = subst (λ (z : ℕ). 4 * (length bounds / 2) * z + 2 * lent ≤ length work64) (sym e) (rooms .room64)
 
   good : Accepted (k .P)
-  good = accepted (k .P) (length work64) (length work32) (k .accepted)
+  good = accepted (k .P) (length work64) (length work32) records (k .accepted)
 
   pub regs-few : regs ≤ 65536
   regs-few = let e = k .regs-are in let a = S.regs-lent (k .P) good in let b = S.few-types (k .P) good in omega arith
@@ -183,7 +183,7 @@ module _ {bounds recs ops pairs targets work64 work32 : List ℕ} {lent insts re
       size64 = same-len-mid a (a + lent - a) mid ys (found .size) ∙ same;
       size32 = same-len-mid p (p + 2 * (length bounds / 2) - p) work32 zs long;
       begun = λ P z eb ec eo ep et el ei eg.
-          let ok = accepted P (length work64) (length work32) z in
+          let ok = accepted P (length work64) (length work32) records z in
           let n64 = rooms .room64 in
           let n32 = rooms .room32 in
           let size : length ys ≡ length (P .types) = found .size ∙ part-long a e ∙ sym el in

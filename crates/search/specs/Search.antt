@@ -7,7 +7,7 @@ use Prim.Native.Nat.{ℕ, _≤_}
 use lib.ListN.{length}
 use Rattle.words.specs.Lists.{upto}
 use Rattle.model.specs.Picture.{Picture, nblocks}
-use Rattle.model.specs.Refusal.{refusal}
+use Rattle.model.specs.Refusal.{refusal, records}
 use Rattle.model.specs.Analyse.{Facts, facts}
 use Rattle.model.specs.Move.{try-block}
 use Rattle.model.specs.Pass.{first-plan}
@@ -23,7 +23,7 @@ use Rattle.search.specs.declared.find.MaybeLook.the-variants.{Is, Not}
 -- there is an accepted picture whose lists these are, of so many registers lent, instructions and registers in use
 pub record Beginning (bounds recs ops pairs targets work64 work32 : List ℕ) (lent insts regs : ℕ) : Type 0 where
   pub P : Picture
-  pub accepted : refusal P (length work64) (length work32) ≡ 0
+  pub accepted : refusal P (length work64) (length work32) records ≡ 0
   pub bounds-are : bounds ≡ P .bounds
   pub recs-are : recs ≡ P .recs
   pub ops-are : ops ≡ P .ops
@@ -37,7 +37,7 @@ pub record Beginning (bounds recs ops pairs targets work64 work32 : List ℕ) (l
 pub record Began (bounds recs ops pairs targets work64 work32 : List ℕ) (lent insts regs : ℕ) (work64′ work32′ : List ℕ) : Type 0 where
   pub size64 : length work64′ ≡ length work64
   pub size32 : length work32′ ≡ length work32
-  pub begun : (P : Picture) → refusal P (length work64) (length work32) ≡ 0 → P .bounds ≡ bounds → P .recs ≡ recs → P .ops ≡ ops → P .pairs ≡ pairs
+  pub begun : (P : Picture) → refusal P (length work64) (length work32) records ≡ 0 → P .bounds ≡ bounds → P .recs ≡ recs → P .ops ≡ ops → P .pairs ≡ pairs
       → P .targets ≡ targets → length (P .types) ≡ lent → length (P .locs) ≡ insts → P .regs ≡ regs → Begun P (facts P) work64′ work32′
 
 -- ---- the search

@@ -23,11 +23,11 @@ pic s =
     let a = s .args in
     picture-of (a .bounds .now) (a .recs .now) (a .locs .now) (a .vias .now) (a .types .now) (a .regs) (a .ops .now) (a .opers) (a .pairs .now) (a .targets .now) []
 
-abbrev rest : (Picture → ℕ → ℕ → List Bool) → tie.Start → List Bool
-rest f s = f (pic s) (s .args .w64) (s .args .w32)
+abbrev rest : (Picture → ℕ → ℕ → ℕ → List Bool) → tie.Start → List Bool
+rest f s = f (pic s) (s .args .w64) (s .args .w32) (s .args .records)
 
 abbrev answer : tie.Start → ℕ
-answer s = refusal (pic s) (s .args .w64) (s .args .w32)
+answer s = refusal (pic s) (s .args .w64) (s .args .w32) (s .args .records)
 
 -- the entry, from past each test
 abbrev s1 : tie.Else1 → tie.Start
@@ -86,7 +86,7 @@ cats-in c = ap (λ (f : Found). f .cats) (others-in c)
 
 past1 : (c : tie.Else1) → lowest 2 (rest from2 (s1 c)) ≡ answer (s1 c)
 unfolding from1
-past1 c = on 1 (rest from2 (s1 c)) (c .before .too-many .ensures) (c .if1 .left) ∙ whole-chain (pic (s1 c)) (s1 c .args .w64) (s1 c .args .w32)
+past1 c = on 1 (rest from2 (s1 c)) (c .before .too-many .ensures) (c .if1 .left) ∙ whole-chain (pic (s1 c)) (s1 c .args .w64) (s1 c .args .w32) (s1 c .args .records)
 
 past2 : (c : tie.Else2) → lowest 3 (rest from3 (s2 c)) ≡ answer (s2 c)
 unfolding from2
@@ -143,7 +143,7 @@ too-many-requires c κs = search needs
 
 returns : tie.Need-returns
 unfolding from1
-returns c = stop 1 (rest from2 (c .before .before .before .before .before .before .before .before .before .before)) (c .before .too-many .ensures) (c .if1 .taken) ∙ whole-chain (pic (c .before .before .before .before .before .before .before .before .before .before)) (c .before .before .before .before .before .before .before .before .before .before .args .w64) (c .before .before .before .before .before .before .before .before .before .before .args .w32)
+returns c = stop 1 (rest from2 (c .before .before .before .before .before .before .before .before .before .before)) (c .before .too-many .ensures) (c .if1 .taken) ∙ whole-chain (pic (c .before .before .before .before .before .before .before .before .before .before)) (c .before .before .before .before .before .before .before .before .before .before .args .w64) (c .before .before .before .before .before .before .before .before .before .before .args .w32) (c .before .before .before .before .before .before .before .before .before .before .args .records)
 
 unlike-requires : tie.Need-unlike-requires
 unlike-requires c κs = few-at c .locs
@@ -203,7 +203,7 @@ unfolding from10
 returns-10 c = stop 10 (rest from11 (s9 (c .before .before))) (c .before .too-short .ensures) (c .if10 .taken) ∙ past9 (c .before .before)
 
 returns-11 : tie.Need-returns-11
-returns-11 c = end (pic (s10 c)) (s10 c .args .w64) (s10 c .args .w32) (kinds-at (c .before .before .before .before .before .before .before .before .before .before)) ∙ past10 c
+returns-11 c = end (pic (s10 c)) (s10 c .args .w64) (s10 c .args .w32) (s10 c .args .records) (kinds-at (c .before .before .before .before .before .before .before .before .before .before)) ∙ past10 c
 
 pub refusal-spec : {M : Type 1} → statement M
 refusal-spec =
