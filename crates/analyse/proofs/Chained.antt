@@ -2,10 +2,10 @@
 use mathlib.Core.List.{List, [], _∷_, _++_, map, append-nil, append-assoc}
 use mathlib.Core.Logic.{⊎-elim}
 use mathlib.Core.Path.{_≡_, refl, sym, ap, _∙_, subst}
-use Prim.Native.Nat.{ℕ, _+_, _*_, _/_, _%_, _≤_, _<_}
+use Prim.Native.Nat.{ℕ, _+_, _/_, _%_, _≤_, _<_}
 use native.Mathlib.Nat.{zero-add, not-suc-le-zero}
 use native.Mathlib.Omega.{arith}
-use lib.ListN.{getD, length, length-append}
+use lib.ListN.{getD, length, set, length-append}
 use Rattle.words.proofs.Bools.{lt?}
 use Rattle.model.specs.Picture.{Picture, inst}
 use Rattle.model.specs.Analyse.{Facts, analyse}
@@ -15,9 +15,14 @@ use Rattle.chains.specs.declared.cursor.Cursor.{Cursor}
 use Rattle.chains.specs.Chain.{blocks-of}
 use Rattle.chains.specs.Cursor.{left-of, Standing}
 use Rattle.chains.proofs.Seeking.{next-left, nothing-left}
+use Rattle.inst.specs.Table.{rows}
+use Rattle.facts.specs.declared.Fact as F
 use Rattle.analyse.specs.Flags.{Seen}
-use Rattle.analyse.specs.State.{cell, opt-at, State, Safe}
-use Rattle.analyse.specs.Step.{Forgot, Good, Holds, Ran, Ready, Analysed}
+use Rattle.analyse.specs.State.{cell, opt-at, State, Ranged, Safe}
+use Rattle.analyse.specs.Step.{Forgot, Good, Learned, Holds, Ran, Begun, Ready, Analysed}
+use Rattle.analyse.specs.Cells.{cells}
+use Rattle.analyse.proofs.Cells.{length-cells, put-cells}
+use Rattle.analyse.proofs.Puts.{ran-one}
 use Rattle.analyse.proofs.Learned.{seen-kept}
 use Rattle.analyse.proofs.Marking.{ranges-none}
 use Rattle.analyse.proofs.Run.{ran-none, ran-append}
@@ -49,13 +54,16 @@ pub record Chained (recs ops bounds : List ℕ) (c : Chain) (R : ℕ) (regs₀ w
   pub ran : Ran recs ops regs₀ w₀ regs w 0 R places
   pub rest : (P : Picture) → P .bounds ≡ bounds → places ++ left-of P (blocks-of c) (x .k) (x .g) (x .past) ≡ chain-places P (blocks-of c)
 
-module _ {t recs ops regs w bounds : List ℕ} {c : Chain} {B R n : ℕ} (y : Ready t recs ops regs w bounds c B R n) where
+module _ {t recs ops regs bounds : List ℕ} {facts : List F.Fact} {c : Chain} {B R n : ℕ} (y : Ready t recs ops regs facts bounds c B R n) where
   abbrev bs : List ℕ
   bs = blocks-of c
 
-  pub chained-none : {regs₀ : List ℕ} {x : Cursor} → Forgot R regs regs₀ → Standing bounds c x → ((P : Picture) → P .bounds ≡ bounds → chain-places P bs ≡ left-of P bs (x .k) (x .g) (x .past)) → Chained recs ops bounds c R regs₀ w regs₀ w x 0
-  chained-none {regs₀} f s all = record {
-    standing = s;
+  abbrev w : List ℕ
+  w = cells facts
+
+  pub chained-none : {regs₀ : List ℕ} {x : Cursor} → Begun bounds c R regs regs₀ x → Chained recs ops bounds c R regs₀ w regs₀ w x 0
+  chained-none {regs₀} b = let f = b .forgot in record {
+    standing = b .standing;
     places = [];
     at = refl;
     ran = ran-none recs ops (record {
@@ -68,7 +76,7 @@ module _ {t recs ops regs w bounds : List ℕ} {c : Chain} {B R n : ℕ} (y : Re
       room = omega arith;
       near = λ p h. absurd (not-suc-le-zero h);
     });
-    rest = λ P e. sym (all P e);
+    rest = λ P e. sym (b .all P e);
   }
 
   -- a picture with these bounds, to count with
@@ -88,17 +96,15 @@ module _ {t recs ops regs w bounds : List ℕ} {c : Chain} {B R n : ℕ} (y : Re
         let d = ap length (next-left blank bs x l) in
         omega (arith, short, a, b, d, h .at)
 
-    pub step-ready : Safe R p regs₁ w₁ × Good recs ops R (x .g) × (p * 10 + 10 ≤ length w₁) × (p + 1 < 1000)
-    step-ready = (
-      safe-at h,
-      y .good (x .g) (let i = h .standing .inside in omega (arith, l, i .fits, y .ends (getD bs (x .k) 0) (y .sound .each (x .k) (i .block)))),
-      omega (arith, few-yet, y .room, h .ran .size),
-      omega (arith, few-yet),
-    )
+    good-at : Good recs ops R (x .g)
+    good-at = y .good (x .g) (let i = h .standing .inside in omega (arith, l, i .fits, y .ends (getD bs (x .k) 0) (y .sound .each (x .k) (i .block))))
 
-    pub chained-more : {regs₂ w₂ : List ℕ} {z : Cursor} → Ran recs ops regs₁ w₁ regs₂ w₂ p R (x .g ∷ []) → Standing bounds c z → ((P : Picture) → P .bounds ≡ bounds → left-of P bs (x .k) (x .g) (x .past) ≡ x .g ∷ left-of P bs (z .k) (z .g) (z .past))
+    pub learn-ready : (t ≡ rows) × Ranged R p regs₁ × Good recs ops R (x .g) × (p + 1 < 1000)
+    learn-ready = (y .table, safe-at h .ranged, good-at, omega (arith, few-yet))
+
+    goes-on : {regs₂ w₂ : List ℕ} {z : Cursor} → Ran recs ops regs₁ w₁ regs₂ w₂ p R (x .g ∷ []) → Standing bounds c z → ((P : Picture) → P .bounds ≡ bounds → left-of P bs (x .k) (x .g) (x .past) ≡ x .g ∷ left-of P bs (z .k) (z .g) (z .past))
         → Chained recs ops bounds c R regs₀ w regs₂ w₂ z (p + 1)
-    chained-more {regs₂} {w₂} {z} b s e = record {
+    goes-on {regs₂} {w₂} {z} b s e = record {
       standing = s;
       places = h .places ++ (x .g ∷ []);
       at = let a = length-append (h .places) (x .g ∷ []) in omega (arith, a, h .at);
@@ -106,9 +112,16 @@ module _ {t recs ops regs w bounds : List ℕ} {c : Chain} {B R n : ℕ} (y : Re
       rest = λ P q. append-assoc (h .places) (x .g ∷ []) (left-of P bs (z .k) (z .g) (z .past)) ∙ ap (λ (m : List ℕ). h .places ++ m) (sym (e P q)) ∙ h .rest P q;
     }
 
-  pub chained-end : {regs₀ regs₁ w₁ : List ℕ} {x : Cursor} {p : ℕ} → Forgot R regs regs₀ → Chained recs ops bounds c R regs₀ w regs₁ w₁ x p → x .past ≤ x .g → Analysed recs ops regs w bounds c R p regs₁ w₁
+  -- one more position: its fact is put where it belongs, and z stands where the next is
+  pub chained-more : {regs₀ regs₁ regs₂ : List ℕ} (gs : List F.Fact) {x z : Cursor} {p : ℕ} (h : Chained recs ops bounds c R regs₀ w regs₁ (cells gs) x p) (l : x .g < x .past) (f : F.Fact) → length gs ≡ length facts → Learned recs ops regs₁ regs₂ p R (x .g) f
+      → Standing bounds c z → ((P : Picture) → P .bounds ≡ bounds → left-of P bs (x .k) (x .g) (x .past) ≡ x .g ∷ left-of P bs (z .k) (z .g) (z .past)) → Chained recs ops bounds c R regs₀ w regs₂ (cells (set gs p f)) z (p + 1)
+  chained-more gs {p = p} h l f size does s e =
+      let few = few-yet h l in
+      goes-on h l (ran-one (safe-at h) (omega (arith, few, size, y .room, length-cells gs)) (put-cells gs p f (omega (arith, few, size, y .room))) does (good-at h l)) s e
+
+  pub chained-end : {regs₀ regs₁ w₁ : List ℕ} {x₀ x : Cursor} {p : ℕ} → Begun bounds c R regs regs₀ x₀ → Chained recs ops bounds c R regs₀ w regs₁ w₁ x p → x .past ≤ x .g → Analysed recs ops regs w bounds c R p regs₁ w₁
   unfolding blank
-  chained-end {regs₀} {regs₁} {w₁} {x} {p} f h l = record {
+  chained-end {regs₀} {regs₁} {w₁} {x₀} {x} {p} b h l = let f = b .forgot in record {
     regs-size = h .ran .regs-size ∙ f .size;
     size = h .ran .size;
     kept = λ r. h .ran .kept r ∙ forgot-flags f r;

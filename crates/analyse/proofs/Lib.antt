@@ -14,3 +14,4 @@ pub mod Chained
 pub mod First
 pub mod Accepted
 pub mod RunOf
+pub mod Cells

@@ -3,14 +3,12 @@ use mathlib.Core.Bool.{Bool, true, false}
 use mathlib.Core.List.{List, [], _∷_, _++_}
 use mathlib.Core.Logic.{_⊎_, inl, inr, ⊎-elim}
 use mathlib.Core.Path.{_≡_, refl, sym, ap, _∙_, subst}
-use Prim.Native.Nat.{ℕ, suc, _+_, _*_, _≤_, _<_}
+use Prim.Native.Nat.{ℕ, _+_, _*_, _≤_, _<_}
 use native.Mathlib.Decide.{ℕ-discrete}
 use native.Mathlib.Nat.{add-zero}
 use native.Mathlib.Omega.{arith}
-use lib.ListN.{getD, length, set, length-append, List·getD-append}
-use lib.Seq.{sets, length-sets, getD-append-seam}
-use Rattle.words.proofs.Bools.{lt?}
-use Rattle.words.proofs.Copying.{getD-sets-before, getD-sets-in, getD-sets-after}
+use lib.ListN.{getD, length, length-append, List·getD-append}
+use lib.Seq.{getD-append-seam}
 use Rattle.model.specs.Kinds.{row, cat}
 use Rattle.model.specs.Picture.{inst, kind, reads, writes}
 use Rattle.model.specs.Analyse.{Facts, Fact, fact, no-fact}
@@ -19,41 +17,6 @@ use Rattle.facts.specs.declared.Fact as F
 use Rattle.effects.specs.Origin.{org-at, class-at, wrote-at, from-at, num}
 use Rattle.analyse.specs.State.{cell, pack, Words, State, Near, Safe}
 use Rattle.analyse.specs.Step.{words-of, Put, Good, Stands, Learned, Holds, Ran}
-
--- ---- ten words
-
-pub ten : (w : List ℕ) (b a0 a1 a2 a3 a4 a5 a6 a7 a8 a9 : ℕ)
-    → set (set (set (set (set (set (set (set (set (set w b a0) (b + 1) a1) (b + 2) a2) (b + 3) a3) (b + 4) a4) (b + 5) a5) (b + 6) a6) (b + 7) a7) (b + 8) a8) (b + 9) a9 ≡ sets w b (a0 ∷ a1 ∷ a2 ∷ a3 ∷ a4 ∷ a5 ∷ a6 ∷ a7 ∷ a8 ∷ a9 ∷ [])
-ten w b a0 a1 a2 a3 a4 a5 a6 a7 a8 a9 =
-    let e1 : b + 1 ≡ suc b = omega arith in
-    let e2 : b + 2 ≡ suc (suc b) = omega arith in
-    let e3 : b + 3 ≡ suc (suc (suc b)) = omega arith in
-    let e4 : b + 4 ≡ suc (suc (suc (suc b))) = omega arith in
-    let e5 : b + 5 ≡ suc (suc (suc (suc (suc b)))) = omega arith in
-    let e6 : b + 6 ≡ suc (suc (suc (suc (suc (suc b))))) = omega arith in
-    let e7 : b + 7 ≡ suc (suc (suc (suc (suc (suc (suc b)))))) = omega arith in
-    let e8 : b + 8 ≡ suc (suc (suc (suc (suc (suc (suc (suc b))))))) = omega arith in
-    let e9 : b + 9 ≡ suc (suc (suc (suc (suc (suc (suc (suc (suc b)))))))) = omega arith in
-    rw (e1, e2, e3, e4, e5, e6, e7, e8, e9)
-
-apart : (p q j : ℕ) → (q ≡ p → ⊥) → j < 10 → (q * 10 + j < p * 10) ⊎ (p * 10 + 10 ≤ q * 10 + j)
-apart p q j n h = ⊎-elim (λ (l : q < p). inl (omega arith)) (λ (l : p ≤ q). inr (omega (arith, n))) (lt? q p)
-
-pub put-all : (w : List ℕ) (p bits rest : ℕ) (f : F.Fact) → p * 10 + 10 ≤ length w → bits ≡ pack (f .len) (f .layout) (f .creates) (f .barrier) (f .suspends) → rest ≡ num (f .more)
-    → {w′ : List ℕ} → w′ ≡ sets w (p * 10) (f .rec ∷ f .class ∷ f .org ∷ bits ∷ f .wrote ∷ f .from ∷ f .def ∷ f .use0 ∷ f .use1 ∷ rest ∷ []) → Put w w′ p f
-unfolding cell words-of
-put-all w p bits rest f h q m {w′} ew =
-    let z : w′ ≡ sets w (p * 10) (words-of f) =
-    ew ∙ ap (λ (b : ℕ). sets w (p * 10) (f .rec ∷ f .class ∷ f .org ∷ b ∷ f .wrote ∷ f .from ∷ f .def ∷ f .use0 ∷ f .use1 ∷ rest ∷ [])) q
-    ∙ ap (λ (b : ℕ). sets w (p * 10) (f .rec ∷ f .class ∷ f .org ∷ pack (f .len) (f .layout) (f .creates) (f .barrier) (f .suspends) ∷ f .wrote ∷ f .from ∷ f .def ∷ f .use0 ∷ f .use1 ∷ b ∷ [])) m in
-    record {
-      size = ap length z ∙ length-sets w (p * 10) (words-of f);
-      inside = λ j l. ap (λ (x : List ℕ). getD x (p * 10 + j) 0) z ∙ getD-sets-in w (p * 10) (words-of f) j 0 (omega arith) l;
-      others = λ k j n l.
-          ap (λ (x : List ℕ). getD x (k * 10 + j) 0) z
-          ∙ ⊎-elim (λ (t : k * 10 + j < p * 10). getD-sets-before w (p * 10) (words-of f) (k * 10 + j) 0 t)
-          (λ (t : p * 10 + 10 ≤ k * 10 + j). getD-sets-after w (p * 10) (words-of f) (k * 10 + j) 0 (omega arith)) (apart p k j n l);
-    }
 
 -- ---- words stand for a fact
 

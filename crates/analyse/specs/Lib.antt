@@ -2,3 +2,4 @@ pub mod Written
 pub mod Flags
 pub mod State
 pub mod Step
+pub mod Cells

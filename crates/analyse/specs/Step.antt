@@ -17,7 +17,9 @@ use Rattle.effects.specs.Origin.{org-at, class-at, wrote-at, from-at, num}
 use Rattle.facts.specs.declared.Fact as F
 use Rattle.effects.specs.declared.arms.Effect.{Effect}
 use Rattle.chains.specs.declared.chain.Chain.{Chain}
+use Rattle.chains.specs.declared.cursor.Cursor.{Cursor}
 use Rattle.chains.specs.Chain.{blocks-of, Sound}
+use Rattle.chains.specs.Cursor.{left-of, Standing}
 use Rattle.chains.specs.Places.{Pairs, end-past}
 use Rattle.analyse.specs.Written.{Fits}
 use Rattle.analyse.specs.Flags.{Seen}
@@ -134,12 +136,18 @@ pub record Ran (recs ops regs w regs′ w′ : List ℕ) (p R : ℕ) (places : L
   pub others : (q j : ℕ) → q < p → j < 10 → cell w′ q j ≡ cell w q j
   pub state : (G : Facts) (past : List Fact) → length past ≡ p → State G past R regs w → State G (analyse G ops past (map (inst recs) places)) R regs′ w′
 
+-- before the first position: no register has a writer, and x stands at the start of chain c
+pub record Begun (bounds : List ℕ) (c : Chain) (R : ℕ) (regs regs′ : List ℕ) (x : Cursor) : Type 0 where
+  pub forgot : Forgot R regs regs′
+  pub standing : Standing bounds c x
+  pub all : (P : Picture) → P .bounds ≡ bounds → chain-places P (blocks-of c) ≡ left-of P (blocks-of c) (x .k) (x .g) (x .past)
+
 -- a chain c of B blocks can be analysed; n records
-pub record Ready (t recs ops regs w bounds : List ℕ) (c : Chain) (B R n : ℕ) : Type 0 where
+pub record Ready (t recs ops regs : List ℕ) (facts : List F.Fact) (bounds : List ℕ) (c : Chain) (B R n : ℕ) : Type 0 where
   pub table : t ≡ rows
   pub in-use : R ≤ length regs
   pub lent : length regs ≤ 65536
-  pub room : 8000 ≤ length w
+  pub room : 800 ≤ length facts
   pub good : (g : ℕ) → g < n → Good recs ops R g
   pub sound : Sound c B
   pub pairs : Pairs bounds B

@@ -1,65 +1,27 @@
-// The facts along a chain (01, "The legal set"), ten words a position: record, class, origin, flags, memory written, memory
-// read, register written, the first two registers read, and 1 if it reads or writes more.
+// The facts along a chain (01, "The legal set"), a record a position in the lent list.
 use crate::learn::learn_one;
 use crate::marks::forget;
-use crate::marks::one;
 use chains::chain::Chain;
+use chains::cursor::Cursor;
 use chains::cursor::first;
 use chains::cursor::next;
 use facts::Fact;
-use inst::record::wide;
+use facts::put;
 ghost use mathlib.Core.Path.{_≡_};
-ghost use mathlib.Core.List.{[], _∷_};
-ghost use Prim.Native.Nat.{_+_, _*_, _≤_, _<_};
+ghost use Prim.Native.Nat.{_≤_};
 ghost use lib.ListN.{length};
-ghost use Rattle.inst.specs.Table.{rows};
-ghost use Rattle.analyse.specs.State.{pack, Safe};
-ghost use Rattle.analyse.specs.Step.{Put, Good, Ran, Ready, Analysed};
+ghost use Rattle.chains.specs.Chain.{Sound};
+ghost use Rattle.chains.specs.Places.{Pairs};
+ghost use Rattle.analyse.specs.Step.{Begun, Ready, Analysed};
+ghost use Rattle.analyse.specs.Cells.{cells};
 
-fn flags(f: Fact) -> u32
-    ensures { λ r. ⌜ r ≡ pack (f .len) (f .layout) (f .creates) (f .barrier) (f .suspends) ⌝ }
+// No register has a writer yet, and the cursor stands at the first position.
+fn begin(regs: &mut [u64], bounds: &[u32], c: Chain, blocks: u32, count: usize) -> Cursor
+    requires { ⌜ (count ≤ length (now regs)) × Sound c blocks × Pairs (now bounds) blocks ⌝ }
+    ensures { λ x. ⌜ Begun (now (bounds .entry)) c count (now (regs .entry)) (now (regs .exit)) x ⌝ }
 {
-    let a = one(f.len) + 2 * one(f.layout);
-    let b = one(f.creates) + 2 * one(f.barrier) + 4 * one(f.suspends);
-    a + 4 * b
-}
-
-// The words of position p: its fact.
-fn put(w: &mut [u32], p: usize, f: Fact)
-    requires { ⌜ p * 10 + 10 ≤ length (now w) ⌝ }
-    ensures { λ _. ⌜ Put (now (w .entry)) (now (w .exit)) p f ⌝ }
-{
-    let bits = flags(f);
-    let rest = one(f.more);
-    let b = p * 10;
-    w[b] = f.rec;
-    w[b + 1] = f.class;
-    w[b + 2] = f.org;
-    w[b + 3] = bits;
-    w[b + 4] = f.wrote;
-    w[b + 5] = f.from;
-    w[b + 6] = f.def;
-    w[b + 7] = f.use0;
-    w[b + 8] = f.use1;
-    w[b + 9] = rest;
-}
-
-// Position p: record g.
-fn step(
-    t: &[u32; 202],
-    recs: &[u32],
-    ops: &[u32],
-    regs: &mut [u64],
-    w: &mut [u32],
-    g: usize,
-    p: u32,
-    count: usize,
-)
-    requires { ⌜ (now t ≡ rows) × Safe count p (now regs) (now w) × Good (now recs) (now ops) count g × (p * 10 + 10 ≤ length (now w)) × (p + 1 < 1000) ⌝ }
-    ensures { λ _. ⌜ Ran (now (recs .entry)) (now (ops .entry)) (now (regs .entry)) (now (w .entry)) (now (regs .exit)) (now (w .exit)) p count (g ∷ []) ⌝ }
-{
-    let f = learn_one(t, recs, ops, regs, g, p, count);
-    put(w, wide(p), f);
+    forget(regs, count);
+    first(bounds, c, blocks)
 }
 
 // The facts of chain c of so many blocks; n records, and `count` registers in use. The answer is the number of positions.
@@ -68,21 +30,21 @@ pub fn analyse(
     recs: &[u32],
     ops: &[u32],
     regs: &mut [u64],
-    w: &mut [u32],
+    facts: &mut [Fact],
     bounds: &[u32],
     c: Chain,
     blocks: u32,
     count: usize,
     n: usize,
 ) -> u32
-    requires { ⌜ Ready (now t) (now recs) (now ops) (now regs) (now w) (now bounds) c blocks count n ⌝ }
-    ensures { λ p. ⌜ Analysed (now (recs .entry)) (now (ops .entry)) (now (regs .entry)) (now (w .entry)) (now (bounds .entry)) c count p (now (regs .exit)) (now (w .exit)) ⌝ }
+    requires { ⌜ Ready (now t) (now recs) (now ops) (now regs) (now facts) (now bounds) c blocks count n ⌝ }
+    ensures { λ p. ⌜ Analysed (now (recs .entry)) (now (ops .entry)) (now (regs .entry)) (cells (now (facts .entry))) (now (bounds .entry)) c count p (now (regs .exit)) (cells (now (facts .exit))) ⌝ }
 {
-    forget(regs, count);
-    let mut at = first(bounds, c, blocks);
+    let mut at = begin(regs, bounds, c, blocks, count);
     let mut p = 0u32;
     while at.g < at.past {
-        step(t, recs, ops, regs, w, at.g, p, count);
+        let f = learn_one(t, recs, ops, regs, at.g, p, count);
+        put(facts, p as usize, f);
         at = next(bounds, c, blocks, at);
         p += 1;
     }

@@ -25,7 +25,7 @@ pub fn forget(regs: &mut [u64], count: usize)
     }
 }
 
-pub fn one(b: bool) -> u32
+fn one(b: bool) -> u32
     ensures { λ r. ⌜ (r ≡ num b) × (r ≤ 1) ⌝ }
 {
     if b {
