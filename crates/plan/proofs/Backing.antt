@@ -3,8 +3,7 @@ use mathlib.Core.Path.{_≡_, refl, sym, ap, ap₂, _∙_, subst}
 use mathlib.Core.Logic.{_⊎_, inl, inr, ⊎-elim}
 use mathlib.Core.Bool.{Bool, true, false, not, _&&_, _||_, cond}
 use mathlib.Core.List.{List, [], _∷_}
-use Prim.Native.Nat.{ℕ, zero, suc, _+_, _*_, _-_, _/_, _%_, _≤_, _<_, max}
-use native.Mathlib.Nat.{suc-ne-zero}
+use Prim.Native.Nat.{ℕ, suc, _+_, _*_, _-_, _/_, _%_, _≤_, _<_, max}
 use native.Mathlib.Numerals.{add-one}
 use native.Mathlib.Omega.{arith}
 use borrow.Author.Tests.{eq-eqb, ne-eqb, le-leb, lt-leb}
@@ -15,16 +14,18 @@ use Rattle.words.proofs.Bools.{bool?, true-T}
 use Rattle.model.specs.Picture.{inst, absent, reads, writes}
 use Rattle.inst.specs.Record.{write-at}
 use Rattle.words.specs.Last.{last-below}
-use Rattle.legalset.specs.Chain.{view, cell, flag, defs-of, reads-of, writer, Fits, Good, Safe}
-use Rattle.legalset.specs.Marks.{in-set, sifted, lost, own, Inside, Passed}
+use Rattle.effects.specs.Origin.{num}
+use Rattle.facts.specs.declared.Fact.{Fact}
+use Rattle.legalset.specs.Chain.{view, cell, flag, defs-of, reads-of, writer, Fits, Safe}
+use Rattle.legalset.specs.Marks.{in-set, sifted, lost, Inside, Passed}
 use Rattle.legalset.specs.Rules.{last-kept, pending, backward-ok}
 use Rattle.legalset.proofs.Dropping.{passed-none, passed-down}
 use Rattle.legalset.proofs.Easier.{behind, backward-mono}
 use Rattle.legalset.proofs.Pending.{pending-ext}
-use Rattle.plan.specs.Passes.{over, stamp, since, writer-word, kept-word, noted, Stamped, Stamps, Awaits, Awaited, Notes, Noted, Backed, Summed}
-use Rattle.plan.proofs.Places.{Placed, all-placed, writes-placed}
-use Rattle.plan.proofs.Summing.{zero-at, since-low, since-ext, since-all, notes-none, notes-more, notes-writes, notes-barrier, notes-suspension}
-use Rattle.plan.proofs.Forwarding.{sifted-other, skip-sift, skip-lost}
+use Rattle.plan.specs.Passes.{over, stamp, since, writer-word, kept-word, noted, Stamped, Stamps, Awaits, Awaited, Notes, Noted, noting, later-in, Backed, Summed, Shows}
+use Rattle.plan.proofs.Places.{all-placed, writes-placed}
+use Rattle.plan.proofs.Summing.{zero-at, since-low, since-ext, since-all, notes-none, notes-more, noted-member, noted-all, notes-writes, notes-barrier, notes-suspension}
+use Rattle.plan.proofs.Forwarding.{sifted-other, now-in, is-sifted, is-lost}
 
 -- ---- what a record writes is not awaited
 
@@ -40,37 +41,68 @@ writes-all {recs} {R} {g} st f = sym (all-placed (writes-placed recs g (f .withi
 
 -- ---- what a kept position reads is
 
-pub awaited-none : (rd : ℕ → List ℕ) (L : ℕ → Bool) (q : ℕ) (st : List ℕ) {b : Bool} → b ≡ L q → b ≡ true → Awaited rd L q st st
+pub awaited-none : (l st : List ℕ) {b : Bool} → b ≡ true → Awaited l b st st
 unfolding stamp
-awaited-none rd L q st e t = record { size = refl; each = λ r h. sym (ap (λ (x : Bool). stamp 1024 0 1024 (not x && mem r (rd q)) (getD st r 0)) (sym e ∙ t)) }
+awaited-none l st t = record { size = refl; each = λ r h. sym (ap (λ (x : Bool). stamp 1024 0 1024 (not x && mem r l) (getD st r 0)) t) }
 
-pub awaited-one : (rd : ℕ → List ℕ) (L : ℕ → Bool) (q : ℕ) {st st′ : List ℕ} {b : Bool} → b ≡ L q → b ≡ false → Stamped (rd q) 1024 0 1024 st st′ → Awaited rd L q st st′
-awaited-one rd L q {st} {st′} e t s = record { size = s .size; each = λ r h. s .each r h ∙ ap (λ (y : Bool). stamp 1024 0 1024 (not y && mem r (rd q)) (getD st r 0)) (sym t ∙ e) }
+pub awaited-one : (l : List ℕ) {st st′ : List ℕ} {b : Bool} → b ≡ false → Stamped l 1024 0 1024 st st′ → Awaited l b st st′
+awaited-one l {st} {st′} t s = record { size = s .size; each = λ r h. s .each r h ∙ ap (λ (y : Bool). stamp 1024 0 1024 (not y && mem r l) (getD st r 0)) (sym t) }
 
-pub kept-no : (in? : Bool) (q : ℕ) {y : Bool} → y ≡ in? → y ≡ true → 0 ≡ kept-word in? q
+pub kept-no : (in? : Bool) (q : ℕ) → in? ≡ true → 0 ≡ kept-word in? q
 unfolding kept-word
-kept-no in? q e t = sym (ap (λ (x : Bool). cond x 0 (q + 1)) (sym e ∙ t))
+kept-no in? q t = sym (ap (λ (x : Bool). cond x 0 (q + 1)) t)
 
-pub kept-yes : (in? : Bool) (q : ℕ) {y : Bool} → y ≡ in? → y ≡ false → q + 1 ≡ kept-word in? q
+pub kept-yes : (in? : Bool) (q : ℕ) → in? ≡ false → q + 1 ≡ kept-word in? q
 unfolding kept-word
-kept-yes in? q e t = sym (ap (λ (x : Bool). cond x 0 (q + 1)) (sym e ∙ t))
+kept-yes in? q t = sym (ap (λ (x : Bool). cond x 0 (q + 1)) t)
 
 pub kept-few : (in? : Bool) (q : ℕ) {x : ℕ} → q < 800 → x ≡ kept-word in? q → x ≤ 800
 unfolding kept-word
 kept-few true q h e = omega arith
 kept-few false q h e = omega arith
 
-pub backed : {w : List ℕ} {defs rd : ℕ → List ℕ} {q r k : ℕ} {st mid st′ ls ls′ marks marks′ : List ℕ} {b : Bool} → b ≡ (not (in-set marks q) || all (λ x. leb (getD st x 0) 1023) (defs q))
-    → (marks′ ≡ sifted marks q b) × (r ≡ lost marks q b) → k ≡ kept-word (in-set marks′ q) q → Stamped (defs q) 1024 k 0 st mid
-    → Awaited rd (in-set marks′) q mid st′ × Noted w (in-set marks′) q ls ls′ → Backed w defs rd q st ls marks st′ ls′ marks′ r
-backed {defs = defs} {rd = rd} {q = q} {st = st} {marks = marks} {marks′ = marks′} t d e s a = record {
-  size = a .0 .size ∙ s .size;
-  each = λ v h. a .0 .each v (subst (λ (m : ℕ). v < m) (sym (s .size)) h)
-      ∙ ap (stamp 1024 0 1024 (not (in-set marks′ q) && mem v (rd q))) (s .each v h ∙ ap (λ (x : ℕ). stamp 1024 x 0 (mem v (defs q)) (getD st v 0)) e);
-  notes = a .1;
-  sifts = d .0 ∙ skip-sift marks q _ t;
-  loses = d .1 ∙ skip-lost marks q _ t;
+pub backed : {recs ops : List ℕ} {f : Fact} {q k : ℕ} {st mid st′ ls ls′ : List ℕ} {b : Bool} → b ≡ (f .member && all (λ x. leb (getD st x 0) 1023) (writes (inst recs (f .rec)))) → k ≡ kept-word b q → Stamped (writes (inst recs (f .rec))) 1024 k 0 st mid
+    → Awaited (reads ops (inst recs (f .rec))) b mid st′ → ls′ ≡ noting f b q ls → Backed recs ops f q st ls st′ ls′ b
+backed {recs} {ops} {f} {st = st} {b = b} t e s a n = record {
+  keeps = t;
+  size = a .size ∙ s .size;
+  each = λ v h. a .each v (subst (λ (m : ℕ). v < m) (sym (s .size)) h)
+      ∙ ap (stamp 1024 0 1024 (not b && mem v (reads ops (inst recs (f .rec))))) (s .each v h ∙ ap (λ (x : ℕ). stamp 1024 x 0 (mem v (writes (inst recs (f .rec)))) (getD st v 0)) e);
+  notes = n;
 }
+
+-- ---- one position, by marks
+
+-- position q was looked at from behind: st, lasts and marks after those before
+pub record GoneBack (w : List ℕ) (defs reads : ℕ → List ℕ) (q : ℕ) (st ls marks st′ ls′ marks′ : List ℕ) (r : ℕ) : Type 0 where
+  pub size : length st′ ≡ length st
+  pub each : (x : ℕ) → x < length st → getD st′ x 0 ≡ stamp 1024 0 1024 (not (in-set marks′ q) && mem x (reads q)) (stamp 1024 (kept-word (in-set marks′ q) q) 0 (mem x (defs q)) (getD st x 0))
+  pub notes : Noted w (in-set marks′) q ls ls′
+  pub sifts : marks′ ≡ sifted marks q (all (λ x. leb (getD st x 0) 1023) (defs q))
+  pub loses : r ≡ lost marks q (all (λ x. leb (getD st x 0) 1023) (defs q))
+
+module _ {w : List ℕ} {q : ℕ} {f : Fact} (t : Shows w q f) (L : ℕ → Bool) {ls : List ℕ} (size : length ls ≡ 2008) (few : q < 800) (low : cell w q 4 ≤ 2004) where
+  pub noted-by : (b : Bool) {ls′ : List ℕ} → b ≡ L q → ls′ ≡ noting f b q ls → Noted w L q ls ls′
+  unfolding noting
+  noted-by true e d = noted-member w L q ls e refl size few d
+  noted-by false e d = noted-all w L q ls e refl size few low (d ∙ same)
+    where
+      same : later-in 2007 (cond (f .suspends) (q + 1) 0) (later-in 2006 (cond (f .barrier) (q + 1) 0) (later-in (f .wrote) (q + 1) ls))
+          ≡ later-in 2007 (cond (flag w 16 q) (q + 1) 0) (later-in 2006 (cond (flag w 8 q) (q + 1) 0) (later-in (cell w q 4) (q + 1) ls))
+      same = ap₂ (λ (b : Bool) (l : List ℕ). later-in 2007 (cond b (q + 1) 0) l) (sym (t .suspends)) (ap₂ (λ (b : Bool) (o : ℕ). later-in 2006 (cond b (q + 1) 0) (later-in o (q + 1) ls)) (sym (t .barrier)) (sym (t .wrote)))
+
+pub gone-back : {recs ops w : List ℕ} {f : Fact} {n R q : ℕ} {st ls st′ ls′ : List ℕ} {keep : Bool} (S : List ℕ) → Safe recs ops w n R → q < n → length ls ≡ 2008 → Shows w q f → q < length S → getD S q 0 ≡ num (f .member)
+    → Backed recs ops f q st ls st′ ls′ keep → GoneBack w (defs-of recs w) (reads-of recs ops w) q st ls S st′ ls′ (set S q (num keep)) (hit (f .member && not keep))
+gone-back {recs} {ops} {w} {f} {n} {R} {q} {st} {ls} {st′} {ls′} {keep} S s l size t h e d = record {
+  size = d .size;
+  each = λ x u. d .each x u ∙ ap₂ (λ (b : Bool) (g : ℕ). stamp 1024 0 1024 (not b && mem x (reads ops (inst recs g))) (stamp 1024 (kept-word b q) 0 (mem x (writes (inst recs g))) (getD st x 0))) (sym (now-in S q keep h)) (sym (t .rec));
+  notes = let few = s .few in noted-by t (in-set (set S q (num keep))) size (omega arith) (s .wrote q l) keep (sym (now-in S q keep h)) (d .notes);
+  sifts = is-sifted S q (f .member) (all (λ x. leb (getD st x 0) 1023) (defs-of recs w q)) e kept;
+  loses = is-lost S q (f .member) (all (λ x. leb (getD st x 0) 1023) (defs-of recs w q)) e kept;
+}
+  where
+    kept : keep ≡ (f .member && all (λ x. leb (getD st x 0) 1023) (defs-of recs w q))
+    kept = d .keeps ∙ ap (λ (g : ℕ). f .member && all (λ x. leb (getD st x 0) 1023) (writes (inst recs g))) (sym (t .rec))
 
 -- ---- the pass
 
@@ -114,7 +146,7 @@ module _ (marks : List ℕ) {recs ops w : List ℕ} {n R q : ℕ} (s : Safe recs
       none k true l = lt-leb (k + 1024) 1023 (omega arith)
       none k false l = let f = s .few in le-leb (k + 0) 1023 (omega arith)
 
-  module _ {ls st′ ls′ marks′ : List ℕ} {d : ℕ} (k : Backed w (defs-of recs w) (reads-of recs ops w) q st ls marks st′ ls′ marks′ d) where
+  module _ {ls st′ ls′ marks′ : List ℕ} {d : ℕ} (k : GoneBack w (defs-of recs w) (reads-of recs ops w) q st ls marks st′ ls′ marks′ d) where
     same : (z : ℕ) → suc q ≤ z → in-set marks z ≡ in-set marks′ z
     same z l = sym (ap (λ (S : List ℕ). in-set S z) (k .sifts) ∙ sifted-other marks q _ z (λ e. omega arith))
 
@@ -181,7 +213,7 @@ backing-none recs ops w n st marks e f g = record {
 }
 
 pub backing-more : {recs ops w : List ℕ} {n q : ℕ} {st₀ marks₀ st ls marks st′ ls′ marks′ : List ℕ} {r d : ℕ} → Safe recs ops w n (length st₀) → 0 < q → q ≤ n
-    → Backing recs ops w n q st₀ marks₀ st ls marks r → Backed w (defs-of recs w) (reads-of recs ops w) (q - 1) st ls marks st′ ls′ marks′ d → Backing recs ops w n (q - 1) st₀ marks₀ st′ ls′ marks′ (r + d)
+    → Backing recs ops w n q st₀ marks₀ st ls marks r → GoneBack w (defs-of recs w) (reads-of recs ops w) (q - 1) st ls marks st′ ls′ marks′ d → Backing recs ops w n (q - 1) st₀ marks₀ st′ ls′ marks′ (r + d)
 backing-more {recs} {ops} {w} {n} {q} {st₀} {marks₀} {st} {ls} {marks} s l h i k =
     let e : q ≡ q - 1 + 1 = omega arith in
     let a = subst (λ (y : ℕ). Awaits (defs-of recs w) (reads-of recs ops w) (in-set marks) n y st) e (i .awaits) in
@@ -222,11 +254,3 @@ backing-end {recs} {ops} {w} {n} {q} {marks₀ = marks₀} {st = st} {ls = ls} {
         suspension = notes-suspension s a;
       },
     )
-
-pub sifted-size : {W : List ℕ} (S : List ℕ) (p : ℕ) (ok : Bool) → W ≡ sifted S p ok → length W ≡ length S
-unfolding sifted
-sifted-size {W} S p ok e = ap length e ∙ go (in-set S p && not ok)
-  where
-    go : (b : Bool) → length (cond b (set S p 0) S) ≡ length S
-    go true = lib.ListN.length-set S p 0
-    go false = refl

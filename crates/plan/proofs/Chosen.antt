@@ -1,28 +1,26 @@
 -- The marks that are left are the greatest legal set, with as many members, or that has fewer than the least. Assumes nothing.
-use mathlib.Core.Path.{_≡_, refl, sym, ap, _∙_, subst}
+use mathlib.Core.Path.{_≡_, refl, sym, ap, _∙_}
 use mathlib.Core.Bool.{Bool, true, false, not, _&&_}
 use mathlib.Core.List.{List, [], _∷_}
 use Prim.Native.Nat.{ℕ, zero, suc, _+_, _*_, _-_, _≤_, _<_}
 use native.Mathlib.Omega.{arith}
 use mathlib.Core.Logic.{_⊎_, ⊎-elim}
 use borrow.Author.Tests.{le-ltb}
-use borrow.Rule.Slice.PartMut.{putMid, same-len-mid, mid-len, take-put, drop-put}
-use lib.Dec.{T, eqb, ltb, ltb→lt}
-use lib.ListN.{getD, length, take, drop}
+use lib.Dec.{eqb, ltb}
+use lib.ListN.{length}
 use Rattle.words.specs.Lists.{hit, all, member, count}
 use Rattle.words.specs.Bits.{is-in}
 use Rattle.words.proofs.Bools.{lt?, left, T-true}
-use Rattle.model.specs.Analyse.{Fact, Class, movable}
+use Rattle.model.specs.Analyse.{Fact, movable}
 use Rattle.model.specs.Legal.{fact-at, greatest}
 use Rattle.effects.specs.Origin.{class-at}
-use Rattle.legalset.specs.Chain.{cell, view, defs-of, writer, Safe, Stands, Told}
-use Rattle.legalset.specs.Marks.{in-set, members, Inside, Settled, _⊑_}
+use Rattle.legalset.specs.Chain.{cell, view, defs-of, writer, Safe, Told}
+use Rattle.legalset.specs.Marks.{in-set, members, Settled, _⊑_}
 use Rattle.legalset.specs.Rules.{result-ok, cycle-ok, begins}
 use Rattle.legalset.proofs.Settling.{greatest-left, settled-greatest}
-use Rattle.plan.specs.Passes.{Row, Greatest, Set-up, Lent, Around}
+use Rattle.plan.specs.Passes.{Row, Greatest}
 use Rattle.plan.proofs.Marking.{none-marked}
 use Rattle.plan.proofs.Backing.{all-on, writes-low}
-use Rattle.plan.proofs.Summing.{safe-len}
 
 movable-is : (x : ℕ) → movable (class-at x) ≡ eqb x 1
 unfolding class-at
@@ -68,17 +66,9 @@ begins-row regs {recs} {ops} {w} {bits} {o} {m} {n} {needed} s h k p = ⊎-elim
     (λ (l : m ≤ p). ap (λ (b : Bool). b && eqb (cell w p 1) 1 && result-ok (view recs ops w regs) n (λ r. is-in bits (64 * o + r)) p) (le-ltb p m l)
     ∙ sym (ap (λ (b : Bool). b && eqb (cell w p 1) 1 && result-ok (view recs ops w regs) n needed p) (le-ltb p m l))) (lt? p m)
 
--- the marks to begin with are among the first m
-pub begins-inside : (recs ops w regs bits : List ℕ) (o m n : ℕ) {S : List ℕ} → ((p : ℕ) → in-set S p ≡ begins (view recs ops w regs) n (λ q. eqb (cell w q 1) 1) m (λ r. is-in bits (64 * o + r)) p) → Inside m S
-unfolding begins
-begins-inside recs ops w regs bits o m n b = record {
-  low = λ p t. let k = result-ok (view recs ops w regs) n (λ r. is-in bits (64 * o + r)) p in
-      ltb→lt p m (left (ltb p m) (eqb (cell w p 1) 1) (left (ltb p m && eqb (cell w p 1) 1) k (subst T (b p) t)));
-}
-
 module _ {recs ops w : List ℕ} (regs bits : List ℕ) (o : ℕ) {m n least r : ℕ} {S U : List ℕ} (s : Safe recs ops w n (length regs)) (h : m ≤ n)
     (b : (p : ℕ) → in-set S p ≡ begins (view recs ops w regs) n (λ q. eqb (cell w q 1) 1) m (λ r. is-in bits (64 * o + r)) p)
-    (d : Settled (cycle-ok (view recs ops w regs) n) m least S U r) (e : length S ≡ 800) where
+    (d : Settled (cycle-ok (view recs ops w regs) n) m least S U r) (e : length S ≡ n) where
   module _ (run : List Fact) (needed : ℕ → Bool) (t : Told recs ops w regs n run) (k : Row bits o (length regs) needed) where
     chosen-class : (p : ℕ) → p < n → movable (fact-at run p .does .class) ≡ eqb (cell w p 1) 1
     chosen-class p l = ap movable (t .class p l) ∙ movable-is (cell w p 1)
@@ -96,20 +86,3 @@ module _ {recs ops w : List ℕ} (regs bits : List ℕ) (o : ℕ) {m n least r :
     few = λ l run needed t k. let x = d .count in let y = at-most U (greatest run needed m) (chosen-left run needed t k) in omega arith;
     count = λ l run needed t k. d .count ∙ as-many U (greatest run needed m) (chosen-set run needed t k l);
   }
-
--- ---- the words of registers, lent as a part of the work
-
-pub lent-part : {recs ops w regs work marks marks′ : List ℕ} {o s m n : ℕ} → Lent recs ops w regs work marks o s m n → length marks′ ≡ 800 → Set-up recs ops w regs (take (s + length regs - s) (drop s work)) marks′ m n
-lent-part {regs = regs} {work = work} {s = s} h e =
-    let z : length (take (s + length regs - s) (drop s work)) ≡ length regs = mid-len s (s + length regs) work (h .room) ∙ omega arith in
-    record { safe = safe-len (h .safe) z; brief = h .brief; regs-size = sym z; in-x = h .in-x; marks-size = e }
-
-pub around : {recs ops w regs work marks : List ℕ} (ys : List ℕ) {o s m n : ℕ} → Lent recs ops w regs work marks o s m n → length ys ≡ length (take (s + length regs - s) (drop s work))
-    → Around s (length regs) work (putMid s (s + length regs - s) work ys)
-around {regs = regs} {work = work} ys {s = s} h e =
-    let r = h .room in
-    record {
-      size = same-len-mid s (s + length regs - s) work ys e;
-      below = take-put s (s + length regs - s) work ys (omega arith);
-      behind = drop-put s (s + length regs) work ys (omega arith) r (e ∙ mid-len s (s + length regs) work r);
-    }

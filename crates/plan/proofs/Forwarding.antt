@@ -9,21 +9,23 @@ use native.Mathlib.Omega.{arith}
 use borrow.Author.Tests.{eq-eqb, ne-eqb, eqb-true, le-leb, lt-leb}
 use lib.Dec.{eqb, leb, leb→le}
 use lib.ListN.{getD, length, set, length-set}
-use lib.Seq.{getD-set-same, getD-set-other}
+use lib.Seq.{getD-set-same, getD-set-other, set-getD}
 use Rattle.words.specs.Lists.{In, all, mem, conj, hit}
 use Rattle.words.specs.Last.{last-below}
 use Rattle.words.proofs.Bools.{eq?, true-T}
 use Rattle.words.proofs.Members.{in-map, map-on, in-index}
 use Rattle.model.specs.Picture.{Inst, inst, absent, reads, writes, list-of}
-use Rattle.legalset.specs.Chain.{View, view, cell, flag, defs-of, writer, reg-org, picked, origins, Good, Safe}
-use Rattle.legalset.specs.Marks.{in-set, members, sifted, lost, own, Passed}
+use Rattle.effects.specs.Origin.{num}
+use Rattle.facts.specs.declared.Fact.{Fact}
+use Rattle.legalset.specs.Chain.{view, cell, flag, defs-of, writer, reg-org, picked, origins, Good, Safe}
+use Rattle.legalset.specs.Marks.{in-set, sifted, lost, own, Passed}
 use Rattle.legalset.specs.Rules.{last-kept, when-in, read-fine, org-fine, own-memory, still-fine, reads-ok, origins-ok, suspends-ok, memory-ok, own-ok, forward-ok}
 use Rattle.legalset.proofs.Lasting.{writer-low, last-low, last-step}
-use Rattle.legalset.proofs.Dropping.{Sifts, keeps, drops, sifts, passed-none, passed-up}
+use Rattle.legalset.proofs.Dropping.{passed-none, passed-up}
 use Rattle.legalset.proofs.Easier.{forward-mono}
-use Rattle.plan.specs.Passes.{over, stamp, writer-word, Stamped, Stamps, Writes, read-test, word-org, org-test, froms, from-test, memory-test, member-at, own-test, stay-test, forgot, Near, Forwarded, Summed}
+use Rattle.plan.specs.Passes.{over, stamp, writer-word, Stamped, Stamps, Writes, read-test, word-org, org-test, froms, from-test, memory-test, member-at, own-test, stay-test, fact-word, forgot, Forwarded, Summed, Shows}
 use Rattle.plan.proofs.Summing.{at-parts, same-at}
-use Rattle.plan.proofs.Places.{Placed, reads-placed, read-low}
+use Rattle.plan.proofs.Places.{reads-placed, read-low}
 
 all-on : {A : Type 0} (f g : A → Bool) (xs : List A) → ((a : A) → In a xs → f a ≡ g a) → all f xs ≡ all g xs
 all-on f g [] h = refl
@@ -135,7 +137,7 @@ module _ (regs marks : List ℕ) {recs ops w : List ℕ} {n R p : ℕ} (s : Safe
       (λ r i. let l = reads-low recs ops R (cell w p 0) (s .good p h) r i in
       ap₂ (λ (a : Bool) (k : ℕ). a || leb k (p + 1)) (word-in w (in-set marks) (writer (defs-of recs w) r p) (getD st r 0) (writer-at r l)) (kept-at r l))
 
-  froms-are : from-test w regs ops (inst recs (cell w p 0)) st lasts bar p ≡ origins-ok (view recs ops w regs) n L₀ p
+  froms-are : from-test regs ops (inst recs (cell w p 0)) st lasts bar (cell w p 5) p ≡ origins-ok (view recs ops w regs) n L₀ p
   unfolding from-test org-test origins-ok
   froms-are =
       ap (all (org-test lasts bar p)) (froms-origins w regs ops (inst recs (cell w p 0)) st (λ r. writer (defs-of recs w) r p)
@@ -150,9 +152,10 @@ module _ (regs marks : List ℕ) {recs ops w : List ℕ} {n R p : ℕ} (s : Safe
           ap (λ (z : ℕ). org-fine p z (getD lasts 1 0 % 1024) (getD lasts (o + 1) 0 % 1024) o) eb
           ∙ ap₂ (λ (a b : ℕ). org-fine p (last-kept L₀ (flag w 8) n) a b o) (y .each 1 (omega arith)) (y .each (o + 1) (omega arith))
 
-  pub memory-are : memory-test recs ops w regs st lasts (cell w p 0) bar p ≡ memory-ok (view recs ops w regs) n L₀ p
+  pub memory-are : {f : Fact} → Shows w p f → memory-test recs ops regs st lasts f bar p ≡ memory-ok (view recs ops w regs) n L₀ p
   unfolding memory-test memory-ok
-  memory-are = ap₂ (λ (a b : Bool). a && b) (ap (λ (z : ℕ). still-fine p z (flag w 4 p) (cell w p 4)) eb) froms-are
+  memory-are t = ap₂ (λ (a b : Bool). a && b) (ap₂ (still-fine p bar) (sym (t .creates)) (sym (t .wrote)) ∙ ap (λ (z : ℕ). still-fine p z (flag w 4 p) (cell w p 4)) eb)
+      (ap₂ (λ (g x : ℕ). from-test regs ops (inst recs g) st lasts bar x p) (sym (t .rec)) (sym (t .from)) ∙ froms-are)
 
   pub suspends-are : leb sus (p + 1) ≡ suspends-ok (view recs ops w regs) n L₀ p
   unfolding suspends-ok
@@ -161,14 +164,11 @@ module _ (regs marks : List ℕ) {recs ops w : List ℕ} {n R p : ℕ} (s : Safe
   pub own-is : own-test lasts (cell w p 4) ≡ own-memory (in-set marks) (cell w p 4)
   own-is = let k = s .wrote p h in own-same (in-set marks) lasts (cell w p 4) (fs (cell w p 4) (omega arith))
 
-  pub stay-is : stay-test recs ops w regs st lasts (cell w p 0) sus bar p ≡ forward-ok (view recs ops w regs) n L₀ (in-set marks) p
+  pub stay-is : {f : Fact} → Shows w p f → stay-test recs ops regs st lasts f sus bar p ≡ forward-ok (view recs ops w regs) n L₀ (in-set marks) p
   unfolding stay-test forward-ok own-ok
-  stay-is =
-      ap₂ (λ (a b : Bool). conj (a ∷ leb sus (p + 1) ∷ b ∷ own-test lasts (cell w p 4) ∷ [])) reads-are memory-are
-      ∙ ap₂ (λ (a b : Bool). conj (reads-ok (view recs ops w regs) n L₀ (in-set marks) p ∷ a ∷ memory-ok (view recs ops w regs) n L₀ p ∷ b ∷ [])) suspends-are own-is
-
-  pub near-is : Near st
-  near-is = record { org = λ r l. points-low s (in-set marks) (writer (defs-of recs w) r p) (getD st r 0) (writer-at r (subst (λ (m : ℕ). r < m) size l)) (let z = writer-low (defs-of recs w) r p in omega arith) }
+  stay-is {f} t =
+      ap₂ (λ (a b : Bool). conj (a ∷ leb sus (p + 1) ∷ b ∷ own-test lasts (f .wrote) ∷ [])) (ap (λ (g : ℕ). all (read-test st p) (reads ops (inst recs g))) (sym (t .rec)) ∙ reads-are) (memory-are t)
+      ∙ ap₂ (λ (a b : Bool). conj (reads-ok (view recs ops w regs) n L₀ (in-set marks) p ∷ a ∷ memory-ok (view recs ops w regs) n L₀ p ∷ b ∷ [])) suspends-are (ap (own-test lasts) (sym (t .wrote)) ∙ own-is)
 
 pub sifted-other : (S : List ℕ) (p : ℕ) (ok : Bool) (z : ℕ) → (z ≡ p → ⊥) → in-set (sifted S p ok) z ≡ in-set S z
 unfolding sifted in-set
@@ -231,41 +231,90 @@ member-less L M p j same out = go (eq? (2 * p + 5) j)
         ∙ none (leb 5 j && eqb (j % 2) 1) (leb 0 ((j - 5) / 2)) ∙ ap (λ (c : Bool). hit ((leb 5 j && eqb (j % 2) 1) && (leb 0 ((j - 5) / 2) && c))) (sym (ap M x ∙ out))
     go (inr n) = ap (λ (b : Bool). cond b 0 (hit ((leb 5 j && eqb (j % 2) 1) && (leb 0 ((j - 5) / 2) && L ((j - 5) / 2))))) (ne-eqb (2 * p + 5) j n) ∙ other (leb 5 j) (eqb (j % 2) 1) refl refl n
 
-forgot-low : (d p : ℕ) (ls : List ℕ) (j : ℕ) → p < 800 → length ls ≡ 2008 → getD (forgot d p ls) j 0 % 1024 ≡ getD ls j 0 % 1024
+forgot-low : (d : Bool) (p : ℕ) (ls : List ℕ) (j : ℕ) → p < 800 → length ls ≡ 2008 → getD (forgot d p ls) j 0 % 1024 ≡ getD ls j 0 % 1024
 unfolding forgot
-forgot-low d p ls j h s = go (eqb d 0)
-  where
-    go : (b : Bool) → getD (cond b ls (set ls (2 * p + 5) (getD ls (2 * p + 5) 0 % 1024))) j 0 % 1024 ≡ getD ls j 0 % 1024
-    go true = refl
-    go false = let z : getD ls (2 * p + 5) 0 % 1024 % 1024 ≡ getD ls (2 * p + 5) 0 % 1024 = omega arith in
-        at-parts ls (2 * p + 5) (getD ls (2 * p + 5) 0 % 1024) j (omega arith) .0 ∙ same-at ls (2 * p + 5) j (λ x. x % 1024) z
+forgot-low true p ls j h s = let z : getD ls (2 * p + 5) 0 % 1024 % 1024 ≡ getD ls (2 * p + 5) 0 % 1024 = omega arith in
+    at-parts ls (2 * p + 5) (getD ls (2 * p + 5) 0 % 1024) j (omega arith) .0 ∙ same-at ls (2 * p + 5) j (λ x. x % 1024) z
+forgot-low false p ls j h s = refl
 
-forgot-size : (d p : ℕ) (ls : List ℕ) → length (forgot d p ls) ≡ length ls
+forgot-size : (d : Bool) (p : ℕ) (ls : List ℕ) → length (forgot d p ls) ≡ length ls
 unfolding forgot
-forgot-size d p ls = go (eqb d 0)
-  where
-    go : (b : Bool) → length (cond b ls (set ls (2 * p + 5) (getD ls (2 * p + 5) 0 % 1024))) ≡ length ls
-    go true = refl
-    go false = length-set ls (2 * p + 5) _
+forgot-size true p ls = length-set ls (2 * p + 5) _
+forgot-size false p ls = refl
 
-module _ (S ls : List ℕ) (p : ℕ) (ok : Bool) (h : p < 800) (long : length S ≡ 800) (s : length ls ≡ 2008) (f : (j : ℕ) → j < 2006 → getD ls j 0 / 1024 ≡ hit (member-at (in-set S) 0 j)) where
+module _ (S ls : List ℕ) (p : ℕ) (ok : Bool) (h : p < 800) (long : p < length S) (s : length ls ≡ 2008) (f : (j : ℕ) → j < 2006 → getD ls j 0 / 1024 ≡ hit (member-at (in-set S) 0 j)) where
   still : (z : ℕ) → (z ≡ p → ⊥) → in-set S z ≡ in-set (set S p 0) z
   unfolding in-set
   still z n = sym (ap (λ (x : ℕ). not (eqb x 0)) (getD-set-other S p z 0 0 n))
 
   gone : in-set (set S p 0) p ≡ false
   unfolding in-set
-  gone = ap (λ (x : ℕ). not (eqb x 0)) (getD-set-same S p 0 0 (omega arith))
+  gone = ap (λ (x : ℕ). not (eqb x 0)) (getD-set-same S p 0 0 long)
 
-  forgot-by : {W : List ℕ} {d : ℕ} → Sifts S p ok W d → (j : ℕ) → j < 2006 → getD (forgot d p ls) j 0 / 1024 ≡ hit (member-at (in-set W) 0 j)
+  forgot-by : (b : Bool) (j : ℕ) → j < 2006 → getD (forgot b p ls) j 0 / 1024 ≡ hit (member-at (in-set (cond b (set S p 0) S)) 0 j)
   unfolding forgot
-  forgot-by (keeps k) j l = f j l
-  forgot-by (drops m e) j l = let z : getD ls (2 * p + 5) 0 % 1024 / 1024 ≡ 0 = omega arith in
+  forgot-by false j l = f j l
+  forgot-by true j l = let z : getD ls (2 * p + 5) 0 % 1024 / 1024 ≡ 0 = omega arith in
       at-parts ls (2 * p + 5) (getD ls (2 * p + 5) 0 % 1024) j (omega arith) .1 ∙ ap₂ (cond (eqb (2 * p + 5) j)) z (f j l) ∙ member-less (in-set S) (in-set (set S p 0)) p j still gone
 
-  forgot-flags : {W ls′ : List ℕ} {d : ℕ} → W ≡ sifted S p ok → d ≡ lost S p ok → ls′ ≡ forgot d p ls → (j : ℕ) → j < 2006 → getD ls′ j 0 / 1024 ≡ hit (member-at (in-set W) 0 j)
-  forgot-flags {W} {ls′} {d} a b c j l =
-      ap (λ (x : List ℕ). getD x j 0 / 1024) (c ∙ ap (λ (y : ℕ). forgot y p ls) b) ∙ forgot-by (sifts S p ok) j l ∙ ap (λ (x : List ℕ). hit (member-at (in-set x) 0 j)) (sym a)
+  forgot-flags : {W ls′ : List ℕ} → W ≡ sifted S p ok → ls′ ≡ forgot (in-set S p && not ok) p ls → (j : ℕ) → j < 2006 → getD ls′ j 0 / 1024 ≡ hit (member-at (in-set W) 0 j)
+  unfolding sifted
+  forgot-flags {W} {ls′} a c j l = ap (λ (x : List ℕ). getD x j 0 / 1024) c ∙ forgot-by (in-set S p && not ok) j l ∙ ap (λ (x : List ℕ). hit (member-at (in-set x) 0 j)) (sym a)
+
+-- ---- one position, by marks
+
+-- position p of fact f was looked at: st, lasts and marks after those before
+pub record GoneOn (recs ops w regs : List ℕ) (f : Fact) (sus bar p : ℕ) (st lasts marks st′ lasts′ marks′ : List ℕ) (r : ℕ) : Type 0 where
+  pub stamped : Stamped (defs-of recs w p) 2048 0 (2048 * writer-word w (in-set marks′) (suc p)) st st′
+  pub sifts : marks′ ≡ sifted marks p (stay-test recs ops regs st lasts f sus bar p)
+  pub forgets : lasts′ ≡ forgot (in-set marks p && not (stay-test recs ops regs st lasts f sus bar p)) p lasts
+  pub loses : r ≡ lost marks p (stay-test recs ops regs st lasts f sus bar p)
+
+-- the mark m of position p becomes that of a member that keeps a rule
+module _ (S : List ℕ) (p : ℕ) (m ok : Bool) {keep : Bool} (e : getD S p 0 ≡ num m) (k : keep ≡ (m && ok)) where
+  pub was-in : in-set S p ≡ m
+  unfolding in-set num
+  was-in = ap (λ (x : ℕ). not (eqb x 0)) e ∙ is m
+    where
+      is : (b : Bool) → not (eqb (num b) 0) ≡ b
+      is true = refl
+      is false = refl
+
+  pub is-dropped : (m && not keep) ≡ (in-set S p && not ok)
+  is-dropped = ap (λ (b : Bool). m && not b) k ∙ go m ∙ ap (λ (b : Bool). b && not ok) (sym was-in)
+    where
+      go : (b : Bool) → (b && not (b && ok)) ≡ (b && not ok)
+      go true = refl
+      go false = refl
+
+  pub is-lost : hit (m && not keep) ≡ lost S p ok
+  unfolding lost
+  is-lost = ap hit is-dropped
+
+  pub is-sifted : set S p (num keep) ≡ sifted S p ok
+  unfolding sifted num
+  is-sifted = ap (λ (b : Bool). set S p (num b)) k ∙ go m ok e ∙ ap (λ (b : Bool). cond (b && not ok) (set S p 0) S) (sym was-in)
+    where
+      go : (b c : Bool) → getD S p 0 ≡ num b → set S p (num (b && c)) ≡ cond (b && not c) (set S p 0) S
+      go true true u = ap (set S p) (sym u) ∙ set-getD S p 0
+      go true false u = refl
+      go false c u = ap (set S p) (sym u) ∙ set-getD S p 0
+
+pub now-in : (S : List ℕ) (p : ℕ) (b : Bool) → p < length S → in-set (set S p (num b)) p ≡ b
+unfolding in-set num
+now-in S p true h = ap (λ (x : ℕ). not (eqb x 0)) (getD-set-same S p 1 0 h)
+now-in S p false h = ap (λ (x : ℕ). not (eqb x 0)) (getD-set-same S p 0 0 h)
+
+pub gone-on : {recs ops w regs : List ℕ} {f : Fact} {sus bar p : ℕ} {st ls st′ ls′ : List ℕ} {keep : Bool} (S : List ℕ) → Shows w p f → p < length S → getD S p 0 ≡ num (f .member) → Forwarded recs ops regs f sus bar p st ls st′ ls′ keep
+    → GoneOn recs ops w regs f sus bar p st ls S st′ ls′ (set S p (num keep)) (hit (f .member && not keep))
+unfolding writer-word fact-word
+gone-on {recs} {ops} {w} {regs} {f} {sus} {bar} {p} {st} {ls} {st′} {ls′} {keep} S t h e d = record {
+  stamped = subst (λ (l : List ℕ). Stamped l 2048 0 (2048 * (1 + 2 * hit (in-set (set S p (num keep)) p) + 4 * cell w p 2)) st st′) (ap (λ (g : ℕ). writes (inst recs g)) (sym (t .rec)))
+      (subst (λ (x : ℕ). Stamped (writes (inst recs (f .rec))) 2048 0 x st st′) (ap₂ (λ (b : Bool) (o : ℕ). 2048 * (1 + 2 * hit b + 4 * o)) (sym (now-in S p keep h)) (sym (t .org))) (d .stamped));
+  sifts = is-sifted S p (f .member) (stay-test recs ops regs st ls f sus bar p) e (d .keeps);
+  forgets = d .forgets ∙ ap (λ (b : Bool). forgot b p ls) (is-dropped S p (f .member) (stay-test recs ops regs st ls f sus bar p) e (d .keeps));
+  loses = is-lost S p (f .member) (stay-test recs ops regs st ls f sus bar p) e (d .keeps);
+}
 
 -- the first p positions are done
 pub record Going (recs ops w regs : List ℕ) (n p : ℕ) (st₀ ls₀ marks₀ st ls marks : List ℕ) (r : ℕ) : Type 0 where
@@ -284,72 +333,38 @@ writes-on : (w : List ℕ) {L : ℕ → Bool} {n : ℕ} {ls₀ ls : List ℕ} �
 writes-on w f z = record { each = λ o h. f o ∙ z .each o h }
 
 module _ {recs ops w regs : List ℕ} {n p : ℕ} {st₀ ls₀ marks₀ st ls marks : List ℕ} {r : ℕ} (s : Safe recs ops w n (length st₀)) (h : p < n) (z : Summed recs w n 0 st₀ ls₀ marks₀) (i : Going recs ops w regs n p st₀ ls₀ marks₀ st ls marks r) where
-  pub going-more : {st′ ls′ marks′ : List ℕ} {d : ℕ} → length marks₀ ≡ 800 → Forwarded recs ops w regs (getD ls₀ 2007 0 % 1024) (getD ls₀ 2006 0 % 1024) p st ls marks st′ ls′ marks′ d
+  pub going-more : {f : Fact} {st′ ls′ marks′ : List ℕ} {d : ℕ} → Shows w p f → n ≤ length marks₀ → GoneOn recs ops w regs f (getD ls₀ 2007 0 % 1024) (getD ls₀ 2006 0 % 1024) p st ls marks st′ ls′ marks′ d
       → Going recs ops w regs n (p + 1) st₀ ls₀ marks₀ st′ ls′ marks′ (r + d)
-  going-more {d = d} long f = let few = s .few in record {
-    size = f .stamped .size ∙ i .size;
-    stamps = stamps-more (λ z l. sym (ap (λ (S : List ℕ). in-set S z) (f .sifts) ∙ sifted-other marks _ _ z (λ e. omega arith))) (i .stamps) (f .stamped);
-    ls-size = ap length (f .forgets) ∙ forgot-size d p ls ∙ i .ls-size;
-    lows = λ j. ap (λ (x : List ℕ). getD x j 0 % 1024) (f .forgets) ∙ forgot-low d p ls j (omega arith) (i .ls-size) ∙ i .lows j;
-    flags = forgot-flags marks ls p _ (omega arith) (i .passed .size ∙ long) (i .ls-size) (i .flags) (f .sifts) (f .loses) (f .forgets);
-    passed = passed-up (forward-ok (view recs ops w regs) n) (forward-mono (view recs ops w regs) n) (i .passed) (stay-is regs marks s h (i .size) (i .stamps) (writes-on w (i .lows) (z .writes)) (z .barrier) (z .suspension) (i .flags)) (f .sifts) (f .loses);
+  going-more {f} t long k = let few = s .few in let size = i .passed .size in record {
+    size = k .stamped .size ∙ i .size;
+    stamps = stamps-more (λ z l. sym (ap (λ (S : List ℕ). in-set S z) (k .sifts) ∙ sifted-other marks _ _ z (λ e. omega arith))) (i .stamps) (k .stamped);
+    ls-size = ap length (k .forgets) ∙ forgot-size _ p ls ∙ i .ls-size;
+    lows = λ j. ap (λ (x : List ℕ). getD x j 0 % 1024) (k .forgets) ∙ forgot-low _ p ls j (omega arith) (i .ls-size) ∙ i .lows j;
+    flags = forgot-flags marks ls p _ (omega arith) (omega arith) (i .ls-size) (i .flags) (k .sifts) (k .forgets);
+    passed = passed-up (forward-ok (view recs ops w regs) n) (forward-mono (view recs ops w regs) n) (i .passed) (stay-is regs marks s h (i .size) (i .stamps) (writes-on w (i .lows) (z .writes)) (z .barrier) (z .suspension) (i .flags) t) (k .sifts) (k .loses);
   }
-
-  pub going-near : Near st
-  going-near = near-is regs marks s h {lasts = ls} (i .size) (i .stamps) (writes-on w (i .lows) (z .writes)) (z .barrier) (z .suspension) (i .flags)
 
 pub going-end : {recs ops w regs : List ℕ} {n p m : ℕ} {st₀ ls₀ marks₀ st ls marks : List ℕ} {r : ℕ} → Going recs ops w regs n p st₀ ls₀ marks₀ st ls marks r → p ≤ m → m ≤ p
     → Passed (own (forward-ok (view recs ops w regs) n)) 0 m marks₀ marks r × (length st ≡ length st₀)
 going-end {recs} {ops} {w} {regs} {n} {p} {m} {marks₀ = marks₀} {marks = marks} {r = r} i a b =
     let e : p ≡ m = omega arith in (subst (λ (k : ℕ). Passed (own (forward-ok (view recs ops w regs) n)) 0 k marks₀ marks r) e (i .passed), i .size)
 
--- ---- how many are dropped
+-- ---- by the position's fact
 
-members-low : (S : List ℕ) → members S ≤ length S
-unfolding members
-members-low [] = omega arith
-members-low (a ∷ S) = let x = hit-low (not (eqb a 0)) in let y = members-low S in omega arith
+pub forwarded : {recs ops regs ls st st′ ls′ : List ℕ} {f : Fact} {sus bar p v : ℕ} {b : Bool} → b ≡ (f .member && stay-test recs ops regs st ls f sus bar p) → ls′ ≡ forgot (f .member && not b) p ls → v ≡ 2048 * fact-word f b
+    → Stamped (writes (inst recs (f .rec))) 2048 0 v st st′ → Forwarded recs ops regs f sus bar p st ls st′ ls′ b
+forwarded {recs} {st = st} {st′ = st′} {f = f} t g e k = record { keeps = t; stamped = subst (λ (x : ℕ). Stamped (writes (inst recs (f .rec))) 2048 0 x st st′) e k; forgets = g }
 
-pub passed-low : {ok : (ℕ → Bool) → ℕ → Bool} {a b : ℕ} {S U : List ℕ} {r : ℕ} → Passed ok a b S U r → length S ≡ 800 → r ≤ 800
-passed-low {S = S} i e = let x = i .count in let y = members-low S in omega arith
+-- what is stamped of it
+module _ (f : Fact) (b : Bool) where
+  pub stamp-in : b ≡ true → 8192 * f .org + 6144 ≡ 2048 * fact-word f b
+  unfolding fact-word
+  stamp-in t = let h = ap hit t in omega arith
 
-pub lost-low : (S : List ℕ) (p : ℕ) (ok : Bool) {d : ℕ} → d ≡ lost S p ok → d ≤ 1
-unfolding lost
-lost-low S p ok e = let z = hit-low (in-set S p && not ok) in omega arith
+  pub stamp-out : b ≡ false → 8192 * f .org + 2048 ≡ 2048 * fact-word f b
+  unfolding fact-word
+  stamp-out t = let h = ap hit t in omega arith
 
--- a position that is not a member need not be asked
-module _ (S : List ℕ) (p : ℕ) (ok : Bool) {b : Bool} (e : b ≡ (not (in-set S p) || ok)) where
-  skip : (in-set S p && not b) ≡ (in-set S p && not ok)
-  skip = ap (λ (x : Bool). in-set S p && not x) e ∙ go (in-set S p)
-    where
-      go : (a : Bool) → (a && not (not a || ok)) ≡ (a && not ok)
-      go true = refl
-      go false = refl
-
-  pub skip-sift : sifted S p b ≡ sifted S p ok
-  unfolding sifted
-  skip-sift = ap (λ (x : Bool). cond x (set S p 0) S) skip
-
-  pub skip-lost : lost S p b ≡ lost S p ok
-  unfolding lost
-  skip-lost = ap hit skip
-
-pub forwarded : {recs ops w regs ls st marks st′ ls′ marks′ : List ℕ} {sus bar p r v : ℕ} {b : Bool} → b ≡ (not (in-set marks p) || stay-test recs ops w regs st ls (cell w p 0) sus bar p)
-    → (marks′ ≡ sifted marks p b) × (r ≡ lost marks p b) → ls′ ≡ forgot r p ls → v ≡ 2048 * writer-word w (in-set marks′) (suc p) → Stamped (writes (inst recs (cell w p 0))) 2048 0 v st st′
-    → Forwarded recs ops w regs sus bar p st ls marks st′ ls′ marks′ r
-forwarded {recs} {w = w} {st = st} {marks = marks} {st′ = st′} {p = p} t d g e k = record {
-  stamped = subst (λ (x : ℕ). Stamped (writes (inst recs (cell w p 0))) 2048 0 x st st′) e k;
-  sifts = d .0 ∙ skip-sift marks p _ t;
-  forgets = g;
-  loses = d .1 ∙ skip-lost marks p _ t;
-}
-
--- what is stamped of p
-module _ (w marks : List ℕ) (p : ℕ) {o : ℕ} {y : Bool} (e : o ≡ cell w p 2) (f : y ≡ in-set marks p) where
-  pub stamp-in : y ≡ true → 8192 * o + 6144 ≡ 2048 * writer-word w (in-set marks) (suc p)
-  unfolding writer-word
-  stamp-in t = let h = ap hit (sym f ∙ t) in omega arith
-
-  pub stamp-out : y ≡ false → 8192 * o + 2048 ≡ 2048 * writer-word w (in-set marks) (suc p)
-  unfolding writer-word
-  stamp-out t = let h = ap hit (sym f ∙ t) in omega arith
+  pub fact-low : f .org < 2004 → fact-word f b < 8020
+  unfolding fact-word
+  fact-low h = let k = hit-low b in omega arith

@@ -1,17 +1,17 @@
 -- The last reader, and `model`'s last use. Assumes nothing.
 use mathlib.Core.Path.{_≡_, refl, sym, ap, ap₂, _∙_, subst}
-use mathlib.Core.Logic.{_⊎_, inl, inr, ⊎-elim}
+use mathlib.Core.Logic.{inl, inr, ⊎-elim}
 use mathlib.Core.Bool.{Bool, true, false, not, _&&_, _||_, cond}
 use mathlib.Core.List.{List, [], _∷_, _++_}
 use Prim.Native.Nat.{ℕ, zero, suc, _+_, _*_, _-_, _/_, _≤_, _<_, max}
 use native.Mathlib.Nat.{zero-add}
 use native.Mathlib.Numerals.{add-one}
 use native.Mathlib.Omega.{arith}
-use borrow.Author.Tests.{eq-eqb, eqb-true}
+use borrow.Author.Tests.{eq-eqb}
 use lib.Dec.{T, eqb}
 use lib.ListN.{getD, length}
 use Rattle.words.specs.Bits.{is-in}
-use Rattle.words.specs.Lists.{In, range, upto, all, any, mem}
+use Rattle.words.specs.Lists.{In, upto, all, any, mem}
 use Rattle.words.specs.Last.{last-below}
 use Rattle.words.proofs.Bools.{T-true, true-T, T-false, false-T, bool?, bool-ext}
 use Rattle.words.proofs.Alls.{all-range, range-all}
@@ -21,7 +21,7 @@ use Rattle.model.specs.Analyse.{Fact}
 use Rattle.model.specs.Picture.{inst, writes}
 use Rattle.model.specs.Legal.{fact-at, reads-from, writes-last}
 use Rattle.model.specs.Move.{last-of, last-use, reaches}
-use Rattle.legalset.specs.Chain.{View, Stands, cell, defs-of, writer}
+use Rattle.legalset.specs.Chain.{View, Stands, writer}
 use Rattle.legalset.proofs.Lasting.{writer-wrote, wrote-writer}
 use Rattle.legalset.proofs.Pending.{reads-from-of, of-reads-from}
 use Rattle.plan.specs.Passes.{result-test}
@@ -75,15 +75,12 @@ module _ (C : View) (n : ℕ) (run : List Fact) (s : Stands C n run) (p : ℕ) w
 
 -- ---- past the end
 
-module _ (recs w regs bits : List ℕ) (o : ℕ) (ls : List ℕ) (p n : ℕ) {g x : ℕ} {b : Bool} (e : x ≡ cell w p 0) (f : g ≡ x) (k : b ≡ all (result-test regs bits o p) (writes (inst recs g))) where
-  same : b ≡ all (result-test regs bits o p) (defs-of recs w p)
-  same = k ∙ ap (λ (y : ℕ). all (result-test regs bits o p) (writes (inst recs y))) (f ∙ e)
+module _ (recs regs bits : List ℕ) (o : ℕ) (ls : List ℕ) (g p n : ℕ) {b : Bool} (k : b ≡ all (result-test regs bits o p) (writes (inst recs g))) where
+  pub use-inside : b ≡ true → getD ls p 0 ≡ cond (all (result-test regs bits o p) (writes (inst recs g))) (getD ls p 0) n
+  use-inside t = ap (λ (y : Bool). cond y (getD ls p 0) n) (sym t ∙ k)
 
-  pub use-inside : b ≡ true → getD ls p 0 ≡ cond (all (result-test regs bits o p) (defs-of recs w p)) (getD ls p 0) n
-  use-inside t = ap (λ (y : Bool). cond y (getD ls p 0) n) (sym t ∙ same)
-
-  pub use-past : b ≡ false → n ≡ cond (all (result-test regs bits o p) (defs-of recs w p)) (getD ls p 0) n
-  use-past t = ap (λ (y : Bool). cond y (getD ls p 0) n) (sym t ∙ same)
+  pub use-past : b ≡ false → n ≡ cond (all (result-test regs bits o p) (writes (inst recs g))) (getD ls p 0) n
+  use-past t = ap (λ (y : Bool). cond y (getD ls p 0) n) (sym t ∙ k)
 
 module _ (C : View) (n : ℕ) (run : List Fact) (s : Stands C n run) (p : ℕ) (h : p < n) where
   -- p writes r last in the chain

@@ -10,7 +10,14 @@ pub mod Cycling
 pub mod Starting
 pub mod Chosen
 pub mod Six
+pub mod Visiting
+pub mod Sweeping
+pub mod Turning
+pub mod Deciding
+pub mod Choosing
+pub mod Looping
 pub mod Wording
 pub mod Using
+pub mod Going
 pub mod LastUse
 pub mod Heard

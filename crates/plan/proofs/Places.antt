@@ -3,12 +3,12 @@ use mathlib.Core.Path.{_≡_, refl, sym, ap, _∙_, subst}
 use mathlib.Core.Logic.{_⊎_, inl, inr, ⊎-elim}
 use mathlib.Core.Bool.{Bool, true, false, _||_, cond}
 use mathlib.Core.List.{List, [], _∷_, _++_, map}
-use Prim.Native.Nat.{ℕ, zero, suc, _+_, _-_, _≤_, _<_}
+use Prim.Native.Nat.{ℕ, _+_, _-_, _≤_, _<_}
 use native.Mathlib.Omega.{arith}
 use borrow.Author.Tests.{eq-eqb, ne-eqb, lt-ltb, le-ltb}
-use lib.Dec.{T, eqb, ltb, eqb→eq, eqb-refl}
+use lib.Dec.{T, eqb, eqb→eq}
 use lib.ListN.{getD, length}
-use Rattle.words.specs.Lists.{In, range, upto, all, any, mem, concat}
+use Rattle.words.specs.Lists.{In, upto, all, any, mem, concat}
 use Rattle.words.proofs.Bools.{T-true, true-T, bool-ext, or-of, or-rest, eq?}
 use Rattle.words.proofs.Members.{in-left, in-right, in-split, in-concat, concat-in, in-map, map-in, in-range, range-in, in-getD, in-index, all-in, all-of, any-in, any-of, mem-in, in-mem}
 use Rattle.model.specs.Picture.{inst, absent, reads, writes, list-of}

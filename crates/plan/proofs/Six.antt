@@ -9,11 +9,12 @@ use lib.ListN.{getD, length}
 use Rattle.words.specs.Lists.{all}
 use Rattle.model.specs.Analyse.{Fact}
 use Rattle.model.specs.Legal.{tests}
+use Rattle.facts.specs.declared.Fact as F
 use Rattle.legalset.specs.Chain.{cell, view, defs-of, reads-of, Safe, Told}
 use Rattle.legalset.specs.Marks.{in-set}
 use Rattle.legalset.specs.Rules.{own-ok}
 use Rattle.legalset.proofs.Lawful.{rule1-is, rule2-is, rule3-is, rule4-is, rule5-is, rule6-is}
-use Rattle.plan.specs.Passes.{Awaits, Ended, Row, Summed, result-test, read-test, memory-test, own-test}
+use Rattle.plan.specs.Passes.{Awaits, Ended, Row, Summed, result-test, read-test, memory-test, own-test, Shows}
 use Rattle.plan.proofs.Backing.{back-is}
 use Rattle.plan.proofs.Starting.{results-are}
 use Rattle.plan.proofs.Chosen.{results-row}
@@ -37,8 +38,8 @@ module _ {recs ops w regs : List ℕ} {n p : ℕ} (s : Safe recs ops w n (length
     pub rule4-tests : leb (getD lasts 2007 0 % 1024) (p + 1) ≡ getD (tests run needed (in-set marks) p) 3 true
     rule4-tests = suspends-are regs marks s h e (z .stamps) (z .writes) (z .barrier) (z .suspension) (z .flags) ∙ rule4-is (view recs ops w regs) n run (t .stands) needed (in-set marks) p h
 
-    pub rule5-tests : memory-test recs ops w regs st lasts (cell w p 0) (getD lasts 2006 0 % 1024) p ≡ getD (tests run needed (in-set marks) p) 4 true
-    rule5-tests = memory-are regs marks s h e (z .stamps) (z .writes) (z .barrier) (z .suspension) (z .flags) ∙ rule5-is (view recs ops w regs) n run (t .stands) needed (in-set marks) p h
+    pub rule5-tests : {f : F.Fact} → Shows w p f → memory-test recs ops regs st lasts f (getD lasts 2006 0 % 1024) p ≡ getD (tests run needed (in-set marks) p) 4 true
+    rule5-tests d = memory-are regs marks s h e (z .stamps) (z .writes) (z .barrier) (z .suspension) (z .flags) d ∙ rule5-is (view recs ops w regs) n run (t .stands) needed (in-set marks) p h
 
     pub rule6-tests : own-test lasts (cell w p 4) ≡ getD (tests run needed (in-set marks) p) 5 true
     unfolding own-ok

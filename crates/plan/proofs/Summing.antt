@@ -2,11 +2,10 @@
 use mathlib.Core.Path.{_≡_, refl, sym, ap, ap₂, _∙_, subst}
 use mathlib.Core.Logic.{_⊎_, inl, inr, ⊎-elim}
 use mathlib.Core.Bool.{Bool, true, false, not, _&&_, _||_, cond}
-use mathlib.Core.List.{List, [], _∷_}
+use mathlib.Core.List.{List}
 use Prim.Native.Nat.{ℕ, zero, suc, _+_, _*_, _-_, _/_, _%_, _≤_, _<_, max}
-use native.Mathlib.Nat.{suc-add, add-suc, zero-add}
 use native.Mathlib.Omega.{arith}
-use borrow.Author.Tests.{eq-eqb, ne-eqb, eqb-true, le-leb, lt-leb}
+use borrow.Author.Tests.{eq-eqb, ne-eqb, eqb-true, le-leb, lt-leb, not-true, not-false}
 use lib.Dec.{T, eqb, leb, leb→le}
 use lib.ListN.{getD, length, set, replicate, length-set, length-replicate}
 use lib.Seq.{getD-set-same, getD-set-other}
@@ -16,10 +15,11 @@ use Rattle.words.proofs.Bools.{eq?, lt?, true-T}
 use Rattle.words.proofs.Lasts.{last-ext}
 use Rattle.model.specs.Picture.{inst}
 use Rattle.inst.specs.Record.{Used, uses-of}
+use Rattle.facts.specs.declared.Fact.{Fact}
 use Rattle.legalset.specs.Chain.{cell, flag, Good, Safe}
 use Rattle.legalset.specs.Rules.{last-kept}
 use Rattle.legalset.proofs.Lasting.{last-step, last-low}
-use Rattle.plan.specs.Passes.{since, noted, later-in, member-in, member-at, forgot, Notes, Noted, Writes}
+use Rattle.plan.specs.Passes.{since, noted, later-in, member-in, member-at, forgot, Notes, Noted, Writes, noting}
 
 -- ---- the record of a position
 
@@ -126,35 +126,34 @@ pub later-is : (ls : List ℕ) (k v : ℕ) {y : ℕ} → y ≡ 1024 * (getD ls k
 unfolding later-in
 later-is ls k v e = ap (set ls k) e
 
-pub flag-yes : (x v : ℕ) → x ≡ 1 → v ≡ cond (eqb x 1) v 0
-flag-yes x v e = sym (ap (λ (b : Bool). cond b v 0) (eq-eqb x 1 e))
-
-pub flag-no : (x v : ℕ) → (x ≡ 1 → ⊥) → 0 ≡ cond (eqb x 1) v 0
-flag-no x v e = sym (ap (λ (b : Bool). cond b v 0) (ne-eqb x 1 e))
-
 pub flag-low : (b : Bool) {q x : ℕ} → q < 800 → x ≡ cond b (q + 1) 0 → x ≤ 800
 flag-low true h e = omega arith
 flag-low false h e = omega arith
 
-pub three-notes : (w ls : List ℕ) (q : ℕ) {f o k a b : ℕ} {x y z : List ℕ} → f ≡ cell w q 3 → o ≡ cell w q 4 → k ≡ o → x ≡ later-in k (q + 1) ls → a ≡ cond (eqb (f / 8 % 2) 1) (q + 1) 0 → y ≡ later-in 2006 a x
-    → b ≡ cond (eqb (f / 16 % 2) 1) (q + 1) 0 → z ≡ later-in 2007 b y → z ≡ later-in 2007 (cond (flag w 16 q) (q + 1) 0) (later-in 2006 (cond (flag w 8 q) (q + 1) 0) (later-in (cell w q 4) (q + 1) ls))
-unfolding flag
-three-notes w ls q {x = x} {y = y} e f g h i j k l =
-    l ∙ ap (λ (c : ℕ). later-in 2007 c y) (k ∙ ap (λ (c : ℕ). cond (eqb (c / 16 % 2) 1) (q + 1) 0) e)
-    ∙ ap (later-in 2007 (cond (flag w 16 q) (q + 1) 0)) (j ∙ ap (λ (c : ℕ). later-in 2006 c x) (i ∙ ap (λ (c : ℕ). cond (eqb (c / 8 % 2) 1) (q + 1) 0) e)
-    ∙ ap (later-in 2006 (cond (flag w 8 q) (q + 1) 0)) (h ∙ ap (λ (c : ℕ). later-in c (q + 1) ls) (g ∙ f)))
+pub three-notes : (ls : List ℕ) (q o : ℕ) (u v : Bool) {k a b : ℕ} {x y z : List ℕ} → k ≡ o → x ≡ later-in k (q + 1) ls → a ≡ cond u (q + 1) 0 → y ≡ later-in 2006 a x → b ≡ cond v (q + 1) 0 → z ≡ later-in 2007 b y
+    → z ≡ later-in 2007 (cond v (q + 1) 0) (later-in 2006 (cond u (q + 1) 0) (later-in o (q + 1) ls))
+three-notes ls q o u v {x = x} {y = y} g h i j k l =
+    l ∙ ap (λ (c : ℕ). later-in 2007 c y) k ∙ ap (later-in 2007 (cond v (q + 1) 0)) (j ∙ ap (λ (c : ℕ). later-in 2006 c x) i ∙ ap (later-in 2006 (cond u (q + 1) 0)) (h ∙ ap (λ (c : ℕ). later-in c (q + 1) ls) g))
 
 pub member-is : (q : ℕ) (ls : List ℕ) → set ls (2 * q + 5) (getD ls (2 * q + 5) 0 % 1024 + 1024) ≡ member-in q ls
 unfolding member-in
 member-is q ls = refl
 
-pub forgot-no : (d p : ℕ) (ls : List ℕ) → d ≡ 0 → ls ≡ forgot d p ls
+pub forgot-no : (d : Bool) (p : ℕ) (ls : List ℕ) → not d ≡ true → ls ≡ forgot d p ls
 unfolding forgot
-forgot-no d p ls e = sym (ap (λ (b : Bool). cond b ls (set ls (2 * p + 5) (getD ls (2 * p + 5) 0 % 1024))) (eq-eqb d 0 e))
+forgot-no d p ls e = sym (ap (λ (b : Bool). cond b (set ls (2 * p + 5) (getD ls (2 * p + 5) 0 % 1024)) ls) (not-true d e))
 
-pub forgot-yes : (d p : ℕ) (ls : List ℕ) → (d ≡ 0 → ⊥) → set ls (2 * p + 5) (getD ls (2 * p + 5) 0 % 1024) ≡ forgot d p ls
+pub forgot-yes : (d : Bool) (p : ℕ) (ls : List ℕ) → not d ≡ false → set ls (2 * p + 5) (getD ls (2 * p + 5) 0 % 1024) ≡ forgot d p ls
 unfolding forgot
-forgot-yes d p ls e = sym (ap (λ (b : Bool). cond b ls (set ls (2 * p + 5) (getD ls (2 * p + 5) 0 % 1024))) (ne-eqb d 0 e))
+forgot-yes d p ls e = sym (ap (λ (b : Bool). cond b (set ls (2 * p + 5) (getD ls (2 * p + 5) 0 % 1024)) ls) (not-false d e))
+
+pub noting-in : (f : Fact) (b : Bool) (q : ℕ) (ls : List ℕ) {ls′ : List ℕ} → b ≡ true → ls′ ≡ member-in q ls → ls′ ≡ noting f b q ls
+unfolding noting
+noting-in f b q ls t e = e ∙ sym (ap (λ (x : Bool). noting f x q ls) t)
+
+pub noting-out : (f : Fact) (b : Bool) (q : ℕ) (ls : List ℕ) {ls′ : List ℕ} → b ≡ false → ls′ ≡ later-in 2007 (cond (f .suspends) (q + 1) 0) (later-in 2006 (cond (f .barrier) (q + 1) 0) (later-in (f .wrote) (q + 1) ls)) → ls′ ≡ noting f b q ls
+unfolding noting
+noting-out f b q ls t e = e ∙ sym (ap (λ (x : Bool). noting f x q ls) t)
 
 pub noted-member : (w : List ℕ) (L : ℕ → Bool) (q : ℕ) (ls : List ℕ) {ls′ : List ℕ} {b : Bool} → b ≡ L q → b ≡ true → length ls ≡ 2008 → q < 800 → ls′ ≡ member-in q ls → Noted w L q ls ls′
 unfolding member-in

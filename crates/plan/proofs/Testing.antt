@@ -1,10 +1,9 @@
 -- The tests of the forward pass, place by place. Assumes nothing.
 use mathlib.Core.Path.{_≡_, refl, sym, ap, ap₂, _∙_, subst}
-use mathlib.Core.Logic.{_⊎_, inl, inr, ⊎-elim}
+use mathlib.Core.Logic.{_⊎_, inl, inr}
 use mathlib.Core.Bool.{Bool, true, false, not, _&&_, _||_, cond}
 use mathlib.Core.List.{List, [], _∷_, map}
-use Prim.Native.Nat.{ℕ, zero, suc, _+_, _*_, _-_, _/_, _%_, _≤_, _<_}
-use native.Mathlib.Numerals.{add-one}
+use Prim.Native.Nat.{ℕ, zero, suc, _+_, _-_, _/_, _%_, _≤_, _<_}
 use native.Mathlib.Omega.{arith}
 use borrow.Author.Tests.{eq-eqb, ne-eqb, le-leb, lt-leb, not-true, not-false}
 use lib.Dec.{eqb, leb}
@@ -13,12 +12,12 @@ use lib.Seq.{drop-cons}
 use Rattle.words.specs.Lists.{upto, all, conj}
 use Rattle.words.proofs.Alls.{and-yes, and-nay}
 use Rattle.model.specs.Picture.{Inst, inst, absent, reads, list-of}
-use Rattle.legalset.specs.Chain.{cell, flag, reg-org, picked, Good}
-use Rattle.legalset.specs.Marks.{in-set}
+use Rattle.facts.specs.declared.Fact.{Fact}
+use Rattle.legalset.specs.Chain.{reg-org, picked, Good}
 use Rattle.legalset.specs.Rules.{org-fine, still-fine}
 use Rattle.plan.specs.Passes.{read-place, read-test, place-test, word-org, org-test, piece-test, froms, from-test, memory-test, own-test, stay-test, Near}
 use Rattle.inst.proofs.Lists.{getD-any}
-use Rattle.plan.proofs.Places.{Placed, all-placed, reads-placed}
+use Rattle.plan.proofs.Places.{all-placed, reads-placed}
 
 -- ---- rule 3
 
@@ -129,14 +128,14 @@ one-origin : (regs ops : List ℕ) (i : Inst) (st : List ℕ) (o : ℕ) → (suc
 unfolding froms
 one-origin regs ops i st o n = ap (λ (b : Bool). cond b (map (λ r. word-org regs r (getD st r 0)) (picked (getD i 9 0) (list-of ops i))) (o ∷ [])) (ne-eqb (suc o) 4294967295 n)
 
-module _ (w regs ops : List ℕ) (i : Inst) (st lasts : List ℕ) (bar p : ℕ) where
-  pub from-none : {x : ℕ} → x ≡ cell w p 5 → x ≡ 0 → true ≡ from-test w regs ops i st lasts bar p
+module _ (regs ops : List ℕ) (i : Inst) (st lasts : List ℕ) (bar x p : ℕ) where
+  pub from-none : x ≡ 0 → true ≡ from-test regs ops i st lasts bar x p
   unfolding from-test froms
-  from-none e z = sym (ap (λ (y : ℕ). all (org-test lasts bar p) (froms regs ops i st y)) (sym e ∙ z))
+  from-none z = sym (ap (λ (y : ℕ). all (org-test lasts bar p) (froms regs ops i st y)) z)
 
-  pub from-one : {x : ℕ} {b : Bool} → x ≡ cell w p 5 → (x ≡ 0 → ⊥) → (x ≡ 4294967295 → ⊥) → b ≡ org-test lasts bar p (x - 1) → b ≡ from-test w regs ops i st lasts bar p
+  pub from-one : {b : Bool} → (x ≡ 0 → ⊥) → (x ≡ 4294967295 → ⊥) → b ≡ org-test lasts bar p (x - 1) → b ≡ from-test regs ops i st lasts bar x p
   unfolding from-test
-  from-one {x} {b} e z n f = f ∙ is x z n ∙ ap (λ (y : ℕ). all (org-test lasts bar p) (froms regs ops i st y)) e
+  from-one {b} z n f = f ∙ is x z n
     where
       end : (a : Bool) → a ≡ (a && true)
       end true = refl
@@ -146,31 +145,31 @@ module _ (w regs ops : List ℕ) (i : Inst) (st lasts : List ℕ) (bar p : ℕ) 
       is zero z n = absurd (z refl)
       is (suc o) z n = let q : suc o - 1 ≡ o = omega arith in ap (org-test lasts bar p) q ∙ end (org-test lasts bar p o) ∙ sym (ap (all (org-test lasts bar p)) (one-origin regs ops i st o n))
 
-  pub from-cat : {x sc : ℕ} {xs : List ℕ} {b : Bool} → x ≡ cell w p 5 → x ≡ 4294967295 → xs ≡ list-of ops i → sc ≡ getD i 9 0 → b ≡ all (piece-test regs st lasts bar p) (picked sc xs) → b ≡ from-test w regs ops i st lasts bar p
+  pub from-cat : {sc : ℕ} {xs : List ℕ} {b : Bool} → x ≡ 4294967295 → xs ≡ list-of ops i → sc ≡ getD i 9 0 → b ≡ all (piece-test regs st lasts bar p) (picked sc xs) → b ≡ from-test regs ops i st lasts bar x p
   unfolding from-test froms piece-test
-  from-cat {x} {sc} {xs} e z f g h =
+  from-cat {sc} {xs} z f g h =
       h ∙ ap₂ (λ (s : ℕ) (l : List ℕ). all (λ r. org-test lasts bar p (word-org regs r (getD st r 0))) (picked s l)) g f
       ∙ sym (all-map (org-test lasts bar p) (λ r. word-org regs r (getD st r 0)) (picked (getD i 9 0) (list-of ops i)))
-      ∙ ap (λ (y : ℕ). all (org-test lasts bar p) (froms regs ops i st y)) (sym z ∙ e)
+      ∙ ap (λ (y : ℕ). all (org-test lasts bar p) (froms regs ops i st y)) (sym z)
 
 -- ---- rule 6, and rule 5 for what creates or writes
 
-pub own-words : (lasts : List ℕ) {o k x : ℕ} → o ≡ x → k ≡ o → (eqb o 0 || leb 1024 (getD lasts k 0)) ≡ own-test lasts x
+pub own-words : (lasts : List ℕ) (o : ℕ) {k : ℕ} → k ≡ o → (eqb o 0 || leb 1024 (getD lasts k 0)) ≡ own-test lasts o
 unfolding own-test
-own-words lasts e f = ap₂ (λ (a b : ℕ). eqb a 0 || leb 1024 (getD lasts b 0)) e (f ∙ e)
+own-words lasts o f = ap (λ (b : ℕ). eqb o 0 || leb 1024 (getD lasts b 0)) f
 
-pub still-is : (w : List ℕ) (p bar : ℕ) {f o : ℕ} → f ≡ cell w p 3 → o ≡ cell w p 4 → (leb bar (p + 1) || (not (eqb (f / 4 % 2) 1) && eqb o 0)) ≡ still-fine p bar (flag w 4 p) (cell w p 4)
-unfolding still-fine flag
-still-is w p bar e g = ap₂ (λ (x y : ℕ). leb bar (p + 1) || (not (eqb (x / 4 % 2) 1) && eqb y 0)) e g
+pub still-is : (p bar : ℕ) (c : Bool) (o : ℕ) → (leb bar (p + 1) || (not c && eqb o 0)) ≡ still-fine p bar c o
+unfolding still-fine
+still-is p bar c o = refl
 
-module _ (recs ops w regs st lasts : List ℕ) (g bar p : ℕ) {x : Bool} (e : x ≡ still-fine p bar (flag w 4 p) (cell w p 4)) where
-  pub memory-no : not x ≡ true → false ≡ memory-test recs ops w regs st lasts g bar p
+module _ (recs ops regs st lasts : List ℕ) (f : Fact) (bar p : ℕ) {x : Bool} (e : x ≡ still-fine p bar (f .creates) (f .wrote)) where
+  pub memory-no : not x ≡ true → false ≡ memory-test recs ops regs st lasts f bar p
   unfolding memory-test
-  memory-no t = and-nay (from-test w regs ops (inst recs g) st lasts bar p) e (not-true x t)
+  memory-no t = and-nay (from-test regs ops (inst recs (f .rec)) st lasts bar (f .from) p) e (not-true x t)
 
-  pub memory-on : {y : Bool} → not x ≡ false → y ≡ from-test w regs ops (inst recs g) st lasts bar p → y ≡ memory-test recs ops w regs st lasts g bar p
+  pub memory-on : {y : Bool} → not x ≡ false → y ≡ from-test regs ops (inst recs (f .rec)) st lasts bar (f .from) p → y ≡ memory-test recs ops regs st lasts f bar p
   unfolding memory-test
-  memory-on t f = and-yes e (not-false x t) f
+  memory-on t k = and-yes e (not-false x t) k
 
 -- ---- all of them
 
@@ -195,49 +194,52 @@ only-first false = refl
 
 -- ---- sizes
 
-pub from-small : {x f : ℕ} → (x ≤ 2004) ⊎ (x ≡ 4294967295) → f ≡ x → (f ≡ 4294967295 → ⊥) → f - 1 < 2005
-from-small (inl h) e n = omega arith
-from-small (inr h) e n = absurd (n (e ∙ h))
+pub from-small : {x : ℕ} → (x ≤ 2004) ⊎ (x ≡ 4294967295) → (x ≡ 4294967295 → ⊥) → x - 1 < 2005
+from-small (inl h) n = omega arith
+from-small (inr h) n = absurd (n h)
 
 pub list-low : {recs ops : List ℕ} {R g : ℕ} {xs : List ℕ} → Good recs ops R g → xs ≡ list-of ops (inst recs g) → (k : ℕ) → k < length xs → getD xs k 0 < R
 list-low {recs} {ops} {R} {g} {xs} h e k l =
     let m : k < length (list-of ops (inst recs g)) = subst (λ (y : List ℕ). k < length y) e l in
     subst (λ (x : ℕ). x < R) (sym (ap (λ (y : List ℕ). getD y k 0) e ∙ getD-any (list-of ops (inst recs g)) k 0 absent m)) (h .list k m)
 
-module _ (recs ops w regs st lasts : List ℕ) (g sus bar p : ℕ) where
+module _ (recs ops regs st lasts : List ℕ) (d : Fact) (sus bar p : ℕ) (m : d .member ≡ true) where
   abbrev three : Bool
-  three = all (read-test st p) (reads ops (inst recs g))
+  three = all (read-test st p) (reads ops (inst recs (d .rec)))
 
   abbrev five : Bool
-  five = memory-test recs ops w regs st lasts g bar p
+  five = memory-test recs ops regs st lasts d bar p
 
   abbrev six : Bool
-  six = own-test lasts (cell w p 4)
+  six = own-test lasts (d .wrote)
 
-  pub no-rule4 : {x : Bool} → x ≡ leb sus (p + 1) → not x ≡ true → false ≡ stay-test recs ops w regs st lasts g sus bar p
-  unfolding stay-test
-  no-rule4 {x} e t = no-second three five six ∙ ap (λ (y : Bool). conj (three ∷ y ∷ five ∷ six ∷ [])) (sym (not-true x t) ∙ e)
+  of-member : (b : Bool) → b ≡ (d .member && b)
+  of-member b = sym (ap (λ (x : Bool). x && b) m)
 
-  pub no-rule6 : {x : Bool} → x ≡ six → not x ≡ true → false ≡ stay-test recs ops w regs st lasts g sus bar p
+  pub no-rule4 : {x : Bool} → x ≡ leb sus (p + 1) → not x ≡ true → false ≡ (d .member && stay-test recs ops regs st lasts d sus bar p)
   unfolding stay-test
-  no-rule6 {x} e t = no-last three (leb sus (p + 1)) five ∙ ap (λ (y : Bool). conj (three ∷ leb sus (p + 1) ∷ five ∷ y ∷ [])) (sym (not-true x t) ∙ e)
+  no-rule4 {x} e t = no-second three five six ∙ ap (λ (y : Bool). conj (three ∷ y ∷ five ∷ six ∷ [])) (sym (not-true x t) ∙ e) ∙ of-member _
 
-  pub no-rule5 : {x : Bool} → x ≡ five → not x ≡ true → false ≡ stay-test recs ops w regs st lasts g sus bar p
+  pub no-rule6 : {x : Bool} → x ≡ six → not x ≡ true → false ≡ (d .member && stay-test recs ops regs st lasts d sus bar p)
   unfolding stay-test
-  no-rule5 {x} e t = no-third three (leb sus (p + 1)) six ∙ ap (λ (y : Bool). conj (three ∷ leb sus (p + 1) ∷ y ∷ six ∷ [])) (sym (not-true x t) ∙ e)
+  no-rule6 {x} e t = no-last three (leb sus (p + 1)) five ∙ ap (λ (y : Bool). conj (three ∷ leb sus (p + 1) ∷ five ∷ y ∷ [])) (sym (not-true x t) ∙ e) ∙ of-member _
 
-  pub by-rule3 : {x y z v : Bool} → x ≡ leb sus (p + 1) → not x ≡ false → y ≡ six → not y ≡ false → z ≡ five → not z ≡ false → v ≡ three → v ≡ stay-test recs ops w regs st lasts g sus bar p
+  pub no-rule5 : {x : Bool} → x ≡ five → not x ≡ true → false ≡ (d .member && stay-test recs ops regs st lasts d sus bar p)
   unfolding stay-test
-  by-rule3 {x} {y} {z} e a f b k d m =
-      m ∙ only-first three
-      ∙ ap₂ (λ (i j : Bool). conj (three ∷ i ∷ j ∷ true ∷ [])) (sym (not-false x a) ∙ e) (sym (not-false z d) ∙ k)
-      ∙ ap (λ (j : Bool). conj (three ∷ leb sus (p + 1) ∷ five ∷ j ∷ [])) (sym (not-false y b) ∙ f)
+  no-rule5 {x} e t = no-third three (leb sus (p + 1)) six ∙ ap (λ (y : Bool). conj (three ∷ leb sus (p + 1) ∷ y ∷ six ∷ [])) (sym (not-true x t) ∙ e) ∙ of-member _
+
+  pub by-rule3 : {x y z v : Bool} → x ≡ leb sus (p + 1) → not x ≡ false → y ≡ six → not y ≡ false → z ≡ five → not z ≡ false → v ≡ three → v ≡ (d .member && stay-test recs ops regs st lasts d sus bar p)
+  unfolding stay-test
+  by-rule3 {x} {y} {z} e a f b k c v =
+      v ∙ only-first three
+      ∙ ap₂ (λ (i j : Bool). conj (three ∷ i ∷ j ∷ true ∷ [])) (sym (not-false x a) ∙ e) (sym (not-false z c) ∙ k)
+      ∙ ap (λ (j : Bool). conj (three ∷ leb sus (p + 1) ∷ five ∷ j ∷ [])) (sym (not-false y b) ∙ f) ∙ of-member _
 
 -- ---- a test asked only of a member
 
-module _ (S : List ℕ) (p : ℕ) (ok : Bool) {x : Bool} (e : x ≡ in-set S p) where
-  pub skipped : not x ≡ true → true ≡ (not (in-set S p) || ok)
-  skipped t = sym (ap (λ (y : Bool). not y || ok) (sym e ∙ not-true x t))
+module _ (in? ok : Bool) where
+  pub skipped : not in? ≡ true → false ≡ (in? && ok)
+  skipped t = sym (ap (λ (y : Bool). y && ok) (not-true in? t))
 
-  pub asked : {y : Bool} → not x ≡ false → y ≡ ok → y ≡ (not (in-set S p) || ok)
-  asked t f = f ∙ sym (ap (λ (y : Bool). not y || ok) (sym e ∙ not-false x t))
+  pub asked : {y : Bool} → not in? ≡ false → y ≡ ok → y ≡ (in? && ok)
+  asked t f = f ∙ sym (ap (λ (y : Bool). y && ok) (not-false in? t))

@@ -12,17 +12,17 @@ use lib.ListN.{getD, length, set, replicate, length-set}
 use lib.Seq.{getD-set-same, getD-set-other}
 use Rattle.words.specs.Lists.{In, upto, any, mem}
 use Rattle.words.specs.Last.{last-below}
-use Rattle.words.proofs.Bools.{bool-ext, both, left, right, true-T, false-T, T-false, eq?}
+use Rattle.words.proofs.Bools.{bool-ext, both, left, right, false-T, T-false, eq?}
+use Rattle.words.proofs.Lasts.{last-ext}
 use Rattle.words.proofs.Members.{any-in, any-of, in-range, range-in}
-use Rattle.model.specs.Picture.{inst, absent, reads, writes}
-use Rattle.legalset.specs.Chain.{cell, defs-of, reads-of, writer, Safe}
+use Rattle.model.specs.Picture.{absent}
+use Rattle.legalset.specs.Chain.{writer}
 use Rattle.legalset.proofs.Lasting.{last-step, writer-low}
-use Rattle.plan.specs.Passes.{over, stamp, Stamped}
+use Rattle.plan.specs.Passes.{over, stamp}
 use Rattle.plan.specs.Uses.{note-in, Noticed, ReadOn, reads-value, or-own, last-reader, Readers}
 use Rattle.plan.proofs.Places.{Placed}
 use Rattle.plan.proofs.Stamping.{put-room, any-more}
 use Rattle.plan.proofs.Summing.{zero-at}
-use Rattle.plan.proofs.Forwarding.{reads-low}
 
 -- ---- one register
 
@@ -131,20 +131,16 @@ reading-none defs rd st₀ {st} {ls} a z e h = record { size = a; writers = λ r
 pub reading-low : {defs rd : ℕ → List ℕ} {q : ℕ} {st₀ st ls : List ℕ} → Reading defs rd q st₀ st ls → q ≤ 800 → (x : ℕ) → x < length st → getD st x 0 ≤ 800
 reading-low {defs} {rd} {q} i l x h = let e = i .writers x (subst (λ (m : ℕ). x < m) (i .size) h) in let w = writer-low defs x q in omega arith
 
-pub reading-more : {recs ops w : List ℕ} {n q : ℕ} {st₀ st ls st′ ls′ : List ℕ} → Safe recs ops w n (length st₀) → q < n → Reading (defs-of recs w) (reads-of recs ops w) q st₀ st ls
-    → ReadOn (defs-of recs w) (reads-of recs ops w) q st ls st′ ls′ → Reading (defs-of recs w) (reads-of recs ops w) (q + 1) st₀ st′ ls′
+pub reading-more : {defs rd : ℕ → List ℕ} {q : ℕ} {st₀ st ls st′ ls′ : List ℕ} → ((r : ℕ) → In r (rd q) → r < length st₀) → Reading defs rd q st₀ st ls → ReadOn (defs q) (rd q) q st ls st′ ls′ → Reading defs rd (q + 1) st₀ st′ ls′
 unfolding stamp over writer last-reader reads-value
-reading-more {recs} {ops} {w} {n} {q} {st₀} {st} {ls} s h i k = record {
+reading-more {defs} {rd} {q} {st₀} {st} {ls} low i k = record {
   size = k .stamped .size ∙ i .size;
-  writers = λ r l. k .stamped .each r (subst (λ (m : ℕ). r < m) (sym (i .size)) l) ∙ put (mem r (defs-of recs w q)) (getD st r 0) ∙ ap (cond (mem r (defs-of recs w q)) (suc q)) (i .writers r l)
-      ∙ sym (ap (last-below (λ j. mem r (defs-of recs w j))) (add-one q) ∙ last-step (λ j. mem r (defs-of recs w j)) q);
+  writers = λ r l. k .stamped .each r (subst (λ (m : ℕ). r < m) (sym (i .size)) l) ∙ put (mem r (defs q)) (getD st r 0) ∙ ap (cond (mem r (defs q)) (suc q)) (i .writers r l) ∙ sym (ap (last-below (λ j. mem r (defs j))) (add-one q) ∙ last-step (λ j. mem r (defs j)) q);
   readers = record {
     size = k .noticed .size;
     each = λ p l. k .noticed .each p l ∙ ap₂ (λ (b : Bool) (y : ℕ). cond b q y)
-        (any-on (λ r. eqb (getD st r 0) (p + 1)) (λ r. eqb (last-below (λ j. mem r (defs-of recs w j)) q) (p + 1)) (reads-of recs ops w q)
-        (λ r j. ap (λ (y : ℕ). eqb y (p + 1)) (i .writers r (reads-low recs ops (length st₀) (cell w q 0) (s .good q h) r j)))) (i .readers .each p l)
-        ∙ own (reads-value (defs-of recs w) (reads-of recs ops w) p q) p (last-below (reads-value (defs-of recs w) (reads-of recs ops w) p) q)
-        ∙ ap (or-own p) (sym (ap (last-below (reads-value (defs-of recs w) (reads-of recs ops w) p)) (add-one q) ∙ last-step (reads-value (defs-of recs w) (reads-of recs ops w) p) q));
+        (any-on (λ r. eqb (getD st r 0) (p + 1)) (λ r. eqb (last-below (λ j. mem r (defs j)) q) (p + 1)) (rd q) (λ r j. ap (λ (y : ℕ). eqb y (p + 1)) (i .writers r (low r j)))) (i .readers .each p l)
+        ∙ own (reads-value defs rd p q) p (last-below (reads-value defs rd p) q) ∙ ap (or-own p) (sym (ap (last-below (reads-value defs rd p)) (add-one q) ∙ last-step (reads-value defs rd p) q));
   };
 }
   where
@@ -156,5 +152,12 @@ reading-more {recs} {ops} {w} {n} {q} {st₀} {st} {ls} s h i k = record {
     own true p y = own-is p q
     own false p y = refl
 
-pub reading-end : {defs rd : ℕ → List ℕ} {q n : ℕ} {st₀ st ls : List ℕ} → Reading defs rd q st₀ st ls → q ≤ n → n ≤ q → Readers defs rd n ls × (length st ≡ length st₀)
-reading-end {defs} {rd} {q} {n} {ls = ls} i a b = let e : q ≡ n = omega arith in (subst (λ (m : ℕ). Readers defs rd m ls) e (i .readers), i .size)
+-- other names for the same reads and writes
+pub readers-same : {defs rd defs′ rd′ : ℕ → List ℕ} {n : ℕ} {ls : List ℕ} → ((q : ℕ) → q < n → defs q ≡ defs′ q) → ((q : ℕ) → q < n → rd q ≡ rd′ q) → Readers defs rd n ls → Readers defs′ rd′ n ls
+unfolding last-reader reads-value writer
+readers-same {defs} {rd} {defs′} {rd′} {n} d e i = record {
+  size = i .size;
+  each = λ p h. i .each p h ∙ ap (or-own p) (last-ext (reads-value defs rd p) (reads-value defs′ rd′ p) n (λ q l.
+      any-on (λ r. eqb (writer defs r q) (p + 1)) (λ r. eqb (writer defs′ r q) (p + 1)) (rd q) (λ r j. ap (λ (y : ℕ). eqb y (p + 1)) (last-ext (λ k. mem r (defs k)) (λ k. mem r (defs′ k)) q (λ k m. ap (mem r) (d k (omega (arith, m, l))))))
+      ∙ ap (any (λ r. eqb (writer defs′ r q) (p + 1))) (e q l)));
+}

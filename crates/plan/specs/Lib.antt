@@ -1,2 +1,4 @@
 pub mod Passes
+pub mod Sweep
+pub mod Cycle
 pub mod Uses

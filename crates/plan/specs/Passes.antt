@@ -1,5 +1,6 @@
 -- What the parts of a pass require and ensure. Assumes nothing.
 use mathlib.Core.Path.{_≡_}
+use mathlib.Core.Logic.{_⊎_}
 use mathlib.Core.Bool.{Bool, true, false, not, _&&_, _||_, cond}
 use mathlib.Core.List.{List, [], _∷_, _++_, map}
 use Prim.Native.Nat.{ℕ, zero, suc, _+_, _*_, _-_, _/_, _%_, _≤_, _<_, max}
@@ -11,6 +12,7 @@ use Rattle.model.specs.Picture.{Inst, inst, absent, reads, writes, list-of}
 use Rattle.model.specs.Analyse.{Fact}
 use Rattle.model.specs.Legal.{greatest}
 use Rattle.inst.specs.Record.{Known, present, read-at}
+use Rattle.facts.specs.declared.Fact as F
 use Rattle.legalset.specs.Chain.{writer, cell, flag, defs-of, reads-of, reg-org, picked, Fits, Good, Safe, Brief, Told}
 use Rattle.legalset.specs.Marks.{in-set, sifted, lost}
 use Rattle.legalset.specs.Rules.{last-kept, org-fine, still-fine, pending}
@@ -21,18 +23,37 @@ read-place ops i k = cond (ltb k 5) (read-at i k) (getD (list-of ops i) (k - 5) 
 
 -- ---- one position
 
--- what position p writes are registers below R; where word 9 is 0 it is word 6
-pub record Written (recs w : List ℕ) (R p : ℕ) : Type 0 where
-  pub room : 10 * p + 10 ≤ length w
-  pub known : Known recs (cell w p 0)
-  pub fits : Fits recs R (cell w p 0)
-  pub brief : cell w p 9 ≡ 0 → defs-of recs w p ≡ present (cell w p 6)
+-- what record g writes are registers below R; it is d where there are not more
+pub record Written (recs : List ℕ) (R g d : ℕ) (more : Bool) : Type 0 where
+  pub known : Known recs g
+  pub fits : Fits recs R g
+  pub brief : more ≡ false → writes (inst recs g) ≡ present d
 
--- what it reads are such too; where word 9 is 0 it is words 7 and 8
-pub record Readable (recs ops w : List ℕ) (R p : ℕ) : Type 0 where
-  pub room : 10 * p + 10 ≤ length w
-  pub good : Good recs ops R (cell w p 0)
-  pub brief : cell w p 9 ≡ 0 → reads-of recs ops w p ≡ present (cell w p 7) ++ present (cell w p 8)
+-- what it reads are such too; it is `use0` and `use1` where there are not more
+pub record Readable (recs ops : List ℕ) (R : ℕ) (f : F.Fact) : Type 0 where
+  pub good : Good recs ops R (f .rec)
+  pub brief : f .more ≡ false → reads ops (inst recs (f .rec)) ≡ present (f .use0) ++ present (f .use1)
+
+-- the numbers of memory are small
+pub record Small (f : F.Fact) : Type 0 where
+  pub org : f .org < 2004
+  pub wrote : f .wrote ≤ 2004
+  pub from : (f .from ≤ 2004) ⊎ (f .from ≡ 4294967295)
+
+-- the words of position p say what f does
+pub record Shows (w : List ℕ) (p : ℕ) (f : F.Fact) : Type 0 where
+  pub rec : cell w p 0 ≡ f .rec
+  pub class : cell w p 1 ≡ f .class
+  pub org : cell w p 2 ≡ f .org
+  pub creates : flag w 4 p ≡ f .creates
+  pub barrier : flag w 8 p ≡ f .barrier
+  pub suspends : flag w 16 p ≡ f .suspends
+  pub wrote : cell w p 4 ≡ f .wrote
+  pub from : cell w p 5 ≡ f .from
+  pub def : cell w p 6 ≡ f .def
+  pub use0 : cell w p 7 ≡ f .use0
+  pub use1 : cell w p 8 ≡ f .use1
+  pub more : f .more ≡ false → cell w p 9 ≡ 0
 
 -- ---- a word a register
 
@@ -113,9 +134,9 @@ unfoldable pub froms : List ℕ → List ℕ → Inst → List ℕ → ℕ → L
 froms regs ops i st zero = []
 froms regs ops i st (suc o) = cond (eqb (suc o) 4294967295) (map (λ r. word-org regs r (getD st r 0)) (picked (getD i 9 0) (list-of ops i))) (o ∷ [])
 
--- what p reads from
-unfoldable pub from-test : List ℕ → List ℕ → List ℕ → Inst → List ℕ → List ℕ → ℕ → ℕ → Bool
-from-test w regs ops i st lasts bar p = all (org-test lasts bar p) (froms regs ops i st (cell w p 5))
+-- what p reads from, by its word 5
+unfoldable pub from-test : List ℕ → List ℕ → Inst → List ℕ → List ℕ → ℕ → ℕ → ℕ → Bool
+from-test regs ops i st lasts bar x p = all (org-test lasts bar p) (froms regs ops i st x)
 
 -- what is stamped fits, and a second stamp changes nothing
 pub record Beside (keep lo v : ℕ) : Type 0 where
@@ -135,29 +156,32 @@ piece-test regs st lasts bar p r = org-test lasts bar p (word-org regs r (getD s
 pub record Near (st : List ℕ) : Type 0 where
   pub org : (r : ℕ) → r < length st → getD st r 0 / 8192 < 2005
 
--- rule 5 for position p, record g
-unfoldable pub memory-test : List ℕ → List ℕ → List ℕ → List ℕ → List ℕ → List ℕ → ℕ → ℕ → ℕ → Bool
-memory-test recs ops w regs st lasts g bar p = still-fine p bar (flag w 4 p) (cell w p 4) && from-test w regs ops (inst recs g) st lasts bar p
+-- rule 5 for position p of fact f
+unfoldable pub memory-test : List ℕ → List ℕ → List ℕ → List ℕ → List ℕ → F.Fact → ℕ → ℕ → Bool
+memory-test recs ops regs st lasts f bar p = still-fine p bar (f .creates) (f .wrote) && from-test regs ops (inst recs (f .rec)) st lasts bar (f .from) p
 
 -- rule 6 for the number of memory written
 unfoldable pub own-test : List ℕ → ℕ → Bool
 own-test lasts o = eqb o 0 || leb 1024 (getD lasts o 0)
 
--- rules 3 to 6 for position p, record g
-unfoldable pub stay-test : List ℕ → List ℕ → List ℕ → List ℕ → List ℕ → List ℕ → ℕ → ℕ → ℕ → ℕ → Bool
-stay-test recs ops w regs st lasts g sus bar p =
-    conj (all (read-test st p) (reads ops (inst recs g)) ∷ leb sus (p + 1) ∷ memory-test recs ops w regs st lasts g bar p ∷ own-test lasts (cell w p 4) ∷ [])
+-- rules 3 to 6 for position p of fact f
+unfoldable pub stay-test : List ℕ → List ℕ → List ℕ → List ℕ → List ℕ → F.Fact → ℕ → ℕ → ℕ → Bool
+stay-test recs ops regs st lasts f sus bar p =
+    conj (all (read-test st p) (reads ops (inst recs (f .rec))) ∷ leb sus (p + 1) ∷ memory-test recs ops regs st lasts f bar p ∷ own-test lasts (f .wrote) ∷ [])
 
--- a member that was dropped, r of them, is none
-unfoldable pub forgot : ℕ → ℕ → List ℕ → List ℕ
-forgot r p lasts = cond (eqb r 0) lasts (set lasts (2 * p + 5) (getD lasts (2 * p + 5) 0 % 1024))
+-- p is no member any more, if it was dropped
+unfoldable pub forgot : Bool → ℕ → List ℕ → List ℕ
+forgot dropped p lasts = cond dropped (set lasts (2 * p + 5) (getD lasts (2 * p + 5) 0 % 1024)) lasts
 
--- position p was looked at: st, lasts and marks after those before
-pub record Forwarded (recs ops w regs : List ℕ) (sus bar p : ℕ) (st lasts marks st′ lasts′ marks′ : List ℕ) (r : ℕ) : Type 0 where
-  pub stamped : Stamped (writes (inst recs (cell w p 0))) 2048 0 (2048 * writer-word w (in-set marks′) (suc p)) st st′
-  pub sifts : marks′ ≡ sifted marks p (stay-test recs ops w regs st lasts (cell w p 0) sus bar p)
-  pub forgets : lasts′ ≡ forgot r p lasts
-  pub loses : r ≡ lost marks p (stay-test recs ops w regs st lasts (cell w p 0) sus bar p)
+-- what is stamped of the position of fact f, which is in the set or not
+unfoldable pub fact-word : F.Fact → Bool → ℕ
+fact-word f in? = 1 + 2 * hit in? + 4 * f .org
+
+-- position p of fact f was looked at: st and lasts after those before, and whether it stays in the set
+pub record Forwarded (recs ops regs : List ℕ) (f : F.Fact) (sus bar p : ℕ) (st lasts st′ lasts′ : List ℕ) (keep : Bool) : Type 0 where
+  pub keeps : keep ≡ (f .member && stay-test recs ops regs st lasts f sus bar p)
+  pub stamped : Stamped (writes (inst recs (f .rec))) 2048 0 (2048 * fact-word f keep) st st′
+  pub forgets : lasts′ ≡ forgot (f .member && not keep) p lasts
 
 -- the summary of the marks, with the writers before p
 pub record Summed (recs w : List ℕ) (n p : ℕ) (st lasts marks : List ℕ) : Type 0 where
@@ -186,28 +210,24 @@ pub record Noted (w : List ℕ) (L : ℕ → Bool) (q : ℕ) (before after : Lis
   pub each : (j : ℕ) → j < 2008 → getD after j 0 % 1024 ≡ max (getD before j 0 % 1024) (cond (not (L q) && noted w j q) (q + 1) 0)
   pub flags : (j : ℕ) → j < 2008 → getD after j 0 / 1024 ≡ cond (L q && eqb (2 * q + 5) j) 1 (getD before j 0 / 1024)
 
--- what q reads is awaited, if q is kept
-pub record Awaited (reads : ℕ → List ℕ) (L : ℕ → Bool) (q : ℕ) (before after : List ℕ) : Type 0 where
+-- what q reads, the registers of l, is awaited, if q is kept
+pub record Awaited (l : List ℕ) (in? : Bool) (before after : List ℕ) : Type 0 where
   pub size : length after ≡ length before
-  pub each : (r : ℕ) → r < length before → getD after r 0 ≡ stamp 1024 0 1024 (not (L q) && mem r (reads q)) (getD before r 0)
+  pub each : (r : ℕ) → r < length before → getD after r 0 ≡ stamp 1024 0 1024 (not in? && mem r l) (getD before r 0)
 
--- position q was looked at from behind: st, lasts and marks after those before
-pub record Backed (w : List ℕ) (defs reads : ℕ → List ℕ) (q : ℕ) (st ls marks st′ ls′ marks′ : List ℕ) (r : ℕ) : Type 0 where
+-- what the position of fact f does, if it is kept; else that it is a member
+unfoldable pub noting : F.Fact → Bool → ℕ → List ℕ → List ℕ
+noting f in? q ls = cond in? (member-in q ls) (later-in 2007 (cond (f .suspends) (q + 1) 0) (later-in 2006 (cond (f .barrier) (q + 1) 0) (later-in (f .wrote) (q + 1) ls)))
+
+-- position q of fact f was looked at from behind: st and lasts after those before, and whether it stays in the set
+pub record Backed (recs ops : List ℕ) (f : F.Fact) (q : ℕ) (st ls st′ ls′ : List ℕ) (keep : Bool) : Type 0 where
+  pub keeps : keep ≡ (f .member && all (λ x. leb (getD st x 0) 1023) (writes (inst recs (f .rec))))
   pub size : length st′ ≡ length st
-  pub each : (x : ℕ) → x < length st → getD st′ x 0 ≡ stamp 1024 0 1024 (not (in-set marks′ q) && mem x (reads q)) (stamp 1024 (kept-word (in-set marks′ q) q) 0 (mem x (defs q)) (getD st x 0))
-  pub notes : Noted w (in-set marks′) q ls ls′
-  pub sifts : marks′ ≡ sifted marks q (all (λ x. leb (getD st x 0) 1023) (defs q))
-  pub loses : r ≡ lost marks q (all (λ x. leb (getD st x 0) 1023) (defs q))
+  pub each : (x : ℕ) → x < length st
+      → getD st′ x 0 ≡ stamp 1024 0 1024 (not keep && mem x (reads ops (inst recs (f .rec)))) (stamp 1024 (kept-word keep q) 0 (mem x (writes (inst recs (f .rec)))) (getD st x 0))
+  pub notes : ls′ ≡ noting f keep q ls
 
 -- ---- the whole
-
--- the words of n positions, the first m in x, a word a register twice, and marks
-pub record Set-up (recs ops w regs st marks : List ℕ) (m n : ℕ) : Type 0 where
-  pub safe : Safe recs ops w n (length st)
-  pub brief : Brief recs ops w n
-  pub regs-size : length regs ≡ length st
-  pub in-x : m ≤ n
-  pub marks-size : length marks ≡ 800
 
 -- each register's last writer in the chain, as `analyse` leaves it
 pub record Ended (recs w : List ℕ) (n : ℕ) (regs : List ℕ) : Type 0 where
@@ -217,22 +237,13 @@ pub record Ended (recs w : List ℕ) (n : ℕ) (regs : List ℕ) : Type 0 where
 unfoldable pub result-test : List ℕ → List ℕ → ℕ → ℕ → ℕ → Bool
 result-test regs bits o p r = not (is-in bits (64 * o + r) && eqb (getD regs r 0 / 16) (p + 1))
 
--- whether position p, if it is in x, begins in the set, by the words
-unfoldable pub begin-test : List ℕ → List ℕ → List ℕ → List ℕ → ℕ → ℕ → Bool
-begin-test recs w regs bits o p = eqb (cell w p 1) 1 && all (result-test regs bits o p) (defs-of recs w p)
+-- whether position p of fact f, if it is in x, begins in the set
+unfoldable pub begin-test : List ℕ → List ℕ → List ℕ → F.Fact → ℕ → ℕ → Bool
+begin-test recs regs bits f o p = eqb (f .class) 1 && all (result-test regs bits o p) (writes (inst recs (f .rec)))
 
 -- the row that begins at word o of bits stands for the registers needed elsewhere
 pub record Row (bits : List ℕ) (o R : ℕ) (needed : ℕ → Bool) : Type 0 where
   pub each : (r : ℕ) → r < R → is-in bits (64 * o + r) ≡ needed r
-
--- the words of n positions, the first m in x; of work, a row from word o on and the words from s on, one a register; and marks, all 0
-pub record Lent (recs ops w regs work marks : List ℕ) (o s m n : ℕ) : Type 0 where
-  pub safe : Safe recs ops w n (length regs)
-  pub brief : Brief recs ops w n
-  pub in-x : m ≤ n
-  pub zero : marks ≡ replicate 800 0
-  pub row-room : o ≤ length work
-  pub room : s + length regs ≤ length work
 
 -- all but the k words from s on is as it was
 pub record Around (s k : ℕ) (before after : List ℕ) : Type 0 where
@@ -243,7 +254,7 @@ pub record Around (s k : ℕ) (before after : List ℕ) : Type 0 where
 -- the marks are `model`'s greatest legal set, of r members, for whatever run and needs the words stand for; or that has fewer than
 -- `least`, as has what is marked
 pub record Greatest (recs ops w regs bits : List ℕ) (o : ℕ) (marks : List ℕ) (m n least r : ℕ) : Type 0 where
-  pub size : length marks ≡ 800
+  pub size : length marks ≡ n
   pub set : least ≤ r → (run : List Fact) (needed : ℕ → Bool) → Told recs ops w regs n run → Row bits o (length regs) needed → (p : ℕ) → in-set marks p ≡ member (greatest run needed m) p
   pub few : r < least → (run : List Fact) (needed : ℕ → Bool) → Told recs ops w regs n run → Row bits o (length regs) needed → count (greatest run needed m) < least
   pub count : least ≤ r → (run : List Fact) (needed : ℕ → Bool) → Told recs ops w regs n run → Row bits o (length regs) needed → r ≡ count (greatest run needed m)

@@ -1,19 +1,10 @@
-// A chain's words, ten a position, as `analyse` leaves them; and what a record reads, place by place.
+// What a record reads, place by place.
 ghost use mathlib.Core.Path.{_≡_};
-ghost use Prim.Native.Nat.{_+_, _*_, _<_, _≤_};
+ghost use Prim.Native.Nat.{_+_, _<_};
 ghost use lib.ListN.{length};
 ghost use Rattle.model.specs.Picture.{inst, list-of};
 ghost use Rattle.inst.specs.Record.{Used, Listed};
-ghost use Rattle.legalset.specs.Chain.{cell};
 ghost use Rattle.plan.specs.Passes.{read-place};
-
-// Word j of position p.
-pub fn cell_at(w: &[u32], p: usize, j: usize) -> u32
-    requires { ⌜ (10 * p + 10 ≤ length (now w)) × (j < 10) ⌝ }
-    ensures { λ r. ⌜ r ≡ cell (now (w .entry)) p j ⌝ }
-{
-    w[10 * p + j]
-}
 
 // Read k of record g: slots 0 to 4, then the list. Absent where there is none.
 pub fn read_place(ops: &[u32], recs: &[u32], g: usize, uses: u32, k: usize) -> u32

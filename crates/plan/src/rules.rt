@@ -1,10 +1,10 @@
 // The six rules that a member keeps, each a function of its own (01, "The legal set"), against what the kept positions do. `st` holds a
 // word a register: below 1024 its last kept writer, 1024 if it is awaited, from 2048 on what is asked of its last writer, of `backward` and
 // `forward`.
-// `sus`, `bar` and `lasts` are of `notes`. Rules 1 to 3 ask of a position's own words where its word 9 is 0, else of its record.
-use crate::chain::cell_at;
+// `sus`, `bar` and `lasts` are of `notes`. Rules 1 to 3 ask of the fact where it has all that the position writes and reads, else of the record.
 use crate::chain::places;
 use crate::chain::read_place;
+use facts::Fact;
 ghost use mathlib.Core.Path.{_≡_};
 ghost use mathlib.Core.Logic.{_⊎_};
 ghost use mathlib.Core.Bool.{not, _||_};
@@ -15,7 +15,7 @@ ghost use Rattle.words.specs.Lists.{all};
 ghost use Rattle.model.specs.Picture.{inst, absent, reads, writes};
 ghost use Rattle.inst.specs.Table.{rows};
 ghost use Rattle.inst.specs.Record.{Used};
-ghost use Rattle.legalset.specs.Chain.{cell, flag, defs-of, reads-of, picked, Fits, Good};
+ghost use Rattle.legalset.specs.Chain.{picked, Fits, Good};
 ghost use Rattle.legalset.specs.Rules.{still-fine};
 ghost use Rattle.plan.specs.Passes.{result-test, read-test, place-test, word-org, org-test, piece-test, from-test, memory-test, own-test, Near, Written, Readable};
 
@@ -47,15 +47,15 @@ fn free_slots(recs: &[u32], g: usize, uses: u32, st: &[u64]) -> bool
     true
 }
 
-// Rule 1: nothing that position p writes is awaited, that is, read further on by a kept position with no write in between.
-pub fn rule1(t: &[u32; 202], recs: &[u32], w: &[u32], p: usize, st: &[u64]) -> bool
-    requires { ⌜ (now t ≡ rows) × Written (now recs) (now w) (length (now st)) p ⌝ }
-    ensures { λ b. ⌜ b ≡ all (λ x. leb (getD (now (st .entry)) x 0) 1023) (defs-of (now (recs .entry)) (now (w .entry)) p) ⌝ }
+// Rule 1: nothing that the position of fact f writes is awaited, that is, read further on by a kept position with no write in between.
+pub fn rule1(t: &[u32; 202], recs: &[u32], f: Fact, st: &[u64]) -> bool
+    requires { ⌜ (now t ≡ rows) × Written (now recs) (length (now st)) (f .rec) (f .def) (f .more) ⌝ }
+    ensures { λ b. ⌜ b ≡ all (λ x. leb (getD (now (st .entry)) x 0) 1023) (writes (inst (now (recs .entry)) (f .rec))) ⌝ }
 {
-    if cell_at(w, p, 9) == 0 {
-        return free(st, cell_at(w, p, 6));
+    if !f.more {
+        return free(st, f.def);
     }
-    let g = inst::record::wide(cell_at(w, p, 0));
+    let g = inst::record::wide(f.rec);
     free_slots(recs, g, inst::access::uses(t, recs, g), st)
 }
 
@@ -99,19 +99,19 @@ pub fn unneeded_slots(
 pub fn rule2(
     t: &[u32; 202],
     recs: &[u32],
-    w: &[u32],
+    f: Fact,
     regs: &[u32],
     bits: &[u64],
     o: usize,
     p: usize,
 ) -> bool
-    requires { ⌜ (now t ≡ rows) × Written (now recs) (now w) (length (now regs)) p × (p < 800) × (o ≤ length (now bits)) ⌝ }
-    ensures { λ b. ⌜ b ≡ all (result-test (now (regs .entry)) (now (bits .entry)) o p) (defs-of (now (recs .entry)) (now (w .entry)) p) ⌝ }
+    requires { ⌜ (now t ≡ rows) × Written (now recs) (length (now regs)) (f .rec) (f .def) (f .more) × (p < 800) × (o ≤ length (now bits)) ⌝ }
+    ensures { λ b. ⌜ b ≡ all (result-test (now (regs .entry)) (now (bits .entry)) o p) (writes (inst (now (recs .entry)) (f .rec))) ⌝ }
 {
-    if cell_at(w, p, 9) == 0 {
-        return unneeded(regs, bits, o, cell_at(w, p, 6), p);
+    if !f.more {
+        return unneeded(regs, bits, o, f.def, p);
     }
-    let g = inst::record::wide(cell_at(w, p, 0));
+    let g = inst::record::wide(f.rec);
     unneeded_slots(recs, g, inst::access::uses(t, recs, g), regs, bits, o, p)
 }
 
@@ -146,14 +146,14 @@ fn places_ok(ops: &[u32], recs: &[u32], g: usize, uses: u32, st: &[u64], p: usiz
 }
 
 // Rule 3: each register that position p reads has its writer in the set, or is written by no kept position after p.
-pub fn rule3(t: &[u32; 202], ops: &[u32], recs: &[u32], w: &[u32], st: &[u64], p: usize) -> bool
-    requires { ⌜ (now t ≡ rows) × Readable (now recs) (now ops) (now w) (length (now st)) p × (p < 800) ⌝ }
-    ensures { λ b. ⌜ b ≡ all (read-test (now (st .entry)) p) (reads-of (now (recs .entry)) (now (ops .entry)) (now (w .entry)) p) ⌝ }
+pub fn rule3(t: &[u32; 202], ops: &[u32], recs: &[u32], f: Fact, st: &[u64], p: usize) -> bool
+    requires { ⌜ (now t ≡ rows) × Readable (now recs) (now ops) (length (now st)) f × (p < 800) ⌝ }
+    ensures { λ b. ⌜ b ≡ all (read-test (now (st .entry)) p) (reads (now (ops .entry)) (inst (now (recs .entry)) (f .rec))) ⌝ }
 {
-    if cell_at(w, p, 9) == 0 {
-        return read_ok(st, cell_at(w, p, 7), p) & read_ok(st, cell_at(w, p, 8), p);
+    if !f.more {
+        return read_ok(st, f.use0, p) & read_ok(st, f.use1, p);
     }
-    let g = inst::record::wide(cell_at(w, p, 0));
+    let g = inst::record::wide(f.rec);
     places_ok(ops, recs, g, inst::access::uses(t, recs, g), st, p)
 }
 
@@ -248,36 +248,34 @@ fn pieces_ok(
 fn froms_ok(
     ops: &[u32],
     recs: &[u32],
-    w: &[u32],
+    f: Fact,
     regs: &[u32],
     st: &[u64],
     lasts: &[u32; 2008],
     bar: u32,
     p: usize,
 ) -> bool
-    requires { ⌜ Good (now recs) (now ops) (length (now st)) (cell (now w) p 0) × (10 * p + 10 ≤ length (now w)) × Near (now st) × (length (now regs) ≡ length (now st)) × (p < 800) × ((cell (now w) p 5 ≤ 2004) ⊎ (cell (now w) p 5 ≡ 4294967295)) ⌝ }
-    ensures { λ b. ⌜ b ≡ from-test (now (w .entry)) (now (regs .entry)) (now (ops .entry)) (inst (now (recs .entry)) (cell (now (w .entry)) p 0)) (now (st .entry)) (now (lasts .entry)) bar p ⌝ }
+    requires { ⌜ Good (now recs) (now ops) (length (now st)) (f .rec) × Near (now st) × (length (now regs) ≡ length (now st)) × (p < 800) × ((f .from ≤ 2004) ⊎ (f .from ≡ 4294967295)) ⌝ }
+    ensures { λ b. ⌜ b ≡ from-test (now (regs .entry)) (now (ops .entry)) (inst (now (recs .entry)) (f .rec)) (now (st .entry)) (now (lasts .entry)) bar (f .from) p ⌝ }
 {
-    let f = cell_at(w, p, 5);
-    if f == 0 {
+    let x = f.from;
+    if x == 0 {
         return true;
     }
-    if f != 4294967295 {
-        return org_ok(lasts, bar, p, f - 1);
+    if x != 4294967295 {
+        return org_ok(lasts, bar, p, x - 1);
     }
-    let g = inst::record::wide(cell_at(w, p, 0));
+    let g = inst::record::wide(f.rec);
     let xs = inst::access::list(ops, recs, g);
     pieces_ok(xs, regs, st, lasts, bar, p, inst::record::word(recs, g, 9))
 }
 
 // Rule 5 for what position p creates or writes.
-fn still(w: &[u32], bar: u32, p: usize) -> bool
-    requires { ⌜ (10 * p + 10 ≤ length (now w)) × (p < 800) ⌝ }
-    ensures { λ b. ⌜ b ≡ still-fine p bar (flag (now (w .entry)) 4 p) (cell (now (w .entry)) p 4) ⌝ }
+fn still(f: Fact, bar: u32, p: usize) -> bool
+    requires { ⌜ p < 800 ⌝ }
+    ensures { λ b. ⌜ b ≡ still-fine p bar (f .creates) (f .wrote) ⌝ }
 {
-    let f = cell_at(w, p, 3);
-    let o = cell_at(w, p, 4);
-    (bar <= p as u32 + 1) | (!(f / 4 % 2 == 1) & (o == 0))
+    (bar <= p as u32 + 1) | (!f.creates & (f.wrote == 0))
 }
 
 // Rule 5: after p no kept barrier if p creates, writes memory, or reads other than Ro or Heap; no kept write that may alias what p
@@ -285,28 +283,28 @@ fn still(w: &[u32], bar: u32, p: usize) -> bool
 pub fn rule5(
     ops: &[u32],
     recs: &[u32],
-    w: &[u32],
+    f: Fact,
     regs: &[u32],
     st: &[u64],
     lasts: &[u32; 2008],
     bar: u32,
     p: usize,
 ) -> bool
-    requires { ⌜ Good (now recs) (now ops) (length (now st)) (cell (now w) p 0) × (10 * p + 10 ≤ length (now w)) × Near (now st) × (length (now regs) ≡ length (now st)) × (p < 800) × ((cell (now w) p 5 ≤ 2004) ⊎ (cell (now w) p 5 ≡ 4294967295)) ⌝ }
-    ensures { λ b. ⌜ b ≡ memory-test (now (recs .entry)) (now (ops .entry)) (now (w .entry)) (now (regs .entry)) (now (st .entry)) (now (lasts .entry)) (cell (now (w .entry)) p 0) bar p ⌝ }
+    requires { ⌜ Good (now recs) (now ops) (length (now st)) (f .rec) × Near (now st) × (length (now regs) ≡ length (now st)) × (p < 800) × ((f .from ≤ 2004) ⊎ (f .from ≡ 4294967295)) ⌝ }
+    ensures { λ b. ⌜ b ≡ memory-test (now (recs .entry)) (now (ops .entry)) (now (regs .entry)) (now (st .entry)) (now (lasts .entry)) f bar p ⌝ }
 {
-    if !still(w, bar, p) {
+    if !still(f, bar, p) {
         return false;
     }
-    froms_ok(ops, recs, w, regs, st, lasts, bar, p)
+    froms_ok(ops, recs, f, regs, st, lasts, bar, p)
 }
 
-// Rule 6: the memory that position p writes is Temp of a member.
-pub fn rule6(w: &[u32], lasts: &[u32; 2008], p: usize) -> bool
-    requires { ⌜ (10 * p + 10 ≤ length (now w)) × (cell (now w) p 4 ≤ 2004) ⌝ }
-    ensures { λ b. ⌜ b ≡ own-test (now (lasts .entry)) (cell (now (w .entry)) p 4) ⌝ }
+// Rule 6: the memory that the position of fact f writes is Temp of a member.
+pub fn rule6(f: Fact, lasts: &[u32; 2008]) -> bool
+    requires { ⌜ f .wrote ≤ 2004 ⌝ }
+    ensures { λ b. ⌜ b ≡ own-test (now (lasts .entry)) (f .wrote) ⌝ }
 {
-    let o = cell_at(w, p, 4);
+    let o = f.wrote;
     let k = inst::record::wide(o);
     (o == 0) | (1024 <= lasts[k])
 }

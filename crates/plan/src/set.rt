@@ -1,11 +1,11 @@
 // The greatest legal set of a chain for a target (01, "The legal set"; 000's `plan`), and the pass with its thresholds.
+use crate::settle::Cycle;
 use crate::settle::settle;
-use crate::start::start;
+use facts::Fact;
 ghost use mathlib.Core.Path.{_≡_};
-ghost use lib.ListN.{length};
 ghost use Rattle.inst.specs.Table.{rows};
 ghost use Rattle.model.specs.Move.{minimum};
-ghost use Rattle.plan.specs.Passes.{Lent, Ended, Greatest, Around};
+ghost use Rattle.plan.specs.Cycle.{Choosable, Chose};
 
 // The pass (01: "The thresholds 8, 3, 800 and 8 rounds belong to the pass itself").
 pub struct Sink;
@@ -30,26 +30,23 @@ impl Sink {
     }
 }
 
-// The marks become the greatest legal set, unless it has fewer members than `least`. Says how many are marked. The row of registers
-// needed elsewhere begins at word `o` of `work`; its words from `s` on, one a register, are written.
+// The facts' marks become the greatest legal set, unless it has fewer members than `least`. Says how many are marked. The row of registers
+// needed elsewhere begins at word `o` of `work`; its words from `s` on, one a register, are written. The notes of the sweeps are its own.
 pub fn legal_set(
     t: &[u32; 202],
     recs: &[u32],
     ops: &[u32],
-    w: &[u32],
     regs: &[u32],
     work: &mut [u64],
-    o: usize,
-    s: usize,
-    marks: &mut [u32; 800],
-    m: usize,
-    n: usize,
-    least: u32,
+    facts: &mut [Fact],
+    z: Cycle,
 ) -> u32
-    requires { ⌜ (now t ≡ rows) × Lent (now recs) (now ops) (now w) (now regs) (now work) (now marks) o s m n × Ended (now recs) (now w) n (now regs) ⌝ }
-    ensures { λ r. ⌜ Greatest (now (recs .entry)) (now (ops .entry)) (now (w .entry)) (now (regs .entry)) (now (work .entry)) o (now (marks .exit)) m n least r × Around s (length (now (regs .entry))) (now (work .entry)) (now (work .exit)) ⌝ }
+    requires { ⌜ (now t ≡ rows) × Choosable (now recs) (now ops) (now regs) (now work) (now facts) z ⌝ }
+    ensures { λ r. ⌜ Chose (now (recs .entry)) (now (ops .entry)) (now (regs .entry)) z (now (work .entry)) (now (facts .entry)) (now (work .exit)) (now (facts .exit)) r ⌝ }
 {
-    start(t, recs, ops, w, regs, work, o, marks, m, n);
-    let e = s + regs.len();
-    settle(t, recs, ops, w, regs, &mut work[s..e], marks, m, n, least)
+    if z.n == 0 {
+        return 0;
+    }
+    let mut lasts = [0u32; 2008];
+    settle(t, recs, ops, regs, work, &mut lasts, facts, z)
 }

@@ -1,139 +1,154 @@
-// Passes in turn until both drop nothing, or too few are left (01, "The legal set": unions of legal sets are legal, so a greatest one exists).
-use crate::backward::backward;
-use crate::forward::forward;
-use crate::marks::count;
+// Sweeps in turn until both drop nothing, or too few are left (01, "The legal set": unions of legal sets are legal, so a greatest one exists):
+// the loop, and what is decided between them.
+use crate::sweep::Sweep;
+use crate::sweep::Tally;
+use crate::sweep::run;
+use facts::Fact;
 ghost use mathlib.Core.Path.{_≡_};
-ghost use mathlib.Core.Bool.{true, false};
-ghost use Prim.Native.Nat.{_≤_};
+ghost use mathlib.Core.Bool.{true, false, cond};
+ghost use Prim.Native.Nat.{_+_, _-_, _≤_};
 ghost use lib.ListN.{length, replicate};
 ghost use Rattle.inst.specs.Table.{rows};
-ghost use Rattle.legalset.specs.Chain.{view, defs-of, reads-of, Safe, Brief};
-ghost use Rattle.legalset.specs.Marks.{members, Inside, Passed, Settled};
-ghost use Rattle.legalset.specs.Rules.{backward-ok, cycle-ok, pass-ok};
-ghost use Rattle.plan.specs.Passes.{Set-up, Summed};
+ghost use Rattle.plan.specs.Passes.{Around};
+ghost use Rattle.plan.specs.Sweep.{part};
+ghost use Rattle.plan.specs.Cycle.{sweep-of, Readied, Next, Choosable, Chose};
 
-// All words of `lasts` are 0, as they are before the first pass.
-fn renew(first: bool, lasts: &mut [u32; 2008])
-    requires { ⌜ (first ≡ true → now lasts ≡ replicate 2008 0) ⌝ }
-    ensures { λ _. ⌜ now (lasts .exit) ≡ replicate 2008 0 ⌝ }
+// `go`: there is a sweep to come; `first` the start, else `ahead` that forward. `quiet`: the last dropped nothing; `done`: nor did the one
+// before. `left` members are left; with fewer than `least` no more sweeps are made. The rest is as in `Sweep`.
+pub struct Cycle {
+    pub go: bool,
+    pub first: bool,
+    pub ahead: bool,
+    pub quiet: bool,
+    pub done: bool,
+    pub o: usize,
+    pub s: usize,
+    pub m: usize,
+    pub n: usize,
+    pub least: u32,
+    pub left: u32,
+}
+
+// Nothing is counted.
+pub fn zero() -> Tally
+    ensures { λ r. ⌜ r .count ≡ 0 ⌝ }
 {
-    if first {
-        return;
+    Tally {
+        keep: false,
+        count: 0,
     }
+}
+
+fn pick(b: bool, x: usize, y: usize) -> usize
+    ensures { λ r. ⌜ r ≡ cond b x y ⌝ }
+{
+    if b {
+        return x;
+    }
+    y
+}
+
+// The sweep that comes next.
+fn sweep_of(c: Cycle, lasts: &[u32; 2008]) -> Sweep
+    ensures { λ r. ⌜ r ≡ sweep-of c (now (lasts .entry)) ⌝ }
+{
+    Sweep {
+        first: c.first,
+        ahead: c.ahead,
+        o: c.o,
+        s: c.s,
+        m: c.m,
+        n: c.n,
+        k: pick(c.ahead, c.m, c.n),
+        sus: lasts[2007] % 1024,
+        bar: lasts[2006] % 1024,
+    }
+}
+
+// The words from s to e are 0.
+fn clear_part(work: &mut [u64], s: usize, e: usize)
+    requires { ⌜ (s ≤ e) × (e ≤ length (now work)) ⌝ }
+    ensures { λ _. ⌜ (part s (e - s) (now (work .exit)) ≡ replicate (e - s) 0) × Around s (e - s) (now (work .entry)) (now (work .exit)) ⌝ }
+{
+    words::bits::clear(&mut work[s..e]);
+}
+
+// Before a sweep backward the words of the `regs` registers and the notes are cleared. Says which sweep comes.
+pub fn ready(work: &mut [u64], lasts: &mut [u32; 2008], c: Cycle, regs: usize) -> Sweep
+    requires { ⌜ c .s + regs ≤ length (now work) ⌝ }
+    ensures { λ r. ⌜ (r ≡ sweep-of c (now (lasts .entry))) × Readied regs c (now (work .entry)) (now (lasts .entry)) (now (work .exit)) (now (lasts .exit)) ⌝ }
+{
+    let g = sweep_of(c, lasts);
+    if c.first {
+        return g;
+    }
+    if c.ahead {
+        return g;
+    }
+    clear_part(work, c.s, c.s + regs);
     *lasts = [0u32; 2008];
+    g
 }
 
-// The pass backward, which sums up what is kept.
-fn look_back(
-    first: bool,
-    t: &[u32; 202],
-    recs: &[u32],
-    ops: &[u32],
-    w: &[u32],
-    st: &mut [u64],
-    lasts: &mut [u32; 2008],
-    marks: &mut [u32; 800],
-    n: usize,
-) -> u32
-    requires { ⌜ (now t ≡ rows) × Safe (now recs) (now ops) (now w) n (length (now st)) × Brief (now recs) (now ops) (now w) n × (length (now marks) ≡ 800) × (first ≡ true → now lasts ≡ replicate 2008 0) × Inside n (now marks) ⌝ }
-    ensures { λ r. ⌜ Passed (backward-ok (defs-of (now (recs .entry)) (now (w .entry))) (reads-of (now (recs .entry)) (now (ops .entry)) (now (w .entry))) n) 0 n (now (marks .entry)) (now (marks .exit)) r × (length (now (st .exit)) ≡ length (now (st .entry))) × Summed (now (recs .entry)) (now (w .entry)) n 0 (now (st .exit)) (now (lasts .exit)) (now (marks .exit)) ⌝ }
+// After a sweep that counted a.
+pub fn next(c: Cycle, a: Tally) -> Cycle
+    requires { ⌜ (c .first ≡ false → a .count ≤ c .left) ⌝ }
+    ensures { λ r. ⌜ Next c a r ⌝ }
 {
-    words::bits::clear(st);
-    renew(first, lasts);
-    backward(t, recs, ops, w, st, lasts, marks, n)
-}
-
-// The pass forward, by what the one backward before it summed up, or the one backward. Says how many members were dropped.
-fn pass(
-    ahead: bool,
-    first: bool,
-    t: &[u32; 202],
-    recs: &[u32],
-    ops: &[u32],
-    w: &[u32],
-    regs: &[u32],
-    st: &mut [u64],
-    lasts: &mut [u32; 2008],
-    marks: &mut [u32; 800],
-    m: usize,
-    n: usize,
-) -> u32
-    requires { ⌜ (now t ≡ rows) × Set-up (now recs) (now ops) (now w) (now regs) (now st) (now marks) m n × (ahead ≡ true → Summed (now recs) (now w) n 0 (now st) (now lasts) (now marks)) × (first ≡ true → now lasts ≡ replicate 2008 0) × Inside n (now marks) ⌝ }
-    ensures { λ r. ⌜ Passed (pass-ok (view (now (recs .entry)) (now (ops .entry)) (now (w .entry)) (now (regs .entry))) n ahead) 0 m (now (marks .entry)) (now (marks .exit)) r × (length (now (st .exit)) ≡ length (now (st .entry))) × (ahead ≡ false → Summed (now (recs .entry)) (now (w .entry)) n 0 (now (st .exit)) (now (lasts .exit)) (now (marks .exit))) ⌝ }
-{
-    if ahead {
-        return forward(t, recs, ops, w, regs, st, lasts, marks, m, n);
+    if c.first {
+        return Cycle {
+            go: c.least <= a.count,
+            first: false,
+            ahead: false,
+            quiet: false,
+            done: false,
+            o: c.o,
+            s: c.s,
+            m: c.m,
+            n: c.n,
+            least: c.least,
+            left: a.count,
+        };
     }
-    look_back(first, t, recs, ops, w, st, lasts, marks, n)
-}
-
-// Passes in turn over the marks, of which there are `all`. Says how many are left.
-fn passes(
-    t: &[u32; 202],
-    recs: &[u32],
-    ops: &[u32],
-    w: &[u32],
-    regs: &[u32],
-    st: &mut [u64],
-    marks: &mut [u32; 800],
-    m: usize,
-    n: usize,
-    least: u32,
-    all: u32,
-) -> u32
-    requires { ⌜ (now t ≡ rows) × Set-up (now recs) (now ops) (now w) (now regs) (now st) (now marks) m n × (all ≡ members (now marks)) × Inside m (now marks) ⌝ }
-    ensures { λ r. ⌜ Settled (cycle-ok (view (now (recs .entry)) (now (ops .entry)) (now (w .entry)) (now (regs .entry))) n) m least (now (marks .entry)) (now (marks .exit)) r × (length (now (st .exit)) ≡ length (now (st .entry))) ⌝ }
-{
-    let mut left = all;
-    let mut lasts = [0u32; 2008];
-    // `ahead`: the pass that comes next; `quiet`: the last dropped nothing; `done`: nor did the one before.
-    let mut first = true;
-    let mut ahead = false;
-    let mut quiet = false;
-    let mut done = false;
-    while !done & (least <= left) {
-        let d = pass(
-            ahead,
-            first,
-            t,
-            recs,
-            ops,
-            w,
-            regs,
-            st,
-            &mut lasts,
-            marks,
-            m,
-            n,
-        );
-        left -= d;
-        done = quiet & (d == 0);
-        quiet = d == 0;
-        ahead = !ahead;
-        first = false;
+    let left = c.left - a.count;
+    let done = c.quiet & (a.count == 0);
+    Cycle {
+        go: !done & (c.least <= left),
+        first: false,
+        ahead: !c.ahead,
+        quiet: a.count == 0,
+        done: done,
+        o: c.o,
+        s: c.s,
+        m: c.m,
+        n: c.n,
+        least: c.least,
+        left: left,
     }
-    left
 }
 
-// The marks become the greatest set within them that keeps the rules, unless fewer than `least` are left before. Says how many are.
+// The facts' marks become the greatest legal set, unless it has fewer members than `least`. Says how many are marked. The row of registers
+// needed elsewhere begins at word `o` of `work`; its words from `s` on, one a register, are written.
 pub fn settle(
     t: &[u32; 202],
     recs: &[u32],
     ops: &[u32],
-    w: &[u32],
     regs: &[u32],
-    st: &mut [u64],
-    marks: &mut [u32; 800],
-    m: usize,
-    n: usize,
-    least: u32,
+    work: &mut [u64],
+    lasts: &mut [u32; 2008],
+    facts: &mut [Fact],
+    z: Cycle,
 ) -> u32
-    requires { ⌜ (now t ≡ rows) × Set-up (now recs) (now ops) (now w) (now regs) (now st) (now marks) m n × Inside m (now marks) ⌝ }
-    ensures { λ r. ⌜ Settled (cycle-ok (view (now (recs .entry)) (now (ops .entry)) (now (w .entry)) (now (regs .entry))) n) m least (now (marks .entry)) (now (marks .exit)) r × (length (now (st .exit)) ≡ length (now (st .entry))) ⌝ }
+    requires { ⌜ (now t ≡ rows) × Choosable (now recs) (now ops) (now regs) (now work) (now facts) z ⌝ }
+    ensures { λ r. ⌜ Chose (now (recs .entry)) (now (ops .entry)) (now (regs .entry)) z (now (work .entry)) (now (facts .entry)) (now (work .exit)) (now (facts .exit)) r ⌝ }
 {
-    let all = count(marks, m);
-    if all < least {
-        return all;
+    let a = zero();
+    let mut c = z;
+    while c.go {
+        let g = ready(work, lasts, c, regs.len());
+        let b = run(t, recs, ops, regs, work, lasts, facts, g, a, g.k);
+        let d = next(c, b);
+        c = d;
     }
-    passes(t, recs, ops, w, regs, st, marks, m, n, least, all)
+    c.left
 }

@@ -1,8 +1,8 @@
 // A word a register, in a lent slice: the registers that a position writes, or reads, are stamped with a number `v`. What stood there
-// below `keep`, or `lo` if that is more, stays beside it. Where word 9 of the position is 0 its own words say which they are, else its record does.
-use crate::chain::cell_at;
+// below `keep`, or `lo` if that is more, stays beside it. Its fact says which they are where it has all, else its record does.
 use crate::chain::places;
 use crate::chain::read_place;
+use facts::Fact;
 ghost use mathlib.Core.Path.{_≡_};
 ghost use mathlib.Core.Logic.{_⊎_};
 ghost use Prim.Native.Nat.{ℕ, _+_, _%_, _<_, _≤_};
@@ -10,7 +10,7 @@ ghost use lib.ListN.{length};
 ghost use Rattle.model.specs.Picture.{inst, absent, reads, writes};
 ghost use Rattle.inst.specs.Table.{rows};
 ghost use Rattle.inst.specs.Record.{Used};
-ghost use Rattle.legalset.specs.Chain.{defs-of, reads-of, Fits, Good};
+ghost use Rattle.legalset.specs.Chain.{Fits, Good};
 ghost use Rattle.plan.specs.Passes.{over, put-in, Stamped, Beside, Written, Readable};
 
 // The word x when it is stamped.
@@ -37,7 +37,7 @@ fn put(st: &mut [u64], r: u32, keep: u64, lo: u64, v: u64)
 }
 
 // Stamps what record g writes, slot by slot.
-fn put_slots(recs: &[u32], g: usize, uses: u32, st: &mut [u64], keep: u64, lo: u64, v: u64)
+pub fn put_slots(recs: &[u32], g: usize, uses: u32, st: &mut [u64], keep: u64, lo: u64, v: u64)
     requires { ⌜ Used (now recs) g uses × Fits (now recs) (length (now st)) g × Beside keep lo v ⌝ }
     ensures { λ _. ⌜ Stamped (writes (inst (now (recs .entry)) g)) keep lo v (now (st .entry)) (now (st .exit)) ⌝ }
 {
@@ -49,25 +49,26 @@ fn put_slots(recs: &[u32], g: usize, uses: u32, st: &mut [u64], keep: u64, lo: u
     }
 }
 
-// Stamps what position p writes.
+// Stamps what record `rec` writes: `def`, where there is not more.
 pub fn put_writes(
     t: &[u32; 202],
     recs: &[u32],
-    w: &[u32],
-    p: usize,
+    rec: u32,
+    def: u32,
+    more: bool,
     st: &mut [u64],
     keep: u64,
     lo: u64,
     v: u64,
 )
-    requires { ⌜ (now t ≡ rows) × Written (now recs) (now w) (length (now st)) p × Beside keep lo v ⌝ }
-    ensures { λ _. ⌜ Stamped (defs-of (now (recs .entry)) (now (w .entry)) p) keep lo v (now (st .entry)) (now (st .exit)) ⌝ }
+    requires { ⌜ (now t ≡ rows) × Written (now recs) (length (now st)) rec def more × Beside keep lo v ⌝ }
+    ensures { λ _. ⌜ Stamped (writes (inst (now (recs .entry)) rec)) keep lo v (now (st .entry)) (now (st .exit)) ⌝ }
 {
-    if cell_at(w, p, 9) == 0 {
-        put(st, cell_at(w, p, 6), keep, lo, v);
+    if !more {
+        put(st, def, keep, lo, v);
         return;
     }
-    let g = inst::record::wide(cell_at(w, p, 0));
+    let g = inst::record::wide(rec);
     put_slots(recs, g, inst::access::uses(t, recs, g), st, keep, lo, v);
 }
 
@@ -94,27 +95,26 @@ fn put_places(
     }
 }
 
-// Stamps what position p reads.
+// Stamps what the position of fact f reads.
 pub fn put_reads(
     t: &[u32; 202],
     ops: &[u32],
     recs: &[u32],
-    w: &[u32],
-    p: usize,
+    f: Fact,
     st: &mut [u64],
     keep: u64,
     lo: u64,
     v: u64,
 )
-    requires { ⌜ (now t ≡ rows) × Readable (now recs) (now ops) (now w) (length (now st)) p × Beside keep lo v ⌝ }
-    ensures { λ _. ⌜ Stamped (reads-of (now (recs .entry)) (now (ops .entry)) (now (w .entry)) p) keep lo v (now (st .entry)) (now (st .exit)) ⌝ }
+    requires { ⌜ (now t ≡ rows) × Readable (now recs) (now ops) (length (now st)) f × Beside keep lo v ⌝ }
+    ensures { λ _. ⌜ Stamped (reads (now (ops .entry)) (inst (now (recs .entry)) (f .rec))) keep lo v (now (st .entry)) (now (st .exit)) ⌝ }
 {
-    if cell_at(w, p, 9) == 0 {
-        put(st, cell_at(w, p, 7), keep, lo, v);
-        put(st, cell_at(w, p, 8), keep, lo, v);
+    if !f.more {
+        put(st, f.use0, keep, lo, v);
+        put(st, f.use1, keep, lo, v);
         return;
     }
-    let g = inst::record::wide(cell_at(w, p, 0));
+    let g = inst::record::wide(f.rec);
     put_places(
         ops,
         recs,

@@ -1,22 +1,24 @@
 // The last use of each position's value (01, "The move": a register is reused once its last reader is before the present member):
 // its last reader in the chain, the position itself if nobody reads it, or past the end if the target reads it.
-use crate::chain::cell_at;
 use crate::chain::places;
 use crate::chain::read_place;
 use crate::rules::unneeded_slots;
-use crate::stamps::put_writes;
+use crate::stamps::put_slots;
+use chains::chain::Chain;
+use chains::cursor::first;
+use chains::cursor::next;
 ghost use mathlib.Core.Path.{_≡_};
 ghost use mathlib.Core.Logic.{_⊎_};
 ghost use mathlib.Core.Bool.{cond};
 ghost use Prim.Native.Nat.{ℕ, _<_, _≤_};
 ghost use Rattle.words.specs.Lists.{all};
-ghost use Rattle.plan.specs.Passes.{result-test, Readable};
+ghost use Rattle.plan.specs.Passes.{result-test};
 ghost use lib.ListN.{length, getD};
-ghost use Rattle.model.specs.Picture.{inst, absent, reads};
+ghost use Rattle.model.specs.Picture.{inst, absent, reads, writes};
 ghost use Rattle.inst.specs.Table.{rows};
-ghost use Rattle.inst.specs.Record.{Used};
-ghost use Rattle.legalset.specs.Chain.{defs-of, reads-of, Good, Safe, Brief};
-ghost use Rattle.plan.specs.Uses.{note-in, Noticed, ReadOn, Readers};
+ghost use Rattle.inst.specs.Record.{Known, Used};
+ghost use Rattle.legalset.specs.Chain.{Fits, Good};
+ghost use Rattle.plan.specs.Uses.{note-in, Noticed, ReadOn, Legible, ReadersAlong};
 
 // Position q reads register r, if it is one: r's writer has a reader.
 fn note(st: &[u64], lasts: &mut [u32; 800], r: u32, q: u32)
@@ -57,93 +59,64 @@ fn note_places(
     }
 }
 
-// Position q's reads are noted.
-fn note_reads(
-    t: &[u32; 202],
-    ops: &[u32],
-    recs: &[u32],
-    w: &[u32],
-    st: &[u64],
-    lasts: &mut [u32; 800],
-    q: usize,
-)
-    requires { ⌜ (now t ≡ rows) × Readable (now recs) (now ops) (now w) (length (now st)) q × ((x : ℕ) → x < length (now st) → getD (now st) x 0 ≤ 800) × (length (now lasts) ≡ 800) × (q < 800) ⌝ }
-    ensures { λ _. ⌜ Noticed (now (st .entry)) (reads-of (now (recs .entry)) (now (ops .entry)) (now (w .entry)) q) q (now (lasts .entry)) (now (lasts .exit)) ⌝ }
-{
-    if cell_at(w, q, 9) == 0 {
-        note(st, lasts, cell_at(w, q, 7), q as u32);
-        note(st, lasts, cell_at(w, q, 8), q as u32);
-        return;
-    }
-    let g = inst::record::wide(cell_at(w, q, 0));
-    note_places(
-        ops,
-        recs,
-        g,
-        inst::access::uses(t, recs, g),
-        st,
-        lasts,
-        q as u32,
-    );
-}
-
-// Position q: its reads are noted, then its writes.
+// Position q, record g: what it reads is noted, then what it writes.
 fn read_on(
     t: &[u32; 202],
     recs: &[u32],
     ops: &[u32],
-    w: &[u32],
     st: &mut [u64],
     lasts: &mut [u32; 800],
+    g: usize,
     q: usize,
-    n: usize,
 )
-    requires { ⌜ (now t ≡ rows) × Safe (now recs) (now ops) (now w) n (length (now st)) × Brief (now recs) (now ops) (now w) n × ((x : ℕ) → x < length (now st) → getD (now st) x 0 ≤ 800) × (length (now lasts) ≡ 800) × (q < n) ⌝ }
-    ensures { λ _. ⌜ ReadOn (defs-of (now (recs .entry)) (now (w .entry))) (reads-of (now (recs .entry)) (now (ops .entry)) (now (w .entry))) q (now (st .entry)) (now (lasts .entry)) (now (st .exit)) (now (lasts .exit)) ⌝ }
+    requires { ⌜ (now t ≡ rows) × Good (now recs) (now ops) (length (now st)) g × ((x : ℕ) → x < length (now st) → getD (now st) x 0 ≤ 800) × (length (now lasts) ≡ 800) × (q < 800) ⌝ }
+    ensures { λ _. ⌜ ReadOn (writes (inst (now (recs .entry)) g)) (reads (now (ops .entry)) (inst (now (recs .entry)) g)) q (now (st .entry)) (now (lasts .entry)) (now (st .exit)) (now (lasts .exit)) ⌝ }
 {
-    note_reads(t, ops, recs, w, st, lasts, q);
-    put_writes(t, recs, w, q, st, 1, 0, q as u64 + 1);
+    let u = inst::access::uses(t, recs, g);
+    note_places(ops, recs, g, u, st, lasts, q as u32);
+    put_slots(recs, g, u, st, 1, 0, q as u64 + 1);
 }
 
-// Each position's last reader: `lasts` holds each position itself at first.
+// Each position's last reader in chain c of so many blocks: `lasts` holds each position itself at first.
 pub fn last_readers(
     t: &[u32; 202],
     recs: &[u32],
     ops: &[u32],
-    w: &[u32],
+    bounds: &[u32],
     st: &mut [u64],
     lasts: &mut [u32; 800],
-    n: usize,
+    c: Chain,
+    blocks: u32,
 )
-    requires { ⌜ (now t ≡ rows) × Safe (now recs) (now ops) (now w) n (length (now st)) × Brief (now recs) (now ops) (now w) n × (length (now lasts) ≡ 800) × ((p : ℕ) → p < 800 → getD (now lasts) p 0 ≡ p) ⌝ }
-    ensures { λ _. ⌜ Readers (defs-of (now (recs .entry)) (now (w .entry))) (reads-of (now (recs .entry)) (now (ops .entry)) (now (w .entry))) n (now (lasts .exit)) × (length (now (st .exit)) ≡ length (now (st .entry))) ⌝ }
+    requires { ⌜ (now t ≡ rows) × Legible (now recs) (now ops) (now bounds) c blocks (length (now st)) × (length (now lasts) ≡ 800) × ((p : ℕ) → p < 800 → getD (now lasts) p 0 ≡ p) ⌝ }
+    ensures { λ _. ⌜ ReadersAlong (now (recs .entry)) (now (ops .entry)) (now (bounds .entry)) c (now (lasts .exit)) × (length (now (st .exit)) ≡ length (now (st .entry))) ⌝ }
 {
     words::bits::clear(st);
+    let mut at = first(bounds, c, blocks);
     let mut q = 0usize;
-    while q < n {
-        read_on(t, recs, ops, w, st, lasts, q, n);
+    while at.g < at.past {
+        read_on(t, recs, ops, st, lasts, at.g, q);
+        at = next(bounds, c, blocks, at);
         q += 1;
     }
 }
 
-// Position p's last use, by its last reader: past the end if the target reads its value; the row of what is
-// live there begins at word `o` of `bits`. Asks of the record, since the words may be overwritten by then.
+// The last use of position p, record g, by its last reader: past the end if the target reads its value; the row of what is
+// live there begins at word `o` of `bits`.
 pub fn last_use(
     t: &[u32; 202],
     recs: &[u32],
-    ops: &[u32],
-    w: &[u32],
     regs: &[u32],
     bits: &[u64],
     o: usize,
     lasts: &[u32; 800],
+    g: usize,
     p: usize,
     n: usize,
 ) -> u32
-    requires { ⌜ (now t ≡ rows) × Safe (now recs) (now ops) (now w) n (length (now regs)) × (p < n) × (o ≤ length (now bits)) ⌝ }
-    ensures { λ r. ⌜ r ≡ cond (all (result-test (now (regs .entry)) (now (bits .entry)) o p) (defs-of (now (recs .entry)) (now (w .entry)) p)) (getD (now (lasts .entry)) p 0) n ⌝ }
+    requires { ⌜ (now t ≡ rows) × Known (now recs) g × Fits (now recs) (length (now regs)) g × (p < n) × (n ≤ 800) × (o ≤ length (now bits)) ⌝ }
+    ensures { λ r. ⌜ r ≡ cond (all (result-test (now (regs .entry)) (now (bits .entry)) o p) (writes (inst (now (recs .entry)) g))) (getD (now (lasts .entry)) p 0) n ⌝ }
 {
-    let g = inst::record::wide(cell_at(w, p, 0));
     let u = inst::access::uses(t, recs, g);
     if unneeded_slots(recs, g, u, regs, bits, o, p) {
         return lasts[p];

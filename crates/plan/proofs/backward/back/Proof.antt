@@ -1,43 +1,49 @@
 -- `plan::backward::back` meets its contract. Assumes nothing.
-use mathlib.Core.Path.{_∙_}
-use native.Mathlib.Omega.{arith}
+use mathlib.Core.Path.{_∙_, subst, sym}
+use Prim.Native.Nat.{ℕ}
 use Rattle.plan.proofs.Stamping.{kept-stamp}
-use Rattle.plan.proofs.Summing.{safe-len}
-use Rattle.plan.proofs.Backing.{backed, sifted-size, kept-few}
-use Rattle.plan.proofs.Wording.{written, readable}
+use Rattle.plan.proofs.Backing.{backed, kept-few}
+use Rattle.plan.specs.Passes.{Readable}
 use borrow.Author.Needs.{needs}
 use Rattle.plan.proofs.backward.back.Statement.{statement}
 use Rattle.plan.proofs.backward.back.Tie as tie
+use Rattle.plan.proofs.backward.back.Reads as reads
+use Rattle.plan.proofs.backward.back.Lts as lts
+use Rattle.plan.proofs.backward.await_reads.Reads as await-reads-reads
+use Rattle.plan.proofs.backward.kept_at.Reads as kept-at-reads
+use Rattle.plan.proofs.backward.may_stay.Reads as may-stay-reads
+use Rattle.plan.proofs.notes.note_at.Reads as note-at-reads
+use Rattle.plan.proofs.stamps.put_writes.Reads as put-writes-reads
 
 may-stay-requires : tie.Need-may-stay-requires
-may-stay-requires c κs = let p = c .before .before .before .before .before .before .pre in (p .0, written (p .1) (p .2) (p .4), p .3)
-
-drop-unless-requires : tie.Need-drop-unless-requires
-drop-unless-requires c κs = search needs
+may-stay-requires c κs = search needs
 
 kept-at-requires : tie.Need-kept-at-requires
-kept-at-requires c κs = let p = c .before .before .before .before .before .before .before .before .before .before .before .pre in (sifted-size _ _ _ (c .before .before .drop-unless .ensures .0) ∙ p .3, omega (arith, p .1 .few, p .4))
+kept-at-requires c κs = search needs
 
 put-writes-requires : tie.Need-put-writes-requires
-put-writes-requires c κs = let p = c .before .before .before .before .before .before .before .before .before .before .before .before .pre in (p .0, written (p .1) (p .2) (p .4), kept-stamp _ (kept-few _ _ (omega (arith, p .1 .few, p .4)) (c .kept-at .ensures)))
+put-writes-requires c κs = let p = c .before .before .before .before .before .before .before .pre in (p .0, p .1, kept-stamp _ (kept-few _ _ (p .4) (c .before .kept-at .ensures)))
 
-keep-requires : tie.Need-keep-requires
-keep-requires c κs = let p = c .before .before .before .before .before .before .before .before .before .before .before .before .before .before .before .before .before .before .pre in (p .0, readable (safe-len (p .1) (c .before .before .before .before .before .put-writes .ensures .size)) (p .2) (p .4), sifted-size _ _ _ (c .before .before .before .before .before .before .before .before .before .drop-unless .ensures .0) ∙ p .3, omega (arith, p .1 .few, p .4), p .1 .wrote _ (p .4), p .5)
+await-reads-requires : tie.Need-await-reads-requires
+await-reads-requires c κs = let p = c .before .before .before .before .before .before .before .before .before .before .before .pre in let a = c .before .before .before .before .before .before .before .before .before .before .before .args in (p .0, subst (λ (m : ℕ). Readable (a .recs .now) (a .ops .now) m (a .f)) (sym (c .before .before .before .put-writes .ensures .size)) (p .2))
+
+note-at-requires : tie.Need-note-at-requires
+note-at-requires c κs = search needs
 
 same-length : tie.Need-same-length
 same-length c = search needs
 
 returns : tie.Need-returns
-returns c = backed (c .before .before .before .before .before .before .before .before .before .before .before .before .before .before .may-stay .ensures) (c .before .before .before .before .before .before .before .before .before .before .before .before .drop-unless .ensures) (c .before .before .before .before .before .before .before .before .before .kept-at .ensures) (c .before .before .before .before .before .before .before .before .put-writes .ensures) (c .before .before .keep .ensures)
+returns c = backed (c .before .before .before .before .before .before .before .before .before .before .before .may-stay .ensures) (c .before .before .before .before .before .before .before .before .before .before .kept-at .ensures) (c .before .before .before .before .before .before .before .before .put-writes .ensures) (c .before .before .before .before .await-reads .ensures) (c .note-at .ensures)
 
 pub back-spec : {M : Type 1} → statement M
 back-spec =
     tie.close
     (tie.spec
     may-stay-requires
-    drop-unless-requires
     kept-at-requires
     put-writes-requires
-    keep-requires
+    await-reads-requires
+    note-at-requires
     same-length
     returns)

@@ -1,20 +1,25 @@
 -- `plan::backward::may_stay` meets its contract. Assumes nothing.
+use Prim.Native.Nat.{ℕ}
+use lib.Dec.{leb}
+use lib.ListN.{getD}
+use Rattle.words.specs.Lists.{all}
+use Rattle.model.specs.Picture.{inst, writes}
 use Rattle.plan.proofs.Testing.{skipped, asked}
 use borrow.Author.Needs.{needs}
 use Rattle.plan.proofs.backward.may_stay.Statement.{statement}
 use Rattle.plan.proofs.backward.may_stay.Tie as tie
-
-marked-requires : tie.Need-marked-requires
-marked-requires c κs = search needs
+use Rattle.plan.proofs.backward.may_stay.Reads as reads
+use Rattle.plan.proofs.backward.may_stay.Lts as lts
+use Rattle.plan.proofs.rules.rule1.Reads as rule1-reads
 
 returns : tie.Need-returns
-returns c = skipped _ _ _ (c .before .marked .ensures) (c .if1 .taken)
+returns c = let a = c .before .before .before .before .args in skipped (a .f .member) (all (λ (x : ℕ). leb (getD (a .st .now) x 0) 1023) (writes (inst (a .recs .now) (a .f .rec)))) (c .if1 .taken)
 
 rule1-requires : tie.Need-rule1-requires
 rule1-requires c κs = search needs
 
 returns-2 : tie.Need-returns-2
-returns-2 c = asked _ _ _ (c .before .before .marked .ensures) (c .before .if1 .left) (c .rule1 .ensures)
+returns-2 c = let a = c .before .before .before .before .before .args in asked (a .f .member) (all (λ (x : ℕ). leb (getD (a .st .now) x 0) 1023) (writes (inst (a .recs .now) (a .f .rec)))) (c .before .if1 .left) (c .rule1 .ensures)
 
 pub may-stay-spec : {M : Type 1} → statement M
-may-stay-spec = tie.close (tie.spec marked-requires returns rule1-requires returns-2)
+may-stay-spec = tie.close (tie.spec returns rule1-requires returns-2)

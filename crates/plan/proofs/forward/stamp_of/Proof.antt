@@ -3,9 +3,8 @@ use Rattle.plan.proofs.Forwarding.{stamp-in, stamp-out}
 use borrow.Author.Needs.{needs}
 use Rattle.plan.proofs.forward.stamp_of.Statement.{statement}
 use Rattle.plan.proofs.forward.stamp_of.Tie as tie
-
-cell-at-requires : tie.Need-cell-at-requires
-cell-at-requires c κs = search needs
+use Rattle.plan.proofs.forward.stamp_of.Reads as reads
+use Rattle.plan.proofs.forward.stamp_of.Lts as lts
 
 cast-o : tie.Need-cast-o
 cast-o c = search needs
@@ -13,30 +12,17 @@ cast-o c = search needs
 mul-o : tie.Need-mul-o
 mul-o c = search needs
 
-marked-requires : tie.Need-marked-requires
-marked-requires c κs = search needs
-
 add-result : tie.Need-add-result
 add-result c = search needs
 
 returns : tie.Need-returns
-returns c = stamp-in _ _ _ (c .before .before .cell-at .ensures) (c .before .marked .ensures) (c .if1 .taken)
+returns c = stamp-in _ _ (c .if1 .taken)
 
 add-result-2 : tie.Need-add-result-2
 add-result-2 c = search needs
 
 returns-2 : tie.Need-returns-2
-returns-2 c = stamp-out _ _ _ (c .before .before .cell-at .ensures) (c .before .marked .ensures) (c .if1 .left)
+returns-2 c = stamp-out _ _ (c .if1 .left)
 
 pub stamp-of-spec : {M : Type 1} → statement M
-stamp-of-spec =
-    tie.close
-    (tie.spec
-    cell-at-requires
-    cast-o
-    mul-o
-    marked-requires
-    add-result
-    returns
-    add-result-2
-    returns-2)
+stamp-of-spec = tie.close (tie.spec cast-o mul-o add-result returns add-result-2 returns-2)

@@ -3,9 +3,9 @@ use Rattle.plan.proofs.Testing.{own-words}
 use borrow.Author.Needs.{needs}
 use Rattle.plan.proofs.rules.rule6.Statement.{statement}
 use Rattle.plan.proofs.rules.rule6.Tie as tie
-
-cell-at-requires : tie.Need-cell-at-requires
-cell-at-requires c κs = search needs
+use Rattle.plan.proofs.rules.rule6.Reads as reads
+use Rattle.plan.proofs.rules.rule6.Lts as lts
+use Rattle.inst.proofs.record.wide.Reads as wide-reads
 
 wide-requires : tie.Need-wide-requires
 wide-requires c κs = search needs
@@ -17,14 +17,7 @@ element-copy-out-result : tie.Need-element-copy-out-result
 element-copy-out-result c = search needs
 
 returns : tie.Need-returns
-returns c = own-words _ (c .before .before .cell-at .ensures) (c .before .wide .ensures)
+returns c = own-words _ _ (c .before .wide .ensures)
 
 pub rule6-spec : {M : Type 1} → statement M
-rule6-spec =
-    tie.close
-    (tie.spec
-    cell-at-requires
-    wide-requires
-    mul-result
-    element-copy-out-result
-    returns)
+rule6-spec = tie.close (tie.spec wide-requires mul-result element-copy-out-result returns)

@@ -3,18 +3,18 @@ use Rattle.plan.proofs.Starting.{begin-fixed, begin-may}
 use borrow.Author.Needs.{needs}
 use Rattle.plan.proofs.start.begins_in.Statement.{statement}
 use Rattle.plan.proofs.start.begins_in.Tie as tie
-
-cell-at-requires : tie.Need-cell-at-requires
-cell-at-requires c κs = search needs
+use Rattle.plan.proofs.start.begins_in.Reads as reads
+use Rattle.plan.proofs.start.begins_in.Lts as lts
+use Rattle.plan.proofs.rules.rule2.Reads as rule2-reads
 
 returns : tie.Need-returns
-returns c = begin-fixed _ _ _ _ _ _ (c .before .cell-at .ensures) (c .if1 .taken)
+returns c = begin-fixed _ _ _ _ _ _ (c .if1 .taken)
 
 rule2-requires : tie.Need-rule2-requires
 rule2-requires c κs = search needs
 
 returns-2 : tie.Need-returns-2
-returns-2 c = begin-may _ _ _ _ _ _ (c .before .before .cell-at .ensures) (c .before .if1 .left) (c .rule2 .ensures)
+returns-2 c = begin-may _ _ _ _ _ _ (c .before .if1 .left) (c .rule2 .ensures)
 
 pub begins-in-spec : {M : Type 1} → statement M
-begins-in-spec = tie.close (tie.spec cell-at-requires returns rule2-requires returns-2)
+begins-in-spec = tie.close (tie.spec returns rule2-requires returns-2)

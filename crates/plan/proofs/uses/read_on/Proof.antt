@@ -1,26 +1,40 @@
 -- `plan::uses::read_on` meets its contract. Assumes nothing.
 use native.Mathlib.Omega.{arith}
 use Rattle.plan.proofs.Stamping.{whole-stamp}
-use Rattle.plan.proofs.Wording.{written, readable}
+use Rattle.plan.proofs.Summing.{used-at}
 use borrow.Author.Needs.{needs}
 use Rattle.plan.proofs.uses.read_on.Statement.{statement}
 use Rattle.plan.proofs.uses.read_on.Tie as tie
 
-note-reads-requires : tie.Need-note-reads-requires
-note-reads-requires c κs = let p = c .before .before .before .before .before .before .pre in (p .0, readable (p .1) (p .2) (p .5), p .3, p .4, omega (arith, p .1 .few, p .5))
+uses-requires : tie.Need-uses-requires
+uses-requires c κs = (c .before .before .before .pre .0, c .before .before .before .pre .1 .known)
 
-add-put-writes : tie.Need-add-put-writes
-add-put-writes c = search needs
+cast-note-places : tie.Need-cast-note-places
+cast-note-places c = search needs
 
-put-writes-requires : tie.Need-put-writes-requires
-put-writes-requires c κs = let p = c .before .before .before .before .before .before .before .before .pre in (p .0, written (p .1) (p .2) (p .5), whole-stamp _ (omega (arith, p .1 .few, p .5)))
+note-places-requires : tie.Need-note-places-requires
+note-places-requires c κs = let p = c .before .before .before .before .before .before .pre in (used-at (p .1) (c .before .before .uses .ensures), p .1, p .2, p .3)
+
+add-put-slots : tie.Need-add-put-slots
+add-put-slots c = search needs
+
+put-slots-requires : tie.Need-put-slots-requires
+put-slots-requires c κs = let p = c .before .before .before .before .before .before .before .before .pre in (used-at (p .1) (c .before .before .before .before .uses .ensures), p .1 .fits, whole-stamp _ (omega (arith, p .4)))
 
 same-length : tie.Need-same-length
 same-length c = search needs
 
 returns : tie.Need-returns
-returns c = record { noticed = c .before .before .before .before .note-reads .ensures; stamped = c .before .before .put-writes .ensures }
+returns c = record { noticed = c .before .before .before .before .note-places .ensures; stamped = c .before .before .put-slots .ensures }
 
 pub read-on-spec : {M : Type 1} → statement M
 read-on-spec =
-    tie.close (tie.spec note-reads-requires add-put-writes put-writes-requires same-length returns)
+    tie.close
+    (tie.spec
+    uses-requires
+    cast-note-places
+    note-places-requires
+    add-put-slots
+    put-slots-requires
+    same-length
+    returns)
