@@ -11,6 +11,7 @@ use lib.Seq.{length-take-le, take-at, drop-at, take-take, getD-take}
 use Rattle.words.specs.Bits.{digit, digit-in, is-in}
 use Rattle.words.proofs.Parts.{row-fits}
 use Rattle.model.specs.Picture.{Picture, nblocks}
+use Rattle.model.specs.Refusal.{records}
 use Rattle.model.specs.Analyse.{Facts}
 use Rattle.laws.proofs.Accepted as laws
 use Rattle.laws.proofs.Sizes.{regs-lent}
@@ -45,7 +46,7 @@ size-low {x} {y} h k = let z : 4 * x ≤ 16384 = omega arith in le-trans (mul-le
 
 module _ {P : Picture} {bounds recs ops : List ℕ} {s : Sizes} {w64 w32 : ℕ} (l : Lists P bounds recs ops s w64 w32) where
   pub ok : laws.Accepted P
-  ok = laws.accepted P w64 w32 (l .accepted)
+  ok = laws.accepted P w64 w32 records (l .accepted)
 
   pub at-is : 4 * s .blocks * width (s .lent) ≡ at-regs P
   at-is = rw (l .blocks-are, l .lent-are) refl

@@ -1,19 +1,89 @@
--- `try_targets`: the first target that has a plan, or none. Assumes nothing.
+-- The answers of `else_least` and `found`; the first target that has a plan, or none. Assumes nothing.
 use mathlib.Core.Path.{_≡_, refl, sym, ap, _∙_, subst}
+use mathlib.Core.Logic.{⊎-elim}
+use mathlib.Core.Bool.{Bool, cond}
 use mathlib.Core.List.{List}
 use mathlib.Core.Option.{Option, none, some}
-use Prim.Native.Nat.{ℕ, _<_}
+use Prim.Native.Nat.{ℕ, _≤_, _<_}
 use native.Mathlib.Omega.{arith}
-use lib.ListN.{length}
+use borrow.Author.Tests.{lt-ltb, le-ltb, eq-eqb, ne-eqb}
+use lib.Dec.{ltb}
+use lib.ListN.{getD, length}
+use Rattle.words.specs.Lists.{count}
 use Rattle.model.specs.Picture.{Picture}
-use Rattle.model.specs.Move.{Plan, run-of}
-use Rattle.laws.proofs.Planned.{planned}
+use Rattle.model.specs.Analyse.{Facts}
+use Rattle.model.specs.Move.{Plan, chain-places, plan, run-of}
+use Rattle.laws.proofs.Planned as laws
 use Rattle.chains.specs.declared.chain.Chain.{Chain}
+use Rattle.chains.specs.Chain.{blocks-of}
+use Rattle.legalset.specs.Chain.{cell}
 use Rattle.trial.specs.declared.sizes.Sizes.{Sizes}
+use Rattle.trial.specs.declared.block.Move.{Move}
+use Rattle.trial.specs.declared.block.MaybeMove.{MaybeMove}
 use Rattle.trial.specs.declared.block.MaybeMove.the-variants.{Is, Not}
-use Rattle.trial.specs.Work.{Lists}
-use Rattle.trial.specs.Along.{chain-in, Along, Trying, PlanTried}
-use Rattle.trial.specs.Trial.{first-of, Choosing, Choice}
+use Rattle.trial.specs.Work.{chain-words, Lists, Tabled, Held}
+use Rattle.trial.specs.Along.{chain-in, Along, FromX, Marked}
+use Rattle.trial.specs.Target.{PlanTried}
+use Rattle.trial.specs.Trial.{else-least, found}
+use Rattle.trial.proofs.Planned.{along-behind, lists-of, some-or}
+
+-- ---- `else_least`
+
+module _ (k least : ℕ) where
+  pub else-same : k ≡ 0 → least ≡ else-least k least
+  else-same e = ap (λ (b : Bool). cond b least 0) (sym (eq-eqb k 0 e))
+
+  pub else-none : (k ≡ 0 → ⊥) → 0 ≡ else-least k least
+  else-none e = ap (λ (b : Bool). cond b least 0) (sym (ne-eqb k 0 e))
+
+-- ---- `found`
+
+module _ (x : ℕ) (c : Chain) (m n k l : ℕ) where
+  abbrev in-t : ℕ → MaybeMove
+  in-t i = Is (record { from = x; into = i; inside = m; places = n; moved = k })
+
+  abbrev in-f : ℕ → MaybeMove
+  in-f i = Is (record { from = x; into = i; inside = m; places = n; moved = l })
+
+  pub found-t : {i : ℕ} → 0 < k → i ≡ c .t .0 → in-t i ≡ found x c m n k l
+  unfolding found
+  found-t h e = ap in-t e ∙ ap (λ (b : Bool). cond b (in-t (c .t .0)) (cond (ltb 0 l) (in-f (c .f .0)) Not)) (sym (lt-ltb 0 k h))
+
+  not-t : k ≤ 0 → cond (ltb 0 l) (in-f (c .f .0)) Not ≡ found x c m n k l
+  unfolding found
+  not-t h = ap (λ (b : Bool). cond b (in-t (c .t .0)) (cond (ltb 0 l) (in-f (c .f .0)) Not)) (sym (le-ltb 0 k h))
+
+  pub found-f : {i : ℕ} → k ≤ 0 → 0 < l → i ≡ c .f .0 → in-f i ≡ found x c m n k l
+  found-f h b e = ap in-f e ∙ ap (λ (z : Bool). cond z (in-f (c .f .0)) Not) (sym (lt-ltb 0 l b)) ∙ not-t h
+
+  pub found-none : k ≤ 0 → l ≤ 0 → Not ≡ found x c m n k l
+  found-none h b = ap (λ (z : Bool). cond z (in-f (c .f .0)) Not) (sym (le-ltb 0 l b)) ∙ not-t h
+
+-- ---- the move along chain c, into t or else into f
+
+-- the first plan, or else the second
+abbrev pub first-of : Option Plan → Option Plan → Option Plan
+first-of p q = elim p [ some a ↦ some a | none ↦ q ]
+
+abbrev pub plan-in : Picture → Facts → ℕ → Chain → ℕ → Option Plan
+plan-in P G x c least =
+    first-of (plan P (run-of P G (chain-in c)) x (chain-in c) least (c .t .0) (c .f .0)) (plan P (run-of P G (chain-in c)) x (chain-in c) least (c .f .0) (c .t .0))
+
+-- the move mv is that plan, and the words say so
+pub record Moves (P : Picture) (G : Facts) (x : ℕ) (c : Chain) (least m n : ℕ) (mv : Move) (w : List ℕ) : Type 0 where
+  pub a : Plan
+  pub is : plan-in P G x c least ≡ some a
+  pub from-is : mv .from ≡ x
+  pub into-is : mv .into ≡ a .into
+  pub moved-is : mv .moved ≡ count (a .set)
+  pub inside-is : mv .inside ≡ m
+  pub places-is : mv .places ≡ n
+  pub marked : Marked P a m n w
+  pub numbers : (k : ℕ) → k < n → cell w k 0 ≡ getD (chain-places P (blocks-of c)) k 0
+
+abbrev pub moves : Picture → Facts → ℕ → Chain → ℕ → ℕ → ℕ → MaybeMove → List ℕ → Type 0
+moves P G x c least m n (Is mv) w = Moves P G x c least m n mv w
+moves P G x c least m n Not w = plan-in P G x c least ≡ none
 
 first-some : {p : Option Plan} (q : Option Plan) {a : Plan} → p ≡ some a → first-of p q ≡ some a
 first-some q e = ap (λ (o : Option Plan). first-of o q) e
@@ -21,95 +91,75 @@ first-some q e = ap (λ (o : Option Plan). first-of o q) e
 first-none : {p : Option Plan} (q : Option Plan) → p ≡ none → first-of p q ≡ q
 first-none q e = ap (λ (o : Option Plan). first-of o q) e
 
-module _ {bounds recs ops pairs targets : List ℕ} {s : Sizes} {c : Chain} {work64 work32 : List ℕ} {m n : ℕ} where
-  -- ---- what `plan` asks
+-- ---- t is tried, then f
 
-  pub trying-t : Choosing bounds recs ops pairs targets s c work64 work32 m n → Trying bounds recs ops pairs targets s c work64 work32 (c .t .0) (c .f .0) m n
-  trying-t p = record {
-    planning = record { P = p .P; G = p .G; lists = p .lists; held = p .held; chained = p .chained; along = p .along; into-block = p .t-block; in-x = p .in-x };
-    tabled = p .tabled;
-    other-block = p .f-block;
-  }
+module _ {bounds recs ops pairs targets : List ℕ} {s : Sizes} {c : Chain} {w work64 work32 : List ℕ} {m n least k l : ℕ} {work64′ work32′ work64″ work32″ : List ℕ} (p : PlanTried bounds recs ops pairs targets s c w work64 work32 least (c .t .0) (c .f .0) m n work64′ work32′ k)
+    (q : PlanTried bounds recs ops pairs targets s c w work64′ work32′ (else-least k least) (c .f .0) (c .t .0) m n work64″ work32″ l) where
+  pub held-both : (P : Picture) (G : Facts) → Lists P bounds recs ops s (length work64) (length work32) → Tabled P pairs targets → Held P G work64 work32 → Held P G work64″ work32″
+  held-both P G r u d = q .held P G (lists-of (p .size64) (p .size32) r) u (p .held P G r u d)
 
-  -- after no plan for t
-  module _ {least into other k : ℕ} {work64′ work32′ : List ℕ} where
-    lists-after : PlanTried bounds recs ops pairs targets s c work64 work32 least into other m n work64′ work32′ k → (P : Picture) → Lists P bounds recs ops s (length work64) (length work32)
-        → Lists P bounds recs ops s (length work64′) (length work32′)
-    lists-after p P l =
-        subst (λ (w : ℕ). Lists P bounds recs ops s (length work64′) w) (sym (p .size32)) (subst (λ (w : ℕ). Lists P bounds recs ops s w (length work32)) (sym (p .size64)) l)
+  module _ (some? : 0 < least) (P : Picture) (G : Facts) (x : ℕ) (r : Lists P bounds recs ops s (length work64) (length work32)) (u : Tabled P pairs targets) (d : Held P G work64 work32)
+      (a : Along P G c w work32 n) (f : FromX P c x m) where
+    abbrev plan-for : ℕ → ℕ → ℕ → Option Plan
+    plan-for y i j = plan P (run-of P G (chain-in c)) x (chain-in c) y i j
 
-    pub trying-f : Choosing bounds recs ops pairs targets s c work64 work32 m n → PlanTried bounds recs ops pairs targets s c work64 work32 least into other m n work64′ work32′ k → k ≡ 0
-        → Trying bounds recs ops pairs targets s c work64′ work32′ (c .f .0) (c .t .0) m n
-    trying-f p q e = record {
-      planning = record {
-        P = p .P;
-        G = p .G;
-        lists = lists-after q (p .P) (p .lists);
-        held = q .held (p .P) (p .G) (p .lists) (p .tabled) (p .held);
-        chained = p .chained;
-        along = subst (λ (w : List ℕ). Along (p .P) (p .G) c w n) (sym (q .still e)) (p .along);
-        into-block = p .f-block;
-        in-x = p .in-x;
-      };
-      tabled = p .tabled;
-      other-block = p .t-block;
-    }
+    abbrev answer : MaybeMove → Type 0
+    answer v = moves P G x c least m n v (chain-words work32″)
 
-  -- ---- the answers
+    -- into t: the words stay as they are
+    into-t : 0 < k → answer (found x c m n k l)
+    into-t h =
+        let z = p .some-is P G x r u d a f (λ y. omega arith) in
+        let same : chain-words work32″ ≡ chain-words work32′ = ap chain-words (q .still (q .unwanted (sym (else-none k least (λ y. omega arith))))) in
+        let it : answer (Is (record { from = x; into = c .t .0; inside = m; places = n; moved = k })) =
+        record {
+          a = z .0;
+          is = first-some (plan-for least (c .f .0) (c .t .0)) (z .1);
+          from-is = refl;
+          into-is = sym (laws.planned P (run-of P G (chain-in c)) x (chain-in c) least (c .t .0) (c .f .0) (z .0) (z .1) .into-is);
+          moved-is = z .2;
+          inside-is = refl;
+          places-is = refl;
+          marked = subst (Marked P (z .0) m n) (sym same) (z .3);
+          numbers = λ j b. ap (λ (v : List ℕ). cell v j 0) same ∙ z .4 j b;
+        } in
+        subst answer (found-t x c m n k l h refl) it
 
-  module _ {x least k : ℕ} {work64′ work32′ : List ℕ} where
-    pub into-t : {i : ℕ} → PlanTried bounds recs ops pairs targets s c work64 work32 least (c .t .0) (c .f .0) m n work64′ work32′ k → 0 < k → i ≡ c .t .0
-        → Choice bounds recs ops pairs targets s x c work64 work32 least m n work64′ work32′ (Is (record { from = x; into = i; inside = m; places = n; moved = k }))
-    into-t {i} p h e = record {
-      size64 = p .size64;
-      size32 = p .size32;
-      held = p .held;
-      is = λ P G l u d a q.
-          let z = p .some-is P G x l u d a q (λ y. omega arith) in
+    -- not into t
+    module _ (k0 : k ≡ 0) where
+      same-least : else-least k least ≡ least
+      same-least = sym (else-same k least k0)
+
+      no-t : plan-in P G x c least ≡ plan-for least (c .f .0) (c .t .0)
+      no-t = first-none (plan-for least (c .f .0) (c .t .0)) (p .none-is some? P G x r u d a f k0)
+
+      again : plan-for least (c .f .0) (c .t .0) ≡ plan-for (else-least k least) (c .f .0) (c .t .0)
+      again = ap (λ (y : ℕ). plan-for y (c .f .0) (c .t .0)) (sym same-least)
+
+      into-f : 0 < l → answer (found x c m n k l)
+      into-f h =
+          let z = q .some-is P G x (lists-of (p .size64) (p .size32) r) u (p .held P G r u d) (along-behind (p .behind) a) f (λ y. omega arith) in
+          let there : plan-for least (c .f .0) (c .t .0) ≡ some (z .0) = again ∙ z .1 in
+          let it : answer (Is (record { from = x; into = c .f .0; inside = m; places = n; moved = l })) =
           record {
             a = z .0;
-            is = first-some _ (z .1);
+            is = no-t ∙ there;
             from-is = refl;
-            into-is = e ∙ sym (planned P (run-of P G (chain-in c)) x (chain-in c) least (c .t .0) (c .f .0) (z .0) (z .1) .into-is);
+            into-is = sym (laws.planned P (run-of P G (chain-in c)) x (chain-in c) least (c .f .0) (c .t .0) (z .0) there .into-is);
             moved-is = z .2;
             inside-is = refl;
             places-is = refl;
             marked = z .3;
             numbers = z .4;
-          };
-    }
+          } in
+          subst answer (found-f x c m n k l (omega arith) h refl) it
 
-    module _ {l : ℕ} {work64″ work32″ : List ℕ} where
-      pub into-f : {i : ℕ} → PlanTried bounds recs ops pairs targets s c work64 work32 least (c .t .0) (c .f .0) m n work64′ work32′ k → k ≡ 0
-          → PlanTried bounds recs ops pairs targets s c work64′ work32′ least (c .f .0) (c .t .0) m n work64″ work32″ l → 0 < l → i ≡ c .f .0
-          → Choice bounds recs ops pairs targets s x c work64 work32 least m n work64″ work32″ (Is (record { from = x; into = i; inside = m; places = n; moved = l }))
-      into-f {i} p k0 q h e = record {
-        size64 = q .size64 ∙ p .size64;
-        size32 = q .size32 ∙ p .size32;
-        held = λ P G r u d. q .held P G (lists-after p P r) u (p .held P G r u d);
-        is = λ P G r u d a f.
-            let z = q .some-is P G x (lists-after p P r) u (p .held P G r u d) (subst (λ (w : List ℕ). Along P G c w n) (sym (p .still k0)) a) f (λ y. omega arith) in
-            record {
-              a = z .0;
-              is = first-none _ (p .none-is P G x r u d a f k0) ∙ z .1;
-              from-is = refl;
-              into-is = e ∙ sym (planned P (run-of P G (chain-in c)) x (chain-in c) least (c .f .0) (c .t .0) (z .0) (z .1) .into-is);
-              moved-is = z .2;
-              inside-is = refl;
-              places-is = refl;
-              marked = z .3;
-              numbers = z .4;
-            };
-      }
+      neither : l ≡ 0 → answer (found x c m n k l)
+      neither l0 =
+          let it : plan-in P G x c least ≡ none =
+          no-t ∙ again
+          ∙ q .none-is (subst (λ (y : ℕ). 0 < y) (sym same-least) some?) P G x (lists-of (p .size64) (p .size32) r) u (p .held P G r u d) (along-behind (p .behind) a) f l0 in
+          subst answer (found-none x c m n k l (omega arith) (omega arith)) it
 
-      pub neither : PlanTried bounds recs ops pairs targets s c work64 work32 least (c .t .0) (c .f .0) m n work64′ work32′ k → k ≡ 0
-          → PlanTried bounds recs ops pairs targets s c work64′ work32′ least (c .f .0) (c .t .0) m n work64″ work32″ l → l ≡ 0
-          → Choice bounds recs ops pairs targets s x c work64 work32 least m n work64″ work32″ Not
-      neither p k0 q l0 = record {
-        size64 = q .size64 ∙ p .size64;
-        size32 = q .size32 ∙ p .size32;
-        held = λ P G r u d. q .held P G (lists-after p P r) u (p .held P G r u d);
-        is = λ P G r u d a f.
-            first-none _ (p .none-is P G x r u d a f k0)
-            ∙ q .none-is P G x (lists-after p P r) u (p .held P G r u d) (subst (λ (w : List ℕ). Along P G c w n) (sym (p .still k0)) a) f l0;
-      }
+    pub first-plan : answer (found x c m n k l)
+    first-plan = ⊎-elim (λ (k0 : k ≡ 0). ⊎-elim (neither k0) (into-f k0) (some-or l)) into-t (some-or k)

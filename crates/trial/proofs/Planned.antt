@@ -1,258 +1,331 @@
--- `put_plan`: the words say what the move asks. Assumes nothing.
+-- `plan`: what it asks of its callees, and its answer: where there is nothing to do, where the set has too few members, and where the
+-- words stand for the plan. Assumes nothing.
 use mathlib.Core.Path.{_≡_, refl, sym, ap, ap₂, _∙_, subst}
-use mathlib.Core.Logic.{inl}
-use mathlib.Core.Bool.{Bool, true, false, not, cond}
-use mathlib.Core.List.{List, [], _∷_, map}
-use Prim.Native.Nat.{ℕ, zero, suc, _+_, _*_, _-_, _%_, _≤_, _<_}
-use native.Mathlib.Nat.{zero-add}
+use mathlib.Core.Logic.{_⊎_, inl, inr, ⊎-elim}
+use mathlib.Core.Bool.{Bool, true, false, _&&_}
+use mathlib.Core.List.{List, []}
+use mathlib.Core.Option.{Option, none, some}
+use Prim.Native.Nat.{ℕ, zero, suc, _+_, _-_, _*_, _≤_, _<_}
 use native.Mathlib.Omega.{arith}
-use borrow.Author.Tests.{ne-eqb}
-use lib.Dec.{T, eqb}
-use lib.ListN.{getD, length, take, drop, length-drop, length-map}
-use lib.Seq.{length-take-le, getD-take}
-use Rattle.words.specs.Lists.{In, all, member}
-use Rattle.words.specs.Bits.{is-in}
-use Rattle.words.specs.Last.{last-below}
-use Rattle.words.proofs.Bools.{true-T}
-use Rattle.words.proofs.Lasts.{last-passes}
-use Rattle.words.proofs.Lists.{getD-made, getD-map}
-use Rattle.words.proofs.Parts.{part-first}
-use Rattle.model.specs.Kinds.{row}
-use Rattle.model.specs.Picture.{Picture, Inst, inst, absent, kind, writes, nblocks, starts, size}
-use Rattle.model.specs.Refusal.{may-move}
-use Rattle.model.specs.Live.{live-in}
-use Rattle.model.specs.Analyse.{Facts, Fact, movable, fact}
-use Rattle.model.specs.Legal.{fact-at}
-use Rattle.model.specs.Move.{Plan, chain-places, run-of, last-use}
-use Rattle.laws.proofs.Sizes.{recs-length}
-use Rattle.laws.proofs.Admitted.{one-write}
-use Rattle.laws.proofs.Analysed.{fact-of, fact-moves}
-use Rattle.laws.proofs.Chains.{lead}
+use borrow.Author.Tests.{le-leb, lt-leb}
+use lib.Dec.{leb}
+use lib.ListN.{getD, length, take, drop, length-drop}
+use lib.Seq.{length-take-le}
+use Rattle.words.specs.Lists.{member, count}
+use Rattle.words.proofs.Bools.{T-true, true-T, not-true-is-false}
+use Rattle.model.specs.Picture.{Picture, nblocks, size}
+use Rattle.model.specs.Refusal.{records}
+use Rattle.model.specs.Analyse.{Facts, Fact, movable}
+use Rattle.model.specs.Legal.{fact-at, greatest}
+use Rattle.model.specs.Move as M
+use Rattle.model.specs.Move.{Plan, chain-places, is-target, needed-of, set-for, plan, run-of}
+use Rattle.laws.proofs.Accepted.{accepted}
+use Rattle.laws.proofs.Greatest.{greatest-movable}
+use Rattle.facts.specs.declared.Fact as F
+use Rattle.analyse.specs.Cells.{cells}
 use Rattle.chains.specs.declared.chain.Chain.{Chain}
 use Rattle.chains.specs.Chain.{blocks-of}
-use Rattle.chains.proofs.Struct.{blocks-long}
-use Rattle.legalset.specs.Chain.{cell, view, defs-of, reads-of, Safe, Brief, Told}
+use Rattle.legalset.specs.Chain.{cell, Safe, Told}
 use Rattle.legalset.specs.Marks.{in-set}
-use Rattle.plan.specs.Passes.{result-test, Around}
-use Rattle.plan.specs.Uses.{or-own, reads-value, last-reader, Readers}
-use Rattle.plan.proofs.Backing.{writes-low}
-use Rattle.plan.proofs.LastUse.{last-use-is}
-use Rattle.pool.specs.Pool.{last-at, wrote-at, regs-of}
-use Rattle.pool.specs.Plan.{read-there}
+use Rattle.plan.specs.declared.settle.Cycle.{Cycle}
+use Rattle.plan.specs.Passes.{Ended, Row, Around, Greatest}
+use Rattle.plan.specs.Sweep.{marks}
+use Rattle.plan.specs.Cycle.{Choosable, Chose}
 use Rattle.trial.specs.declared.sizes.Sizes.{Sizes}
-use Rattle.trial.specs.Work.{width, at-regs, reg-words, chain-words, copied-words, Lists, Held}
-use Rattle.trial.specs.Puts.{use-of, UseAsked, Put, ReadersAsked}
-use Rattle.trial.specs.Along.{chain-in, Along, Marked, Planning, FromX, PutPlan}
-use Rattle.trial.proofs.Standing.{drop-more}
-use Rattle.trial.proofs.Kept.{take-less, in-below, row-low, ok, at-is, held-kept}
-use Rattle.trial.proofs.Rooms.{Room, room}
-use Rattle.trial.proofs.Putting.{cell-first, put-behind}
+use Rattle.trial.specs.declared.target.Aim.{Aim}
+use Rattle.trial.specs.declared.target.Sunk.{Sunk}
+use Rattle.trial.specs.Work.{width, at-regs, at-stamps, chain-words, copied-words, Held, Lists, Tabled}
+use Rattle.trial.specs.Puts as U
+use Rattle.trial.specs.Along.{chain-in, Along, Marked, FromX, Numbered, Using, Lasts, Used}
+use Rattle.trial.specs.Target.{from-start, row-at, stamps-at, taken, Aiming, Aimed, Trying, PlanTried}
+use Rattle.trial.proofs.Standing.{front-same, drop-more}
+use Rattle.trial.proofs.Kept.{held-kept}
+use Rattle.trial.proofs.Rooms.{room, room-of, Same, held-same}
+use Rattle.trial.proofs.Telling.{facts-behind, facts-still}
+use Rattle.trial.proofs.Wording.{numbered, number-cell, marked-after}
+use Rattle.trial.proofs.Aiming.{Share, none-move, all-move, shares}
 
--- ---- small facts
+-- ---- `model`'s plan, case by case
 
-twice-not : (b : Bool) → b ≡ not (not b)
-twice-not true = refl
-twice-not false = refl
+module _ (P : Picture) (run : List Fact) (x : ℕ) (c : M.Chain) (least into other : ℕ) where
+  abbrev made : Plan
+  made = record { x = x; into = into; run = run; set = set-for P run x into other }
 
-cond-low : (b : Bool) {x y k : ℕ} → x < k → y < k → cond b x y < k
-cond-low true h i = h
-cond-low false h i = i
+  plan-off : is-target P c into ≡ false → plan P run x c least into other ≡ none
+  plan-off e = ap (λ (b : Bool). elim (b && leb least (count (set-for P run x into other))) as (λ z. Option Plan) [ true ↦ some made | false ↦ none ]) e
 
-reader-low : (defs reads : ℕ → List ℕ) (n p : ℕ) → p < 800 → n ≤ 800 → last-reader defs reads n p < 800
-unfolding last-reader or-own
-reader-low defs reads n p h k = go (last-below (reads-value defs reads p) n) refl
-  where
-    go : (d : ℕ) → last-below (reads-value defs reads p) n ≡ d → or-own p d < 800
-    go zero e = h
-    go (suc q) e = let z = last-passes (reads-value defs reads p) n q e .0 in omega arith
+  plan-few : is-target P c into ≡ true → count (set-for P run x into other) < least → plan P run x c least into other ≡ none
+  plan-few e h = ap₂ (λ (u v : Bool). elim (u && v) as (λ z. Option Plan) [ true ↦ some made | false ↦ none ]) e (lt-leb least (count (set-for P run x into other)) h)
 
--- the only register of a list, or absent
-one-reg : (R : ℕ) → R ≤ 65536 → (xs : List ℕ) → length xs ≤ 1 → ((r : ℕ) → In r xs → r < R) → regs-of (getD xs 0 absent) ≡ xs
-one-reg R l [] h f = refl
-one-reg R l (x ∷ []) h f = let z = f x (inl refl) in ap (λ (b : Bool). cond b [] (x ∷ [])) (ne-eqb x absent (λ e. omega arith))
-one-reg R l (x ∷ y ∷ xs) h f = absurd (omega arith)
+  plan-on : is-target P c into ≡ true → least ≤ count (set-for P run x into other) → plan P run x c least into other ≡ some made
+  plan-on e h = ap₂ (λ (u v : Bool). elim (u && v) as (λ z. Option Plan) [ true ↦ some made | false ↦ none ]) e (le-leb least (count (set-for P run x into other)) h)
 
-head-low : (R : ℕ) (xs : List ℕ) → ((r : ℕ) → In r xs → r < R) → (getD xs 0 absent ≡ absent → ⊥) → getD xs 0 absent < R
-head-low R [] f k = absurd (k refl)
-head-low R (x ∷ xs) f k = f x (inl refl)
+-- ---- what stays
 
--- the first positions of a chain are those of its first block
-first-places : (P : Picture) (bs : List ℕ) → 0 < length bs → (p : ℕ) → p < size P (getD bs 0 0) - 1 → getD (chain-places P bs) p 0 ≡ starts P (getD bs 0 0) + p
-first-places P [] h p i = absurd (omega arith)
-first-places P (b ∷ bs) h p i = lead P b bs p i .1
+-- where the words behind the chain's are the same
+pub along-behind : {P : Picture} {G : Facts} {c : Chain} {w xs ys : List ℕ} {n : ℕ} → drop 8000 ys ≡ drop 8000 xs → Along P G c w xs n → Along P G c w ys n
+along-behind {P} {G} {c} {w} {xs} {ys} {n} e al =
+    let same : copied-words P xs ≡ copied-words P ys = ap (take (P .regs)) (sym e) in
+    record {
+      long = al .long;
+      few = al .few;
+      numbers = al .numbers;
+      told = subst (λ (rs : List ℕ). Told (P .recs) (P .ops) w rs n (run-of P G (chain-in c))) same (al .told);
+      ended = subst (λ (rs : List ℕ). Ended (P .recs) w n rs) same (al .ended);
+      safe = al .safe;
+      brief = al .brief;
+      written = al .written;
+    }
 
--- ---- what is asked on the way
+held-behind : {P : Picture} {G : Facts} {bounds recs ops : List ℕ} {s : Sizes} {w64 w32 : ℕ} {work64 xs ys : List ℕ} → Lists P bounds recs ops s w64 w32 → drop 8000 ys ≡ drop 8000 xs → Held P G work64 xs → Held P G work64 ys
+held-behind {P} {work64 = work64} {xs = xs} {ys = ys} l e h = held-kept l h work64 ys refl (λ r i. refl) (drop-more 8000 (8000 + length (P .types)) ys xs (omega arith) e)
 
-module _ {bounds recs ops work64 work32 : List ℕ} {s : Sizes} {c : Chain} {into m n : ℕ} (g : Planning bounds recs ops s c work64 work32 into m n) where
-  pub plan-room : Room (s .blocks) (s .regs) (s .lent) (length work64) (length work32)
-  plan-room = room (g .lists)
+same-around : {bounds recs ops : List ℕ} {s : Sizes} {w64 w32 : ℕ} {mid work64′ : List ℕ} {st k : ℕ} (P : Picture) → Lists P bounds recs ops s w64 w32 → Around st k mid work64′ → st ≡ stamps-at s → Same P mid work64′
+same-around {s = s} {w64 = w64} {w32 = w32} {mid = mid} {work64′ = work64′} {st = st} P l d es =
+    let q : st ≡ at-stamps P = es ∙ ap₂ (λ (x y : ℕ). 4 * x * width y + y) (l .blocks-are) (l .lent-are) in
+    let r = room-of P w64 w32 (l .accepted) in
+    let a = r .rows in
+    let b = r .four in
+    record {
+      rows = λ i j. front-same st mid work64′ (d .below) i (omega arith);
+      firsts = λ i u v. front-same st mid work64′ (d .below) i (omega arith);
+      regs = λ i j. front-same st mid work64′ (d .below) (at-regs P + i) (omega arith);
+    }
 
-  into-low : into < s .blocks
-  into-low = let z = g .into-block in let e = g .lists .blocks-are in omega arith
+pub lists-of : {P : Picture} {bounds recs ops : List ℕ} {s : Sizes} {a b c d : ℕ} → b ≡ a → d ≡ c → Lists P bounds recs ops s a c → Lists P bounds recs ops s b d
+lists-of {P} {bounds} {recs} {ops} {s} {a} {b} {c} {d} e f l = subst (λ (x : ℕ). Lists P bounds recs ops s b x) (sym f) (subst (λ (x : ℕ). Lists P bounds recs ops s x c) (sym e) l)
 
-  m-few : m ≤ 800
-  m-few = let z = g .in-x in let y = g .along .few in omega arith
+pub some-or : (k : ℕ) → (k ≡ 0) ⊎ (0 < k)
+some-or zero = inl refl
+some-or (suc k) = inr (omega arith)
 
-  module _ {a r : ℕ} (ea : a ≡ 4 * s .blocks * width (s .lent)) (er : r ≡ s .regs) where
-    chain-safe : Safe recs ops (chain-words work32) n r
-    chain-safe = let l = g .lists in rw (l .recs-are, l .ops-are, er, l .regs-are) (g .along .safe)
+-- ---- before the set
 
-    chain-brief : Brief recs ops (chain-words work32) n
-    chain-brief = let l = g .lists in rw (l .recs-are, l .ops-are) (g .along .brief)
+module _ {bounds recs ops pairs targets : List ℕ} {s : Sizes} {c : Chain} {w work64 work32 : List ℕ} {into other m n : ℕ} (t : Trying bounds recs ops pairs targets s c w work64 work32 into other m n) where
+  pub aiming : Aiming bounds recs pairs targets s c work64 work32 into other
+  aiming = let p = t .planning in
+      record { ops = ops; P = p .P; lists = p .lists; tabled = t .tabled; few = p .chained .sound .few; into-block = p .into-block; other-block = t .other-block }
 
-    pub readers-asked : ReadersAsked recs ops work64 work32 (a + s .lent) r n
-    readers-asked = let z = plan-room in record { safe = chain-safe; brief = chain-brief; chain = omega (arith, z .words32); room = omega (arith, z .words64, z .lent, ea, er) }
+  module _ {least : ℕ} {work64₁ : List ℕ} {a : Aim} (d : Aimed bounds recs pairs targets s c work64 work32 least into other m n work64₁ a) where
+    pub end-fits : (8000 ≤ a .end) × (a .end ≤ length work32)
+    end-fits =
+        let r = room (t .planning .lists) in
+        ⊎-elim
+        (λ (e : a .least ≡ 0). let z = d .off e .1 in (omega arith, omega (arith, r .words32)))
+        (λ (h : 0 < a .least). let z = d .on h .2 in (omega arith, omega (arith, r .words32, r .lent)))
+        (some-or (a .least))
 
-    module _ {v : ℕ} (ev : v ≡ width r) where
-      pub row-inside : into * v + v ≤ a
-      row-inside = let z = plan-room in let y = into-low in rw ea (row-low (s .blocks) (omega arith) (omega (arith, z .lent, er, ev)))
+    row-fits : row-at s ≤ length work64₁
+    row-fits = let r = room (t .planning .lists) in omega (arith, r .rows, r .four, r .words64, d .size64)
 
-      module _ {work64′ : List ℕ} (ar : Around (a + s .lent) r work64 work64′) where
-        pub use-asked : UseAsked recs ops work64′ work32 r (into * v) n
-        use-asked = let z = plan-room in record { safe = chain-safe; room = omega (arith, z .words32, z .lent, er); row = omega (arith, row-inside, z .words64, ea, ar .size) }
+    -- the part of the stamps
+    stamps-is : a .sweeps .s ≡ stamps-at s
+    stamps-is = ⊎-elim (λ (e : a .least ≡ 0). ap (λ (z : Cycle). z .s) (d .off e .0)) (λ (h : 0 < a .least). ap (λ (z : Cycle). z .s) (d .on h .1)) (some-or (a .least))
 
-        module _ {marks lasts work32′ : List ℕ} (rd : Readers (defs-of recs (chain-words work32)) (reads-of recs ops (chain-words work32)) n lasts) (pt : Put recs marks lasts work64′ work32 work32′ r (into * v) n m) where
-          module _ (P : Picture) (l : Lists P bounds recs ops s (length work64) (length work32)) where
-            at-a : a ≡ at-regs P
-            at-a = ea ∙ at-is l
+    -- the registers' words, where there is a target
+    regs-are : 0 < a .least → (P : Picture) → Lists P bounds recs ops s (length work64) (length work32) → take (a .end - 8000) (drop 8000 work32) ≡ copied-words P work32
+    regs-are h P l = let z = d .on h .2 in let e : a .end - 8000 ≡ P .regs = omega (arith, l .regs-are) in ap (λ (k : ℕ). take k (drop 8000 work32)) e
 
-            rows-same : take (at-regs P) work64′ ≡ take (at-regs P) work64
-            rows-same = take-less (at-regs P) (a + s .lent) work64′ work64 (omega (arith, at-a)) (ar .below)
+    regs-long : (P : Picture) → Lists P bounds recs ops s (length work64) (length work32) → length (copied-words P work32) ≡ P .regs
+    regs-long P l = let r = room l in let e = length-drop 8000 work32 in length-take-le (P .regs) (drop 8000 work32) (omega (arith, r .words32, r .lent, l .regs-are))
 
-            regs-same : reg-words P work64′ ≡ reg-words P work64
-            regs-same =
-                let e = l .lent-are in
-                sym (part-first (at-regs P) (length (P .types)) (a + s .lent) work64′ (omega (arith, at-a)))
-                ∙ ap (λ (z : List ℕ). take (length (P .types)) (drop (at-regs P) z)) (ar .below)
-                ∙ part-first (at-regs P) (length (P .types)) (a + s .lent) work64 (omega (arith, at-a))
+-- ---- what `legal_set` asks
 
-            held-after : (G : Facts) → Held P G work64 work32 → Held P G work64′ work32′
-            held-after G h =
-                held-kept l h work64′ work32′ rows-same (λ r i. ap (λ (xs : List ℕ). getD xs r 0 % 16) regs-same)
-                (drop-more 8000 (8000 + length (P .types)) work32′ work32 (omega arith) (put-behind pt m-few))
+module _ {bounds recs ops pairs targets : List ℕ} {s : Sizes} {c : Chain} {fs : List F.Fact} {work64 work32 : List ℕ} {into other m n : ℕ} (t : Trying bounds recs ops pairs targets s c (cells fs) work64 work32 into other m n) (long : n ≤ length fs) {least : ℕ} {work64₁ : List ℕ} {a : Aim}
+    (d : Aimed bounds recs pairs targets s c work64 work32 least into other m n work64₁ a) where
+  choosable-off : Choosable recs ops [] work64₁ fs (from-start (row-at s) (stamps-at s) 0 0 1)
+  choosable-off =
+      let r = room (t .planning .lists) in
+      record {
+        safe = record {
+          few = omega arith;
+          room = omega arith;
+          good = λ p h. absurd (omega arith);
+          org = λ p h. absurd (omega arith);
+          wrote = λ p h. absurd (omega arith);
+          from = λ p h. absurd (omega arith);
+        };
+        brief = record { defs = λ p h. absurd (omega arith); reads = λ p h. absurd (omega arith) };
+        ended = record { each = λ r h. absurd (omega arith) };
+        in-x = omega arith;
+        row = row-fits t d;
+        room = omega (arith, r .words64, d .size64);
+        long = omega arith;
+        first = refl;
+        ahead = refl;
+        go = refl;
+      }
 
-            module _ (G : Facts) (b : Plan) (h : Held P G work64 work32) (al : Along P G c work32 n) (fx : FromX P c (b .x) m) (ei : b .into ≡ into) (eb : b .run ≡ run-of P G (chain-in c))
-                (es : (p : ℕ) → in-set marks p ≡ member (b .set) p) (eo : (p : ℕ) → m ≤ p → member (b .set) p ≡ false)
-                (em : (p : ℕ) → member (b .set) p ≡ true → movable (fact-at (b .run) p .does .class) ≡ true) where
-              abbrev W : List ℕ
-              W = chain-words work32
+  choosable-on : 0 < a .least → Choosable recs ops (copied-words (t .planning .P) work32) work64₁ fs (from-start (row-at s) (stamps-at s) m n least)
+  choosable-on h =
+      let p = t .planning in
+      let l = p .lists in
+      let P = p .P in
+      let r = room l in
+      let rl = regs-long t d P l in
+      record {
+        safe = subst (λ (k : ℕ). Safe recs ops (cells fs) n k) (sym rl) (rw (l .recs-are, l .ops-are) (p .along .safe));
+        brief = rw (l .recs-are, l .ops-are) (p .along .brief);
+        ended = rw (l .recs-are) (p .along .ended);
+        in-x = p .in-x;
+        row = row-fits t d;
+        room = omega (arith, r .words64, r .lent, d .size64, rl, l .regs-are);
+        long = long;
+        first = refl;
+        ahead = refl;
+        go = refl;
+      }
 
-              abbrev W′ : List ℕ
-              W′ = chain-words work32′
+  pub choosable : Choosable recs ops (take (a .end - 8000) (drop 8000 work32)) work64₁ fs (a .sweeps)
+  choosable = ⊎-elim
+      (λ (e : a .least ≡ 0).
+      let z : 0 ≡ a .end - 8000 = let y = d .off e .1 in omega arith in
+      subst (λ (k : ℕ). Choosable recs ops (take k (drop 8000 work32)) work64₁ fs (a .sweeps)) z (subst (Choosable recs ops [] work64₁ fs) (sym (d .off e .0)) choosable-off))
+      (λ (h : 0 < a .least).
+      subst (λ (rs : List ℕ). Choosable recs ops rs work64₁ fs (a .sweeps)) (sym (regs-are t d h (t .planning .P) (t .planning .lists)))
+      (subst (Choosable recs ops (copied-words (t .planning .P) work32) work64₁ fs) (sym (d .on h .1)) (choosable-on h)))
+      (some-or (a .least))
 
-              abbrev regs : List ℕ
-              regs = copied-words P work32
+-- ---- after the set
 
-              abbrev o : ℕ
-              o = into * width (P .regs)
+module _ {bounds recs ops pairs targets : List ℕ} {s : Sizes} {c : Chain} {fs fs′ : List F.Fact} {work64 work32 : List ℕ} {into other m n : ℕ} (t : Trying bounds recs ops pairs targets s c (cells fs) work64 work32 into other m n) (long : n ≤ length fs) {least : ℕ} {work64₁ : List ℕ} {a : Aim}
+    (d : Aimed bounds recs pairs targets s c work64 work32 least into other m n work64₁ a) {work64₂ : List ℕ} {k : ℕ} (ch : Chose recs ops (take (a .end - 8000) (drop 8000 work32)) (a .sweeps) work64₁ fs work64₂ fs′ k) where
+  size₂ : length work64₂ ≡ length work64
+  size₂ = ch .around .size ∙ d .size64
 
-              put-P : Put (P .recs) marks lasts work64′ work32 work32′ (P .regs) o n m
-              put-P = rw (l .recs-are, ev, er, l .regs-are) at pt
+  held₂ : (P : Picture) (G : Facts) → Lists P bounds recs ops s (length work64) (length work32) → Tabled P pairs targets → Held P G work64 work32 → Held P G work64₂ work32
+  held₂ P G l u h = held-same (accepted P (length work64) (length work32) records (l .accepted)) (same-around P l (ch .around) (stamps-is t d)) (d .held P G ops l u h)
 
-              readers-P : Readers (defs-of (P .recs) W) (reads-of (P .recs) (P .ops) W) n lasts
-              readers-P = rw (l .recs-are, l .ops-are) at rd
+  putting-by : {b : Sunk} → Share k (a .least) n b → (b .places ≤ length fs′) × (b .places ≤ 800) × (8000 ≤ length work32)
+  putting-by (none-move h) = let r = room (t .planning .lists) in (omega arith, omega arith, omega (arith, r .words32))
+  putting-by (all-move h i) = let r = room (t .planning .lists) in let e = ch .long in let f = t .planning .along .few in (omega arith, f, omega (arith, r .words32))
 
-              told : Told (P .recs) (P .ops) W regs n (b .run)
-              told = subst (Told (P .recs) (P .ops) W regs n) (sym eb) (al .told)
+  pub putting : {b : Sunk} → b ≡ taken k (a .least) n → (b .places ≤ length fs′) × (b .places ≤ 800) × (8000 ≤ length work32)
+  putting {b} e = putting-by (subst (Share k (a .least) n) (sym e) (shares k (a .least) n))
 
-              regs-long : length regs ≡ P .regs
-              regs-long = length-take-le (P .regs) (drop 8000 work32) (let z = room l in let e = length-drop 8000 work32 in omega (arith, z .words32, z .lent, l .regs-are))
+  module _ {b : Sunk} (e : b ≡ taken k (a .least) n) {work32₁ : List ℕ} (ft : U.Facts fs′ work32 work32₁ (b .places)) where
+    share : Share k (a .least) n b
+    share = subst (Share k (a .least) n) (sym e) (shares k (a .least) n)
 
-              in-chain : (p : ℕ) → p < m → p < n
-              in-chain p i = let z = g .in-x in omega arith
+    behind₁ : drop 8000 work32₁ ≡ drop 8000 work32
+    behind₁ = facts-behind ft (putting e .1)
 
-              word-at : (xs : List ℕ) (p j : ℕ) → p < m → j < 10 → getD (take 8000 xs) (10 * p + j) 0 ≡ getD xs (10 * p + j) 0
-              word-at xs p j i k = getD-take 8000 xs (10 * p + j) 0 (let z = m-few in omega arith)
+    held₃ : (P : Picture) (G : Facts) → Lists P bounds recs ops s (length work64) (length work32) → Tabled P pairs targets → Held P G work64 work32 → Held P G work64₂ work32₁
+    held₃ P G l u h = held-behind l behind₁ (held₂ P G l u h)
 
-              number : (p : ℕ) → getD W′ (10 * p) 0 ≡ cell W p 0
-              unfolding cell
-              number p = let z : 10 * p ≡ 10 * p + 0 = omega arith in ap (λ (k : ℕ). getD W′ k 0) z ∙ cell-first pt p 0 (omega arith)
+    lists₃ : (P : Picture) → Lists P bounds recs ops s (length work64) (length work32) → Lists P bounds recs ops s (length work64₂) (length work32₁)
+    lists₃ P l = lists-of size₂ (ft .size) l
 
-              defs-low : (p : ℕ) → p < n → (r : ℕ) → In r (fact-at (b .run) p .defs) → r < P .regs
-              defs-low p i r j = writes-low (P .recs) (P .regs) (cell W p 0) (al .safe .good p i .fits) r (subst (In r) (told .stands .defs p i) j)
+    numbered-by : {b : Sunk} → Share k (a .least) n b → U.Facts fs′ work32 work32₁ (b .places) → (b .moved ≡ 0 → ⊥) → Numbered (cells fs) work32₁ n
+    numbered-by (none-move h) f z = absurd (z refl)
+    numbered-by (all-move h i) f z = numbered (ch .cells-same) f
 
-              wrote-is : (p : ℕ) → p < m → wrote-at W′ p ≡ getD (fact-at (b .run) p .defs) 0 absent
-              unfolding cell
-              wrote-is p i =
-                  word-at work32′ p 8 i (omega arith) ∙ put-P .wrote p i ∙ sym (word-at work32 p 6 i (omega arith)) ∙ al .written p (in-chain p i)
-                  ∙ ap (λ (fs : List Fact). getD (fact-at fs p .defs) 0 absent) (sym eb)
+    pub uses-asked : Using bounds recs ops s c work64₂ work32₁ (b .moved) (a .into) m n
+    uses-asked =
+        let p = t .planning in
+        record {
+          w = cells fs;
+          planning = record {
+            P = p .P;
+            G = p .G;
+            lists = lists₃ (p .P) (p .lists);
+            held = held₃ (p .P) (p .G) (p .lists) (t .tabled) (p .held);
+            chained = p .chained;
+            along = along-behind behind₁ (p .along);
+            into-block = subst (λ (y : ℕ). y < nblocks (p .P)) (sym (d .into-is)) (p .into-block);
+            in-x = p .in-x;
+          };
+          numbered = numbered-by share ft;
+        }
 
-              -- the row of what is live into the target
-              row-is : (r : ℕ) → r < P .regs → is-in work64′ (64 * o + r) ≡ read-there P b r
-              row-is r i =
-                  let e = l .blocks-are in
-                  let y = into-low in
-                  let z = room l in
-                  let q = row-low {b = into} {w = width (P .regs)} {v = width (length (P .types))} (nblocks P) (omega arith) (omega (arith, z .lent, l .regs-are, l .lent-are)) in
-                  in-below (at-regs P) work64′ work64 rows-same (64 * o + r) (omega (arith, q))
-                  ∙ h .live .row into r (omega arith) (omega arith)
-                  ∙ sym (getD-made (live-in P (b .into)) false 0 (P .regs) r i ∙ ap₂ (live-in P) ei (zero-add r))
+    -- ---- the answer
 
-              last-is : (p : ℕ) → p < m → last-at W′ p ≡ last-use (b .run) (read-there P b) p
-              last-is p i =
-                  word-at work32′ p 7 i (omega arith) ∙ put-P .last p i
-                  ∙ ap (λ (x : ℕ). cond (all (result-test regs work64′ o p) (defs-of (P .recs) W p)) x n) (readers-P .each p (let z = m-few in omega arith))
-                  ∙ sym (last-use-is (view (P .recs) (P .ops) W regs) n (b .run) (told .stands) p (in-chain p i) regs work64′ o (read-there P b)
-                  (λ r j. let k = writes-low (P .recs) (P .regs) (cell W p 0) (al .safe .good p (in-chain p i) .fits) r j in (al .ended .each r (omega (arith, regs-long)), row-is r k)))
+    -- where there is a target: the set, for a picture of these lists
+    module _ (h : 0 < a .least) (P : Picture) (G : Facts) (l : Lists P bounds recs ops s (length work64) (length work32)) (u : Tabled P pairs targets) (hd : Held P G work64 work32) (al : Along P G c (cells fs) work32 n) where
+      abbrev run : List Fact
+      run = run-of P G (chain-in c)
 
-              -- a member writes one register at most
-              few-defs : (p : ℕ) → p < m → member (b .set) p ≡ true → length (fact-at (b .run) p .defs) ≤ 1
-              few-defs p i e =
-                  let q = in-chain p i in
-                  let places = chain-places P (blocks-of c) in
-                  let long = al .long in
-                  let run = run-of P G (chain-in c) in
-                  let it : getD (map (inst (P .recs)) places) p [] ≡ inst (P .recs) (cell W p 0) = getD-map (inst (P .recs)) 0 [] places p (omega arith) ∙ ap (inst (P .recs)) (sym (al .numbers p q)) in
-                  let k : length (map (inst (P .recs)) places) ≡ length places = length-map places (inst (P .recs)) in
-                  let f = fact-of G (P .ops) (map (inst (P .recs)) places) p (omega arith) in
-                  let moves : T (movable (fact G (P .ops) (take p run) (getD (map (inst (P .recs)) places) p []) .does .class)) =
-                  true-T (movable (fact G (P .ops) (take p run) (getD (map (inst (P .recs)) places) p []) .does .class))
-                  (ap (λ (y : Fact). movable (y .does .class)) (sym f) ∙ subst (λ (fs : List Fact). movable (fact-at fs p .does .class) ≡ true) eb (em p e)) in
-                  let may : T (may-move (row (kind (inst (P .recs) (cell W p 0))) .arm)) =
-                  subst (λ (j : Inst). T (may-move (row (kind j) .arm))) it (fact-moves G (P .ops) (take p run) (getD (map (inst (P .recs)) places) p []) moves) in
-                  let w = al .safe .good p q .known .within .whole in
-                  let d = recs-length P (ok l) in
-                  subst (λ (xs : List ℕ). length xs ≤ 1) (sym (told .stands .defs p q)) (one-write P (inst (P .recs) (cell W p 0)) (ok l .each (cell W p 0) (omega arith)) may)
+      abbrev need : ℕ → Bool
+      need = member (needed-of P into other)
 
-              marked-after : Marked P b m n W′
-              unfolding in-set
-              marked-after = record {
-                stands = record {
-                  long = told .stands .long;
-                  marked = record {
-                    marks = λ p i.
-                        ap (λ (x : ℕ). eqb x 0) (word-at work32′ p 6 i (omega arith) ∙ put-P .mark p i)
-                        ∙ twice-not (eqb (getD marks p 0) 0) ∙ ap not (es p);
-                    lasts = λ p i e. last-is p i;
-                    wrotes = λ p i e.
-                        ap regs-of (wrote-is p i)
-                        ∙ one-reg (P .regs) (let z = room l in omega (arith, z .lent, z .few, l .regs-are)) (fact-at (b .run) p .defs) (few-defs p i e) (defs-low p (in-chain p i));
-                    outside = eo;
-                  };
-                  defs = λ p i. told .stands .defs p i ∙ ap (λ (x : ℕ). writes (inst (P .recs) x)) (sym (number p));
-                  x-recs = λ p i.
-                      number p ∙ al .numbers p (in-chain p i)
-                      ∙ first-places P (blocks-of c) (let z = g .chained .sound .few .least in omega (arith, blocks-long (g .chained .sound .few))) p
-                      (subst (λ (x : ℕ). p < size P x - 1) (sym (fx .first)) (let z = fx .inside in omega arith))
-                      ∙ ap (λ (x : ℕ). starts P x + p) (fx .first);
-                };
-                lasts = λ p i.
-                    let z = m-few in
-                    let y = al .few in
-                    let u : use-of (P .recs) W regs work64′ o lasts n p < 4096 =
-                    cond-low (all (result-test regs work64′ o p) (defs-of (P .recs) W p))
-                    (let x = readers-P .each p (omega arith) in let v = reader-low (defs-of (P .recs) W) (reads-of (P .recs) (P .ops) W) n p (omega arith) y in omega arith) (omega arith) in
-                    subst (λ (x : ℕ). x < 4096) (sym (word-at work32′ p 7 i (omega arith) ∙ put-P .last p i)) u;
-                wrotes = λ p i k.
-                    subst (λ (x : ℕ). x < P .regs) (sym (wrote-is p i))
-                    (head-low (P .regs) (fact-at (b .run) p .defs) (defs-low p (in-chain p i)) (λ e. k (wrote-is p i ∙ e)));
-              }
+      best : Greatest (P .recs) (P .ops) (cells fs) (copied-words P work32) work64₁ (row-at s) (marks n fs′) m n least k
+      best =
+          rw (l .recs-are, l .ops-are) at
+          (subst (λ (rs : List ℕ). Greatest recs ops (cells fs) rs work64₁ (row-at s) (marks n fs′) m n least k) (regs-are t d h P l)
+          (subst (λ (z : Cycle). Greatest recs ops (cells fs) (take (a .end - 8000) (drop 8000 work32)) work64₁ (z .o) (marks (z .n) fs′) (z .m) (z .n) (z .least) k) (d .on h .1) (ch .set)))
 
-          pub put-plan : PutPlan bounds recs ops s c marks work64 work32 into m n work64′ work32′
-          put-plan = record {
-            size64 = ar .size;
-            size32 = pt .size;
-            held = λ P G l h. held-after P l G h;
-            numbers = λ p. cell-first pt p 0 (omega arith);
-            marked = λ P G b l h al fx ei eb es eo em. marked-after P l G b h al fx ei eb es eo em;
-          }
+      row : Row work64₁ (row-at s) (length (copied-words P work32)) need
+      row = subst (λ (x : ℕ). Row work64₁ (row-at s) x need) (sym (regs-long t d P l)) (d .row h P G ops l u hd)
+
+      too-few : k < least → count (greatest run need m) < least
+      too-few i = best .few i run need (al .told) row
+
+      total : least ≤ k → k ≡ count (greatest run need m)
+      total i = best .count i run need (al .told) row
+
+      set-is : least ≤ k → (p : ℕ) → in-set (marks n fs′) p ≡ member (greatest run need m) p
+      set-is i = best .set i run need (al .told) row
+
+    module _ {work64₃ work32₃ : List ℕ} (us : Used bounds recs ops s c work64₂ work32₁ (b .moved) (a .into) m n work64₃ work32₃) where
+      unwanted-by : {b : Sunk} → Share k (a .least) n b → least ≡ 0 → b .moved ≡ 0
+      unwanted-by (none-move h) z = refl
+      unwanted-by (all-move h i) z = let y = d .on h .0 in absurd (omega arith)
+
+      still-by : {b : Sunk} → Share k (a .least) n b → U.Facts fs′ work32 work32₁ (b .places) → b .moved ≡ 0 → work32₁ ≡ work32
+      still-by (none-move h) f z = facts-still f
+      still-by (all-move h i) f z = absurd (omega arith)
+
+      none-by : {b : Sunk} → Share k (a .least) n b → 0 < least → (P : Picture) (G : Facts) (x : ℕ) → Lists P bounds recs ops s (length work64) (length work32) → Tabled P pairs targets → Held P G work64 work32
+          → Along P G c (cells fs) work32 n → FromX P c x m → b .moved ≡ 0 → plan P (run-of P G (chain-in c)) x (chain-in c) least into other ≡ none
+      none-by (none-move h) some? P G x l u hd al fx z = ⊎-elim
+          (λ (y : a .least ≡ 0). plan-off P (run-of P G (chain-in c)) x (chain-in c) least into other (d .no-target y some? P G ops l hd))
+          (λ (y : 0 < a .least).
+          let q = d .on y .0 in
+          let i : k < least = ⊎-elim (λ (v : a .least ≡ 0). absurd (omega arith)) (λ (v : k < a .least). omega arith) h in
+          plan-few P (run-of P G (chain-in c)) x (chain-in c) least into other (d .target y P G ops l hd)
+          (subst (λ (y : ℕ). count (greatest (run-of P G (chain-in c)) (member (needed-of P into other)) y) < least) (fx .inside) (too-few y P G l u hd al i)))
+          (some-or (a .least))
+      none-by (all-move h i) some? P G x l u hd al fx z = absurd (omega arith)
+
+      some-by : {b : Sunk} → Share k (a .least) n b → U.Facts fs′ work32 work32₁ (b .places) → Used bounds recs ops s c work64₂ work32₁ (b .moved) (a .into) m n work64₃ work32₃
+          → (P : Picture) (G : Facts) (x : ℕ) → Lists P bounds recs ops s (length work64) (length work32) → Tabled P pairs targets → Held P G work64 work32
+          → Along P G c (cells fs) work32 n → FromX P c x m → (b .moved ≡ 0 → ⊥)
+          → (v : Plan) × (plan P (run-of P G (chain-in c)) x (chain-in c) least into other ≡ some v) × (b .moved ≡ count (v .set)) × Marked P v m n (chain-words work32₃)
+          × ((j : ℕ) → j < n → cell (chain-words work32₃) j 0 ≡ getD (chain-places P (blocks-of c)) j 0)
+      some-by (none-move h) f v P G x l u hd al fx z = absurd (z refl)
+      some-by (all-move h i) f v P G x l u hd al fx z =
+          let run : List Fact = run-of P G (chain-in c) in
+          let need : ℕ → Bool = member (needed-of P into other) in
+          let enough : least ≤ k = let q = d .on h .0 in omega arith in
+          let same-set : greatest run need m ≡ greatest run need (size P x - 1) = ap (greatest run need) (fx .inside) in
+          let sum : k ≡ count (set-for P run x into other) = total h P G l u hd al enough ∙ ap count same-set in
+          let low : m ≡ size P x - 1 = fx .inside in
+          let it : Plan = made P run x (chain-in c) least into other in
+          let few = al .few in
+          let nu = numbered (ch .cells-same) f in
+          let la : Lasts P it m work32₃ = v .lasts z P G (cells fs) it (lists₃ P l) (held₃ P G l u hd) (along-behind behind₁ al) nu (sym (d .into-is)) refl in (
+            it,
+            plan-on P run x (chain-in c) least into other (d .target h P G ops l hd) (subst (λ (y : ℕ). least ≤ y) sum enough),
+            sum,
+            marked-after (ch .cells-same) f work32₃ (v .others) few l (t .planning .chained .sound .few) al (t .planning .in-x) it fx refl la
+                (λ y. set-is h P G l u hd al enough y ∙ ap (λ (S : List Bool). member S y) same-set)
+                (λ y q. not-true-is-false (member (set-for P run x into other) y)
+                (λ r. let o = greatest-movable run need (size P x - 1) y (true-T (member (set-for P run x into other) y) r) .0 in omega arith))
+                (λ y r. T-true (movable (fact-at run y .does .class)) (greatest-movable run need (size P x - 1) y (true-T (member (set-for P run x into other) y) r) .1)),
+            λ y q. number-cell (ch .cells-same) f work32₃ (v .others) few y q ∙ al .numbers y q,
+          )
+
+      pub planned : PlanTried bounds recs ops pairs targets s c (cells fs) work64 work32 least into other m n work64₃ work32₃ (b .moved) × (cells fs′ ≡ cells fs)
+      planned = (
+        record {
+          size64 = us .size64 ∙ size₂;
+          size32 = us .size32 ∙ ft .size;
+          held = λ P G l u h. us .held P G (lists₃ P l) (held₃ P G l u h);
+          behind = us .behind ∙ behind₁;
+          unwanted = unwanted-by share;
+          still = λ z. us .still z ∙ still-by share ft z;
+          none-is = none-by share;
+          some-is = some-by share ft us;
+        },
+        ch .cells-same,
+      )

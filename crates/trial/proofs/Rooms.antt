@@ -10,7 +10,7 @@ use lib.ListN.{getD, length, take, drop, length-drop}
 use lib.Seq.{length-take-le}
 use Rattle.words.proofs.Parts.{getD-part, row-fits}
 use Rattle.model.specs.Picture.{Picture, nblocks}
-use Rattle.model.specs.Refusal.{refusal}
+use Rattle.model.specs.Refusal.{records, refusal}
 use Rattle.model.specs.Analyse.{Facts}
 use Rattle.laws.proofs.Accepted.{Accepted, accepted, work-room}
 use Rattle.laws.proofs.Sizes.{few-blocks, few-types, regs-lent}
@@ -31,10 +31,10 @@ pub record Room (B R K w64 w32 : ℕ) : Type 0 where
   pub words64 : 4 * B * width K + 2 * K ≤ w64
   pub words32 : 8 * K + 16 * B + 8000 ≤ w32
 
-pub room-of : (P : Picture) (w64 w32 : ℕ) → refusal P w64 w32 ≡ 0 → Room (nblocks P) (P .regs) (length (P .types)) w64 w32
+pub room-of : (P : Picture) (w64 w32 : ℕ) → refusal P w64 w32 records ≡ 0 → Room (nblocks P) (P .regs) (length (P .types)) w64 w32
 room-of P w64 w32 e =
-    let ok = accepted P w64 w32 e in
-    let z = work-room P w64 w32 e in
+    let ok = accepted P w64 w32 records e in
+    let z = work-room P w64 w32 records e in
     let l = regs-lent P ok in
     let wide : width (P .regs) ≤ width (length (P .types)) = omega arith in
     record {

@@ -9,7 +9,7 @@ use lib.ListN.{getD, length, take, drop}
 use lib.Seq.{drop-drop, getD-take, getD-drop}
 use Rattle.words.proofs.Parts.{getD-part, row-fits}
 use Rattle.model.specs.Picture.{Picture, nblocks}
-use Rattle.model.specs.Refusal.{refusal}
+use Rattle.model.specs.Refusal.{records, refusal}
 use Rattle.model.specs.Analyse.{Facts}
 use Rattle.laws.proofs.Accepted.{Accepted, accepted, work-room}
 use Rattle.laws.proofs.Sizes.{regs-lent}
@@ -118,15 +118,15 @@ firm-back P ok k xs ys h e = record {
 -- ---- the rows as `flow` has them
 
 -- they have room
-pub rows-room : (P : Picture) (w64 w32 : ℕ) → refusal P w64 w32 ≡ 0 → 3 * nblocks P * width (P .regs) + width (P .regs) ≤ w64
+pub rows-room : (P : Picture) (w64 w32 : ℕ) → refusal P w64 w32 records ≡ 0 → 3 * nblocks P * width (P .regs) + width (P .regs) ≤ w64
 rows-room P w64 w32 e =
-    let l = regs-lent P (accepted P w64 w32 e) in
+    let l = regs-lent P (accepted P w64 w32 records e) in
     let wide : width (P .regs) ≤ width (length (P .types)) = omega arith in
     let few : width (P .regs) ≤ 2 * length (P .types) = omega arith in
     let a = mul-le-mul-left (nblocks P) wide in
     let b = mul-assoc 4 (nblocks P) (width (length (P .types))) in
     let c = mul-assoc 3 (nblocks P) (width (P .regs)) in
-    let d = work-room P w64 w32 e .0 in
+    let d = work-room P w64 w32 records e .0 in
     omega arith
 
 module _ (P : Picture) {bounds recs ops : List ℕ} {w : ℕ} (eb : bounds ≡ P .bounds) (er : recs ≡ P .recs) (eo : ops ≡ P .ops) (ew : w ≡ width (P .regs)) {b : ℕ} (bits : List ℕ) where

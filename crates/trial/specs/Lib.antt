@@ -1,4 +1,5 @@
 pub mod Work
 pub mod Puts
 pub mod Along
+pub mod Target
 pub mod Trial

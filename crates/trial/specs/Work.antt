@@ -5,7 +5,7 @@ use mathlib.Core.List.{List}
 use Prim.Native.Nat.{ℕ, _+_, _*_, _/_, _≤_, _<_}
 use lib.ListN.{length, take, drop}
 use Rattle.model.specs.Picture.{Picture, nblocks}
-use Rattle.model.specs.Refusal.{refusal}
+use Rattle.model.specs.Refusal.{records, refusal}
 use Rattle.model.specs.Analyse.{Facts}
 use Rattle.flow.specs.Live.{Live, Rows}
 use Rattle.chains.specs.Chain.{Preds}
@@ -58,9 +58,9 @@ pub record Held (P : Picture) (G : Facts) (work64 work32 : List ℕ) : Type 0 wh
 
 -- ---- the picture that is lent
 
--- P is accepted with work slices of these lengths, these are its lists, and s its sizes
+-- P is accepted with work slices of these lengths and records enough, these are its lists, and s its sizes
 pub record Lists (P : Picture) (bounds recs ops : List ℕ) (s : Sizes) (w64 w32 : ℕ) : Type 0 where
-  pub accepted : refusal P w64 w32 ≡ 0
+  pub accepted : refusal P w64 w32 records ≡ 0
   pub bounds-are : bounds ≡ P .bounds
   pub recs-are : recs ≡ P .recs
   pub ops-are : ops ≡ P .ops

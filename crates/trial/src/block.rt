@@ -3,13 +3,18 @@ use crate::learn::learn;
 use crate::sizes::Sizes;
 use crate::target::plan;
 use chains::chain::Chain;
+use facts::Fact;
 use inst::record::wide;
 use plan::set::Sink;
 use worth::look::replays;
 ghost use mathlib.Core.Path.{_≡_};
-ghost use Prim.Native.Nat.{_<_};
+ghost use mathlib.Core.Bool.{_||_};
+ghost use Prim.Native.Nat.{_+_, _-_, _*_, _<_, _≤_};
+ghost use lib.ListN.{length, getD};
+ghost use Rattle.words.specs.Lists.{mem};
+ghost use Rattle.model.specs.Move.{minimum};
 ghost use Rattle.inst.specs.Table.{rows};
-ghost use Rattle.trial.specs.Trial.{Choosing, Choice, Following, Followed};
+ghost use Rattle.trial.specs.Trial.{else-least, found, Following, Followed};
 
 // From and into which block; the positions of the chain that are in the first one, but for its last, and of the whole chain; how
 // many of them move.
@@ -26,84 +31,66 @@ pub enum MaybeMove {
     Not,
 }
 
-// The move from block x along chain c, into t or else into f, of at least `least` members. The chain has n positions, m of them in x.
-fn try_targets<'a>(
-    t: &[u32; 202],
-    bounds: &[u32],
-    recs: &'a [u32],
-    ops: &[u32],
-    pairs: &[u32],
-    targets: &'a [u32],
-    work64: &mut [u64],
-    work32: &mut [u32],
-    s: Sizes,
-    x: usize,
-    c: Chain,
-    least: u32,
-    m: usize,
-    n: usize,
-) -> MaybeMove
-    requires { ⌜ (now t ≡ rows) × Choosing (now bounds) (now recs) (now ops) (now pairs) (now targets) s c (now work64) (now work32) m n × (0 < least) ⌝ }
-    ensures { λ r. ⌜ Choice (now (bounds .entry)) (now (recs .entry)) (now (ops .entry)) (now (pairs .entry)) (now (targets .entry)) s x c (now (work64 .entry)) (now (work32 .entry)) least m n (now (work64 .exit)) (now (work32 .exit)) r ⌝ }
+// The positions that are in the first block, but for its last, and the fewest members that a move has.
+pub struct Ask {
+    pub inside: usize,
+    pub least: u32,
+}
+
+fn wanted(bounds: &[u32], replay: &[u32], x: usize, c: Chain) -> Ask
+    requires { ⌜ (x < 4096) × (2 * x + 1 < length (now bounds)) × (getD (now bounds) (2 * x) 0 < getD (now bounds) (2 * x + 1) 0) ⌝ }
+    ensures { λ r. ⌜ (r .inside ≡ getD (now (bounds .entry)) (2 * x + 1) 0 - getD (now (bounds .entry)) (2 * x) 0 - 1) × (r .least ≡ minimum (mem (c .t .0) (now (replay .entry)) || mem (c .f .0) (now (replay .entry)))) ⌝ }
 {
     let a = c.t;
     let b = c.f;
-    let k = plan(
-        t,
-        bounds,
-        recs,
-        ops,
-        pairs,
-        targets,
-        work64,
-        work32,
-        s,
-        c,
-        least,
-        a,
-        b,
-        m,
-        n,
-    );
+    let inside = wide(bounds[2 * x + 1] - bounds[2 * x]) - 1;
+    let least = Sink::minimum(replays(replay, a.0, b.0));
+    Ask {
+        inside: inside,
+        least: least,
+    }
+}
+
+// The fewest for f: none is wanted once k move into t.
+fn else_least(k: u32, least: u32) -> u32
+    ensures { λ r. ⌜ r ≡ else-least k least ⌝ }
+{
+    if k == 0 {
+        return least;
+    }
+    0
+}
+
+// k members move into t, or else l into f.
+fn found(x: usize, c: Chain, m: usize, n: usize, k: u32, l: u32) -> MaybeMove
+    ensures { λ r. ⌜ r ≡ found x c m n k l ⌝ }
+{
+    let a = c.t;
+    let b = c.f;
     if 0 < k {
-        return MaybeMove::Is(Move {
+        let mv = Move {
             from: x,
             into: a.at(),
             inside: m,
             places: n,
             moved: k,
-        });
+        };
+        return MaybeMove::Is(mv);
     }
-    let l = plan(
-        t,
-        bounds,
-        recs,
-        ops,
-        pairs,
-        targets,
-        work64,
-        work32,
-        s,
-        c,
-        least,
-        b,
-        a,
-        m,
-        n,
-    );
     if 0 < l {
-        return MaybeMove::Is(Move {
+        let mv = Move {
             from: x,
             into: b.at(),
             inside: m,
             places: n,
             moved: l,
-        });
+        };
+        return MaybeMove::Is(mv);
     }
     MaybeMove::Not
 }
 
-// The move from block x along chain c, which is worth a look.
+// The move from block x along chain c, which is worth a look. The facts along it are left in the list, marked for the target tried last.
 pub fn try_chain<'a>(
     t: &[u32; 202],
     bounds: &[u32],
@@ -114,19 +101,17 @@ pub fn try_chain<'a>(
     replay: &[u32],
     work64: &mut [u64],
     work32: &mut [u32],
+    facts: &mut [Fact],
     s: Sizes,
     x: usize,
     c: Chain,
 ) -> MaybeMove
-    requires { ⌜ (now t ≡ rows) × Following (now bounds) (now recs) (now ops) (now pairs) (now targets) (now replay) s x c (now work64) (now work32) ⌝ }
+    requires { ⌜ (now t ≡ rows) × Following (now bounds) (now recs) (now ops) (now pairs) (now targets) (now replay) s x c (now work64) (now work32) × (800 ≤ length (now facts)) ⌝ }
     ensures { λ r. ⌜ Followed (now (bounds .entry)) (now (recs .entry)) (now (ops .entry)) (now (pairs .entry)) (now (targets .entry)) (now (replay .entry)) s x c (now (work64 .entry)) (now (work32 .entry)) (now (work64 .exit)) (now (work32 .exit)) r ⌝ }
 {
-    let a = c.t;
-    let b = c.f;
-    let n = learn(t, bounds, recs, ops, work64, work32, s, c);
-    let m = wide(bounds[2 * x + 1] - bounds[2 * x]) - 1;
-    let least = Sink::minimum(replays(replay, a.0, b.0));
-    try_targets(
+    let n = learn(t, bounds, recs, ops, work64, work32, facts, s, c);
+    let w = wanted(bounds, replay, x, c);
+    let k = plan(
         t,
         bounds,
         recs,
@@ -135,11 +120,33 @@ pub fn try_chain<'a>(
         targets,
         work64,
         work32,
+        facts,
         s,
-        x,
+        c,
+        w.least,
+        c.t,
+        c.f,
+        w.inside,
+        n,
+    );
+    let least = else_least(k, w.least);
+    let l = plan(
+        t,
+        bounds,
+        recs,
+        ops,
+        pairs,
+        targets,
+        work64,
+        work32,
+        facts,
+        s,
         c,
         least,
-        m,
+        c.f,
+        c.t,
+        w.inside,
         n,
-    )
+    );
+    found(x, c, w.inside, n, k, l)
 }

@@ -1,10 +1,10 @@
-// The facts along the chain (01, "The legal set"), in the lent words: ten a position, and a copy of the words of the registers in
+// The facts along the chain (01, "The legal set"), a record a position in the lent list, and a copy of the words of the registers in
 // use, last writers and flags, which the set is found by while the 64-bit slice takes its stamps.
 use crate::sizes::Sizes;
 use crate::sizes::at_regs;
 use analyse::along::analyse;
 use chains::chain::Chain;
-use inst::record::wide;
+use facts::Fact;
 ghost use mathlib.Core.Path.{_≡_};
 ghost use Prim.Native.Nat.{_+_, _*_, _≤_, _<_};
 ghost use lib.ListN.{length};
@@ -32,22 +32,22 @@ pub fn learn(
     ops: &[u32],
     work64: &mut [u64],
     work32: &mut [u32],
+    facts: &mut [Fact],
     s: Sizes,
     c: Chain,
 ) -> usize
-    requires { ⌜ (now t ≡ rows) × Learning (now bounds) (now recs) (now ops) s c (now work64) (now work32) ⌝ }
-    ensures { λ n. ⌜ Learnt (now (bounds .entry)) (now (recs .entry)) (now (ops .entry)) s c (now (work64 .entry)) (now (work32 .entry)) (now (work64 .exit)) (now (work32 .exit)) n ⌝ }
+    requires { ⌜ (now t ≡ rows) × Learning (now bounds) (now recs) (now ops) s c (now work64) (now work32) (now facts) ⌝ }
+    ensures { λ n. ⌜ Learnt (now (bounds .entry)) (now (recs .entry)) (now (ops .entry)) s c (now (work64 .entry)) (now (work32 .entry)) (now (work64 .exit)) (now (work32 .exit)) (now (facts .exit)) n ⌝ }
 {
-    let k = s.lent;
-    let r = wide(s.regs);
+    let r = s.regs as usize;
     let a = at_regs(s);
-    let e = a + k;
+    let e = a + s.lent;
     let n = analyse(
         t,
         recs,
         ops,
         &mut work64[a..e],
-        &mut work32[..8000],
+        facts,
         bounds,
         c,
         s.blocks,
@@ -55,5 +55,5 @@ pub fn learn(
         s.insts,
     );
     copy_regs(work64, work32, a, r);
-    wide(n)
+    n as usize
 }

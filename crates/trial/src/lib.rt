@@ -4,4 +4,4 @@ pub mod sizes; // sizes.rt: the sizes of what is lent
 pub mod learn; // learn.rt: the facts along the chain
 pub mod marks; // marks.rt: the chain's words for the move
 pub mod target; // target.rt: the plan for one target
-pub mod block; // block.rt: the move from a block along its chain
+pub mod block; // block.rt: the move from a block

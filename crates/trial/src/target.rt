@@ -1,66 +1,134 @@
 // The plan for one target (01, "A round" and "The legal set"; 000's `plan`): is it a target, and has the greatest legal set enough
 // members?
-use crate::marks::put_plan;
+use crate::marks::put_facts;
+use crate::marks::put_uses;
 use crate::sizes::Sizes;
+use crate::sizes::at_regs;
 use crate::sizes::width;
 use chains::chain::Chain;
+use facts::Fact;
 use inst::index::BlockId;
 use inst::record::wide;
 use plan::set::legal_set;
+use plan::settle::Cycle;
 use worth::needed::put_needed;
 ghost use mathlib.Core.Path.{_≡_};
+ghost use mathlib.Core.Bool.{true, false};
 ghost use Prim.Native.Nat.{_+_, _*_, _≤_, _<_};
-ghost use lib.ListN.{length, replicate};
+ghost use lib.ListN.{length};
 ghost use Rattle.inst.specs.Table.{rows};
-ghost use Rattle.trial.specs.Along.{Trying, SetFound, PlanTried};
+ghost use Rattle.analyse.specs.Cells.{cells};
+ghost use Rattle.trial.specs.Target.{from-start, taken, Aiming, Aimed, Trying, PlanTried};
 
-// The greatest legal set for target `into`, as marks, all 0 before, unless it has fewer members than `least`. Says how many are
-// marked.
-fn find_set<'a>(
+// What is asked of the set: the fewest members that move, or 0 where there is nothing to do; the block that they move into; where the
+// copied words of the registers end; the sweeps.
+pub struct Aim {
+    pub least: u32,
+    pub into: usize,
+    pub end: usize,
+    pub sweeps: Cycle,
+}
+
+// How many members move, and of how many positions the words are written.
+pub struct Sunk {
+    pub moved: u32,
+    pub places: usize,
+}
+
+// The sweeps, from the start on.
+fn from_start(o: usize, s: usize, m: usize, n: usize, least: u32) -> Cycle
+    ensures { λ r. ⌜ r ≡ from-start o s m n least ⌝ }
+{
+    Cycle {
+        go: true,
+        first: true,
+        ahead: false,
+        quiet: false,
+        done: false,
+        o: o,
+        s: s,
+        m: m,
+        n: n,
+        least: least,
+        left: 0,
+    }
+}
+
+// Is `into` a target, and is a move of at least `least` members wanted (not 0)? Then the row of the registers needed elsewhere is put;
+// else the sweeps are over no positions and no registers.
+fn take_aim<'a>(
     t: &[u32; 202],
     bounds: &[u32],
     recs: &'a [u32],
-    ops: &[u32],
     pairs: &[u32],
     targets: &'a [u32],
     work64: &mut [u64],
     work32: &[u32],
-    marks: &mut [u32; 800],
     s: Sizes,
+    c: Chain,
     least: u32,
-    into: usize,
-    other: usize,
+    into: BlockId,
+    other: BlockId,
     m: usize,
     n: usize,
-    c: Chain,
-) -> u32
-    requires { ⌜ (now t ≡ rows) × Trying (now bounds) (now recs) (now ops) (now pairs) (now targets) s c (now work64) (now work32) into other m n × (now marks ≡ replicate 800 0) ⌝ }
-    ensures { λ r. ⌜ SetFound (now (bounds .entry)) (now (recs .entry)) (now (ops .entry)) (now (pairs .entry)) (now (targets .entry)) s c (now (work64 .entry)) (now (work32 .entry)) least into other m n (now (work64 .exit)) (now (marks .exit)) r ⌝ }
+) -> Aim
+    requires { ⌜ (now t ≡ rows) × Aiming (now bounds) (now recs) (now pairs) (now targets) s c (now work64) (now work32) (into .0) (other .0) ⌝ }
+    ensures { λ r. ⌜ Aimed (now (bounds .entry)) (now (recs .entry)) (now (pairs .entry)) (now (targets .entry)) s c (now (work64 .entry)) (now (work32 .entry)) least (into .0) (other .0) m n (now (work64 .exit)) r ⌝ }
 {
-    let r = wide(s.regs);
     let b = wide(s.blocks);
-    let w = width(r);
+    let w = width(wide(s.regs));
     let o = b * w + b * w;
-    let st = 4 * b * width(s.lent) + s.lent;
-    put_needed(t, bounds, recs, pairs, targets, work64, w, into, other);
-    legal_set(
+    let st = at_regs(s) + s.lent;
+    let end = 8000 + wide(s.regs);
+    let k = 8000 + s.lent;
+    let wanted = (least != 0) & c.is_target(&work32[k..], into, s.blocks);
+    if !wanted {
+        let none = from_start(o, st, 0, 0, 1);
+        return Aim {
+            least: 0,
+            into: into.at(),
+            end: 8000,
+            sweeps: none,
+        };
+    }
+    put_needed(
         t,
+        bounds,
         recs,
-        ops,
-        &work32[..8000],
-        &work32[8000..8000 + r],
+        pairs,
+        targets,
         work64,
-        o,
-        st,
-        marks,
-        m,
-        n,
-        least,
-    )
+        w,
+        into.at(),
+        other.at(),
+    );
+    let all = from_start(o, st, m, n, least);
+    Aim {
+        least: least,
+        into: into.at(),
+        end: end,
+        sweeps: all,
+    }
 }
 
-// How many members move into `into`, `other` being the other branch; 0 where that is no target or there are too few. The chain's
-// words then say which, with their last uses and the registers they write.
+// Of a set of k members all move, or none where there is nothing to do or they are too few.
+fn taken(k: u32, a: Aim, n: usize) -> Sunk
+    ensures { λ r. ⌜ r ≡ taken k (a .least) n ⌝ }
+{
+    if (a.least == 0) | (k < a.least) {
+        return Sunk {
+            moved: 0,
+            places: 0,
+        };
+    }
+    Sunk {
+        moved: k,
+        places: n,
+    }
+}
+
+// How many members move into `into`, `other` being the other branch; 0 where that is no target, none are wanted (`least` 0) or there are
+// too few. The chain's words then say which, with their last uses and the registers they write.
 pub fn plan<'a>(
     t: &[u32; 202],
     bounds: &[u32],
@@ -70,6 +138,7 @@ pub fn plan<'a>(
     targets: &'a [u32],
     work64: &mut [u64],
     work32: &mut [u32],
+    facts: &mut [Fact],
     s: Sizes,
     c: Chain,
     least: u32,
@@ -78,48 +147,42 @@ pub fn plan<'a>(
     m: usize,
     n: usize,
 ) -> u32
-    requires { ⌜ (now t ≡ rows) × Trying (now bounds) (now recs) (now ops) (now pairs) (now targets) s c (now work64) (now work32) (into .0) (other .0) m n × (0 < least) ⌝ }
-    ensures { λ r. ⌜ PlanTried (now (bounds .entry)) (now (recs .entry)) (now (ops .entry)) (now (pairs .entry)) (now (targets .entry)) s c (now (work64 .entry)) (now (work32 .entry)) least (into .0) (other .0) m n (now (work64 .exit)) (now (work32 .exit)) r ⌝ }
+    requires { ⌜ (now t ≡ rows) × Trying (now bounds) (now recs) (now ops) (now pairs) (now targets) s c (cells (now facts)) (now work64) (now work32) (into .0) (other .0) m n × (n ≤ length (now facts)) ⌝ }
+    ensures { λ r. ⌜ PlanTried (now (bounds .entry)) (now (recs .entry)) (now (ops .entry)) (now (pairs .entry)) (now (targets .entry)) s c (cells (now (facts .entry))) (now (work64 .entry)) (now (work32 .entry)) least (into .0) (other .0) m n (now (work64 .exit)) (now (work32 .exit)) r × (cells (now (facts .exit)) ≡ cells (now (facts .entry))) ⌝ }
 {
-    let k = 8000 + s.lent;
-    if !c.is_target(&work32[k..], into, s.blocks) {
-        return 0;
-    }
-    let mut marks = [0u32; 800];
-    let moved = find_set(
+    let a = take_aim(
         t,
         bounds,
         recs,
-        ops,
         pairs,
         targets,
         work64,
         work32,
-        &mut marks,
         s,
+        c,
         least,
-        into.at(),
-        other.at(),
+        into,
+        other,
         m,
         n,
-        c,
     );
-    if moved < least {
-        return 0;
-    }
-    put_plan(
+    let e = a.end;
+    let k = legal_set(t, recs, ops, &work32[8000..e], work64, facts, a.sweeps);
+    let b = taken(k, a, n);
+    put_facts(facts, work32, b.places);
+    put_uses(
         t,
         bounds,
         recs,
         ops,
         work64,
         work32,
-        &marks,
         s,
         c,
-        into.at(),
+        b.moved,
+        a.into,
         m,
         n,
     );
-    moved
+    b.moved
 }

@@ -1,9 +1,7 @@
 -- `trial::marks::find_readers` meets its contract. Assumes nothing.
-use borrow.Author.Needs.{needs}
-use mathlib.Core.Path.{sym}
-use lib.Seq.{length-take-le}
-use Rattle.plan.proofs.Summing.{safe-len}
+use Rattle.plan.proofs.Going.{legible-on}
 use Rattle.trial.proofs.Putting.{part-long, around-part}
+use borrow.Author.Needs.{needs}
 use Rattle.trial.proofs.marks.find_readers.Statement.{statement}
 use Rattle.trial.proofs.marks.find_readers.Tie as tie
 
@@ -12,9 +10,6 @@ add-e c = search needs
 
 own-places-requires : tie.Need-own-places-requires
 own-places-requires c κs = search needs
-
-slice-aggregate-last-readers : tie.Need-slice-aggregate-last-readers
-slice-aggregate-last-readers c = sym (length-take-le 8000 (c .before .before .before .before .before .before .before .args .work32 .now) (c .before .before .before .before .before .before .before .pre .1 .chain))
 
 mul-last-readers : tie.Need-mul-last-readers
 mul-last-readers c = search needs
@@ -29,13 +24,13 @@ part-last-readers-end : tie.Need-part-last-readers-end
 part-last-readers-end c = search needs
 
 last-readers-requires : tie.Need-last-readers-requires
-last-readers-requires c κs = let p = c .before .before .before .before .before .before .before .before .before .pre in (p .0, safe-len (p .1 .safe) (part-long (c .before .before .before .before .before .before .before .before .before .args .st) (c .before .before .before .before .before .before .before .before .before .args .r) (c .before .before .before .before .before .before .before .before .before .args .work64 .now) (p .1 .room)), p .1 .brief, c .before .before .before .own-places .ensures .size, c .before .before .before .own-places .ensures .each)
+last-readers-requires c κs = let p = c .before .before .before .before .before .before .before .before .pre in let a = c .before .before .before .before .before .before .before .before .args in (p .0, legible-on (p .1) (part-long (a .st) (a .r) (a .work64 .now) (p .2)), c .before .before .own-places .ensures .size, c .before .before .own-places .ensures .each)
 
 same-length : tie.Need-same-length
 same-length c = search needs
 
 returns : tie.Need-returns
-returns c = let a = c .before .before .before .before .before .before .before .before .before .before .before .before .args in (c .before .before .last-readers .ensures .0, around-part (a .st) (a .r) (a .work64 .now) (c .before .before .last-readers .last .1 .1 .1 .1 .0) (c .before .before .before .before .before .before .before .before .before .before .before .before .pre .1 .room) (c .before .before .last-readers .ensures .1))
+returns c = let a = c .before .before .before .before .before .before .before .before .before .before .before .args in (c .before .before .last-readers .ensures .0, around-part (a .st) (a .r) (a .work64 .now) (c .before .before .last-readers .last .1 .1 .1 .1 .0) (c .before .before .before .before .before .before .before .before .before .before .before .pre .2) (c .before .before .last-readers .ensures .1))
 
 pub find-readers-spec : {M : Type 1} → statement M
 find-readers-spec =
@@ -43,7 +38,6 @@ find-readers-spec =
     (tie.spec
     add-e
     own-places-requires
-    slice-aggregate-last-readers
     mul-last-readers
     sub-last-readers
     part-last-readers-start

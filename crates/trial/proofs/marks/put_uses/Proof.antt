@@ -1,62 +1,56 @@
 -- `trial::marks::put_uses` meets its contract. Assumes nothing.
-use borrow.Author.Needs.{needs}
-use mathlib.Core.Path.{_≡_, refl, subst}
-use Prim.Native.Nat.{ℕ, _≤_, _-_}
+use mathlib.Core.Path.{refl}
 use native.Mathlib.Omega.{arith}
-use Rattle.trial.specs.Puts.{Put}
-use Rattle.trial.proofs.Putting.{put-none, use-now, put-more}
+use Rattle.trial.proofs.Using.{used-none, plan-room, legible, readers-room, row-inside, use-asked, used}
+use borrow.Author.Needs.{needs}
 use Rattle.trial.proofs.marks.put_uses.Statement.{statement}
 use Rattle.trial.proofs.marks.put_uses.Tie as tie
 
-abbrev Inv-loop : tie.InvT-loop
-Inv-loop t recs ops work64 work32₀ marks lasts r o m n p₀ work32 p = (p ≤ m) × Put recs marks lasts work64 work32₀ work32 r o n p
+returns : tie.Need-returns
+returns c = used-none (c .if1 .taken)
 
-abbrev μ-loop : tie.MeasureT-loop
-μ-loop t recs ops work64 work32₀ marks lasts r o m n p₀ work32 p = m - p
+wide-requires : tie.Need-wide-requires
+wide-requires c κs = search needs
 
-loop-holds : tie.Need-loop-holds Inv-loop μ-loop
-loop-holds c = (omega arith, put-none _ _ _ _ _ _ _ _)
+at-regs-requires : tie.Need-at-regs-requires
+at-regs-requires c κs = let f = plan-room (c .before .before .before .before .before .before .before .pre .1 .planning) in (f .blocks, f .few)
 
-find-use-requires : tie.Need-find-use-requires Inv-loop μ-loop
-find-use-requires c κs = let p = c .before .before .before .before .before .before .before .pre in (p .0, use-now (c .before .before .loop .inv .1) (omega (arith, p .1 .safe .few, c .before .before .loop .inv .0)) (p .1), omega arith)
+add-st : tie.Need-add-st
+add-st c = let f = plan-room (c .before .before .before .before .before .before .before .before .before .pre .1 .planning) in omega (arith, f .few, c .before .at-regs .ensures .1)
 
-mul-put-use : tie.Need-mul-put-use Inv-loop μ-loop
-mul-put-use c = search needs
+find-readers-requires : tie.Need-find-readers-requires
+find-readers-requires c κs = let p = c .before .before .before .before .before .before .before .before .before .before .before .pre in (p .0, legible (p .1 .planning) (c .before .before .before .at-regs .ensures .0) (c .before .before .before .before .wide .ensures), readers-room (p .1 .planning) (c .before .before .before .at-regs .ensures .0) (c .before .before .before .before .wide .ensures), refl)
 
-element-copy-out-put-use : tie.Need-element-copy-out-put-use Inv-loop μ-loop
-element-copy-out-put-use c = let p = c .before .before .before .before .before .before .before .before .before .pre in omega (arith, p .1 .safe .few)
+width-requires : tie.Need-width-requires
+width-requires c κs = let f = plan-room (c .before .before .before .before .before .before .before .before .before .before .before .before .before .before .pre .1 .planning) in omega (arith, f .few, f .lent, c .before .before .before .before .before .before .before .wide .ensures)
 
-put-use-requires : tie.Need-put-use-requires Inv-loop μ-loop
-put-use-requires c κs = let p = c .before .before .before .before .before .before .before .before .before .before .pre in omega (arith, p .1 .safe .few, p .1 .room, c .before .before .before .before .before .loop .inv .1 .size)
+mul-o : tie.Need-mul-o
+mul-o c = omega (arith, row-inside (c .before .before .before .before .before .before .before .before .before .before .before .before .before .before .before .pre .1 .planning) (c .before .before .before .before .before .before .before .at-regs .ensures .0) (c .before .before .before .before .before .before .before .before .wide .ensures) (c .width .ensures), c .before .before .before .before .before .before .before .at-regs .ensures .1)
 
-add-p : tie.Need-add-p Inv-loop μ-loop
-add-p c = search needs
+put-lasts-requires : tie.Need-put-lasts-requires
+put-lasts-requires c κs = let p = c .before .before .before .before .before .before .before .before .before .before .before .before .before .before .before .before .before .before .pre in (p .0, use-asked (p .1 .planning) (c .before .before .before .before .before .before .before .before .before .before .at-regs .ensures .0) (c .before .before .before .before .before .before .before .before .before .before .before .wide .ensures) (c .before .before .before .width .ensures) (c .before .before .before .before .before .before .find-readers .ensures .1) (p .1 .numbered (c .before .before .before .before .before .before .before .before .before .before .before .before .if1 .left)), p .1 .planning .in-x)
 
-loop-less : tie.Need-loop-less Inv-loop μ-loop
-loop-less c = search needs
+same-length : tie.Need-same-length
+same-length c = search needs
 
-loop-again : tie.Need-loop-again Inv-loop μ-loop
-loop-again c = let p = c .before .before .before .before .before .before .before .before .before .before .before .before .before .pre in (omega arith, rw (c .before .before .put-use .ensures) (put-more (c .before .before .before .before .before .before .before .before .loop .inv .1) (omega (arith, p .1 .safe .few)) (omega (arith, p .1 .room)) refl (c .before .before .before .before .before .find-use .ensures)))
+same-length-2 : tie.Need-same-length-2
+same-length-2 c = search needs
 
-same-length : tie.Need-same-length Inv-loop μ-loop
-same-length c = c .before .loop .inv .1 .size
-
-returns : tie.Need-returns Inv-loop μ-loop
-returns c = let e : c .before .loop .p ≡ c .before .before .before .before .before .before .args .m = omega arith in let a = c .before .before .before .before .before .before .args in subst (λ (x : ℕ). Put (a .recs .now) (a .marks .now) (a .lasts .now) (a .work64 .now) (a .work32 .now) (c .before .loop .work32) (a .r) (a .o) (a .n) x) e (c .before .loop .inv .1)
+returns-2 : tie.Need-returns-2
+returns-2 c = let p = c .before .before .before .before .before .before .before .before .before .before .before .before .before .before .before .before .before .before .before .before .before .pre in used (p .1 .planning) (c .before .before .before .before .before .before .before .before .before .before .before .before .before .at-regs .ensures .0) (c .before .before .before .before .before .before .before .before .before .before .before .before .before .before .wide .ensures) (c .before .before .before .before .before .before .width .ensures) (c .before .before .before .before .before .before .before .before .before .find-readers .ensures .1) (c .before .before .before .before .before .before .before .before .before .find-readers .ensures .0) (c .before .before .put-lasts .ensures) (c .before .before .before .before .before .before .before .before .before .before .before .before .before .before .before .if1 .left)
 
 pub put-uses-spec : {M : Type 1} → statement M
 put-uses-spec =
     tie.close
     (tie.spec
-    Inv-loop
-    μ-loop
-    loop-holds
-    find-use-requires
-    mul-put-use
-    element-copy-out-put-use
-    put-use-requires
-    add-p
-    loop-less
-    loop-again
+    returns
+    wide-requires
+    at-regs-requires
+    add-st
+    find-readers-requires
+    width-requires
+    mul-o
+    put-lasts-requires
     same-length
-    returns)
+    same-length-2
+    returns-2)

@@ -1,0 +1,64 @@
+-- `trial::block::wanted` meets its contract. Assumes nothing.
+use mathlib.Core.Path.{ap, _∙_}
+use Prim.Native.Nat.{ℕ, _-_}
+use Rattle.model.specs.Move.{minimum}
+use borrow.Author.Needs.{needs}
+use Rattle.trial.proofs.block.wanted.Statement.{statement}
+use Rattle.trial.proofs.block.wanted.Tie as tie
+
+mul-wide : tie.Need-mul-wide
+mul-wide c = search needs
+
+add-wide : tie.Need-add-wide
+add-wide c = search needs
+
+mul-wide-2 : tie.Need-mul-wide-2
+mul-wide-2 c = search needs
+
+shared-slice-read-wide : tie.Need-shared-slice-read-wide
+shared-slice-read-wide c = search needs
+
+mul-wide-3 : tie.Need-mul-wide-3
+mul-wide-3 c = search needs
+
+mul-wide-4 : tie.Need-mul-wide-4
+mul-wide-4 c = search needs
+
+shared-slice-read-wide-2 : tie.Need-shared-slice-read-wide-2
+shared-slice-read-wide-2 c = search needs
+
+sub-wide : tie.Need-sub-wide
+sub-wide c = search needs
+
+wide-requires : tie.Need-wide-requires
+wide-requires c κs = search needs
+
+sub-inside : tie.Need-sub-inside
+sub-inside c = search needs
+
+replays-requires : tie.Need-replays-requires
+replays-requires c κs = search needs
+
+minimum-requires : tie.Need-minimum-requires
+minimum-requires c κs = search needs
+
+returns : tie.Need-returns
+returns c = (ap (λ (d : ℕ). d - 1) (c .before .before .wide .ensures), c .minimum .ensures ∙ ap minimum (c .before .replays .ensures))
+
+pub wanted-spec : {M : Type 1} → statement M
+wanted-spec =
+    tie.close
+    (tie.spec
+    mul-wide
+    add-wide
+    mul-wide-2
+    shared-slice-read-wide
+    mul-wide-3
+    mul-wide-4
+    shared-slice-read-wide-2
+    sub-wide
+    wide-requires
+    sub-inside
+    replays-requires
+    minimum-requires
+    returns)
