@@ -1,8 +1,1 @@
-pub mod Asked
-pub mod Counted
-pub mod Prepared
-pub mod Renewal
-pub mod Step
-pub mod Going
 pub mod Call
-pub mod Lines

@@ -1,5 +1,1 @@
 pub mod Sink
-pub mod Kept
-pub mod Rounds
-pub mod Going
-pub mod Judge

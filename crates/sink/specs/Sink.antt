@@ -1,137 +1,53 @@
--- 01, "The call": what the call gives and leaves, `model`'s `sink` of the picture on entry; and what each of its parts does. Assumes
--- nothing.
+-- 01, "The call": what the call gives and leaves, `model`'s `sink` of the picture on entry; and what its loop does. Assumes nothing.
 use mathlib.Core.Path.{_≡_}
-use mathlib.Core.Bool.{true, false}
-use mathlib.Core.List.{List, []}
-use mathlib.Core.Option.{some}
-use Prim.Native.Nat.{ℕ, _+_, _*_, _/_, _≤_, _<_}
-use lib.ListN.{getD, length, take, drop}
-use Rattle.words.specs.Lists.{concat, count}
+use mathlib.Core.List.{List}
+use Prim.Native.Nat.{ℕ}
+use lib.ListN.{length}
+use Rattle.facts.specs.declared.Fact.{Fact}
 use Rattle.model.specs.declared.Answer.{Answer}
+use Rattle.model.specs.declared.Answer.the-variants.{Done, Short, Refused}
 use Rattle.model.specs.Picture.{Picture}
 use Rattle.model.specs.Refusal.{refusal}
-use Rattle.model.specs.Analyse.{Facts}
-use Rattle.model.specs.Move.{Plan, apply}
 use Rattle.model.specs.Pass as Pass
-use Rattle.model.specs.Pass.{Outcome, rounds, fits}
+use Rattle.model.specs.Pass.{Outcome, sink}
 use Rattle.picture.specs.Causes.{picture-of}
-use Rattle.apply.specs.declared.needs.Counts.{Counts}
-use Rattle.apply.specs.Apply.{Holds, Stands, Given, Asks, Counted, Fits}
-use Rattle.flow.specs.Drawn.{drawn}
-use Rattle.flow.specs.Live.{Rows}
-use Rattle.trial.specs.declared.block.Move.{Move}
-use Rattle.trial.specs.Work.{width, Begun, chain-words}
-use Rattle.trial.specs.Trial.{Found}
-use Rattle.sink.specs.declared.round.Step.{Step}
-use Rattle.sink.specs.declared.round.Step.the-variants.{Goes, Short}
-use Rattle.sink.specs.declared.round.Line.{Line}
+use Rattle.driver.specs.declared.rounds.At.{At}
+use Rattle.driver.specs.Ended.{Did, Work}
+use Rattle.driver.specs.Going.{Going}
 
--- what the call gives for the picture that is lent as these slices and counts, with work slices of these lengths
-unfoldable pub outcome : (bounds recs locs vias types : List ℕ) (regs : ℕ) (ops : List ℕ) (opers : ℕ) (pairs targets replay : List ℕ) (w64 w32 : ℕ) → Outcome
-outcome bounds recs locs vias types regs ops opers pairs targets replay w64 w32 = Pass.sink (picture-of bounds recs locs vias types regs ops opers pairs targets replay) w64 w32
+-- what the call gives for the picture that is lent as these slices and counts, with work slices of these lengths and so many records
+unfoldable pub outcome : (bounds recs locs vias types : List ℕ) (regs : ℕ) (ops : List ℕ) (opers : ℕ) (pairs targets replay : List ℕ) (w64 w32 nf : ℕ) → Outcome
+outcome bounds recs locs vias types regs ops opers pairs targets replay w64 w32 nf = Pass.sink (picture-of bounds recs locs vias types regs ops opers pairs targets replay) w64 w32 nf
 
 -- the cause for which it is refused, or 0
-unfoldable pub cause : (bounds recs locs vias types : List ℕ) (regs : ℕ) (ops : List ℕ) (opers : ℕ) (pairs targets replay : List ℕ) (w64 w32 : ℕ) → ℕ
-cause bounds recs locs vias types regs ops opers pairs targets replay w64 w32 = refusal (picture-of bounds recs locs vias types regs ops opers pairs targets replay) w64 w32
+unfoldable pub cause : (bounds recs locs vias types : List ℕ) (regs : ℕ) (ops : List ℕ) (opers : ℕ) (pairs targets replay : List ℕ) (w64 w32 nf : ℕ) → ℕ
+cause bounds recs locs vias types regs ops opers pairs targets replay w64 w32 nf = refusal (picture-of bounds recs locs vias types regs ops opers pairs targets replay) w64 w32 nf
 
--- the answer, the lines of its rounds, six words each, and the six slices are those of the outcome o
-pub record Did (o : Outcome) (answer : Answer) (lines bounds recs locs vias types ops : List ℕ) : Type 0 where
-  pub answer-is : answer ≡ o .answer
-  pub lines-are : take (6 * rounds answer) lines ≡ concat (o .lines)
-  pub holds : Holds (o .left) bounds recs locs vias types ops
+-- the registers and operands in use that the answer gives
+abbrev pub registers : Answer → ℕ
+registers (Done u) = u .registers
+registers (Short u) = u .registers
+registers (Refused n) = 0
 
--- the work slices keep their lengths, and where the picture is refused, by cause n, their contents
-pub record Work (n : ℕ) (work64 work32 work64′ work32′ : List ℕ) : Type 0 where
-  pub size64 : length work64′ ≡ length work64
-  pub size32 : length work32′ ≡ length work32
-  pub kept : (n ≡ 0 → ⊥) → (work64′ ≡ work64) × (work32′ ≡ work32)
+abbrev pub operands : Answer → ℕ
+operands (Done u) = u .operands
+operands (Short u) = u .operands
+operands (Refused n) = 0
 
--- ---- the move of a round
+-- the list of records keeps its length, and where the picture is refused, by cause n, its contents
+pub record Lent (n : ℕ) (facts facts′ : List Fact) : Type 0 where
+  pub size : length facts′ ≡ length facts
+  pub kept : (n ≡ 0 → ⊥) → facts′ ≡ facts
 
--- by the facts G, mv is the move of the round, the words of its chain stand for it, and the work slices hold what the call began with
-pub record Sure (P : Picture) (G : Facts) (work64 work32 : List ℕ) (mv : Move) : Type 0 where
-  pub begun : Begun P G work64 work32
-  pub x : ℕ
-  pub found : Found P G x mv (chain-words work32)
-  pub first : Pass.round P G ≡ some (found .a)
+-- ---- from where the search stands to the end of the call, with the list fs of records: each slice, the work slices and the list at the end
 
--- the picture P is accepted, and there are such facts
-pub record Ready (P : Picture) (work64 work32 : List ℕ) (mv : Move) : Type 0 where
-  pub accepted : refusal P (length work64) (length work32) ≡ 0
-  pub G : Facts
-  pub sure : Sure P G work64 work32 mv
-
--- the move mv can be counted: the words of the chain are as the move asks, and the words for new names are there
-pub record Needing (bounds recs types ops work64 work32 : List ℕ) (regs opers insts : ℕ) (mv : Move) : Type 0 where
-  pub asks : Asks (mv .from) (mv .into) (mv .inside) (mv .places) regs opers (length types) insts bounds recs types ops (chain-words work32)
-  pub few-blocks : length bounds / 2 ≤ 4096
-  pub room64 : 4 * (length bounds / 2) * width (length types) + 2 * length types ≤ length work64
-  pub room32 : 8000 ≤ length work32
-
--- c was counted; of the work slices, the words of the chain and those for new names changed
-pub record Needed (bounds recs locs vias types ops work64 work32 : List ℕ) (regs opers : ℕ) (mv : Move) (work64′ work32′ : List ℕ) (c : Counts) : Type 0 where
-  pub size64 : length work64′ ≡ length work64
-  pub size32 : length work32′ ≡ length work32
-  pub before : take (4 * (length bounds / 2) * width (length types) + length types) work64′ ≡ take (4 * (length bounds / 2) * width (length types) + length types) work64
-  pub behind : drop 8000 work32′ ≡ drop 8000 work32
-  pub counted : Counted (mv .from) (mv .into) (mv .inside) (mv .places) regs opers bounds recs locs vias types ops (chain-words work32) (chain-words work32′) (c .regs) (c .opers)
-
--- what move mv, of these counts, comes to where so many registers and operands are lent
-abbrev pub stepped : Move → Counts → ℕ → ℕ → Step → Type 0
-stepped mv c lent room (Goes l) = (c .regs ≤ lent) × (c .opers ≤ room) × (l ≡ record { moved = mv; registers = c .regs; operands = c .opers })
-stepped mv c lent room Short = c .regs ≤ lent → room < c .opers
-
--- the line says what the plan a does to P
-pub record Says (P : Picture) (a : Plan) (l : Line) : Type 0 where
-  pub from-is : l .moved .from ≡ a .x
-  pub into-is : l .moved .into ≡ a .into
-  pub moved-is : l .moved .moved ≡ count (a .set)
-  pub registers-are : l .registers ≡ apply P a .regs
-  pub operands-are : l .operands ≡ apply P a .opers
-
--- what the move comes to, and what the work slices then hold: of a move that fits, all that `apply` takes
-abbrev pub prepared : Picture → Facts → Step → List ℕ → Type 0
-prepared P G (Goes l) w =
-    (a : Plan) × (Pass.round P G ≡ some a) × (fits P (apply P a) ≡ true) × Says P a l
-    × Asks (a .x) (a .into) (l .moved .inside) (l .moved .places) (P .regs) (P .opers) (length (P .types)) (length (P .locs)) (P .bounds) (P .recs) (P .types) (P .ops) w
-    × Fits (a .x) (a .into) (l .moved .inside) (l .moved .places) (P .regs) (P .opers) (P .bounds) (P .recs) (P .types) (P .ops) w
-    × Stands P a (l .moved .inside) (l .moved .places) w × Given P a (l .moved .inside) w
-prepared P G Short w = (a : Plan) × (Pass.round P G ≡ some a) × (fits P (apply P a) ≡ false)
-
-pub record Decided (P : Picture) (work64 work32 : List ℕ) (mv : Move) (r : Step) (work64′ work32′ : List ℕ) : Type 0 where
-  pub size64 : length work64′ ≡ length work64
-  pub size32 : length work32′ ≡ length work32
-  pub begun : (G : Facts) → Begun P G work64 work32 → Begun P G work64′ work32′
-  pub is : (G : Facts) → Sure P G work64 work32 mv → prepared P G r (chain-words work32′)
-
--- the rows of blocks from and into can be made anew: these are the lists of an accepted picture of so many registers in use
-pub record Renewing (bounds recs ops work64 : List ℕ) (was regs from into : ℕ) : Type 0 where
-  pub Q : Picture
+pub record Coming (Q : Picture) (m : At) (work64 work32 : List ℕ) (nf : ℕ) : Type 0 where
+  pub P : Picture
+  pub w64 : ℕ
   pub w32 : ℕ
-  pub accepted : refusal Q (length work64) w32 ≡ 0
-  pub bounds-are : bounds ≡ Q .bounds
-  pub recs-are : recs ≡ Q .recs
-  pub ops-are : ops ≡ Q .ops
-  pub regs-are : regs ≡ Q .regs
-  pub was-few : was ≤ 65536
-  pub from-block : from < length bounds / 2
-  pub into-block : into < length bounds / 2
+  pub going : Going P w64 w32 nf Q m work64 work32
 
--- they were, with rows of w words, which were of v: each block's stand, if those of the other blocks stood where rows are as wide as
--- before; and nothing behind the rows changed
-pub record Renewed (bounds recs ops work64 : List ℕ) (v w from into : ℕ) (work64′ : List ℕ) : Type 0 where
-  pub size : length work64′ ≡ length work64
-  pub behind : (i : ℕ) → 3 * (length bounds / 2) * w + w ≤ i → getD work64′ i 0 ≡ getD work64 i 0
-  pub rows : (b : ℕ) → b < length bounds / 2 → (w ≡ v → (b ≡ from → ⊥) → (b ≡ into → ⊥) → Rows (drawn bounds recs ops [] []) w b work64)
-      → Rows (drawn bounds recs ops [] []) w b work64′
-
--- the picture after it, by what it came to
-abbrev pub next : Picture → Step → (Picture → Type 0) → Facts → Type 0
-next P (Goes l) F G = (a : Plan) × (Pass.round P G ≡ some a) × (fits P (apply P a) ≡ true) × Says P a l × F (apply P a)
-next P Short F G = (a : Plan) × (Pass.round P G ≡ some a) × (fits P (apply P a) ≡ false) × F P
-
--- the slices and the work slices after it, of every facts G by which it is the move
-pub record Stepped (P : Picture) (work64 work32 : List ℕ) (mv : Move) (r : Step) (bounds recs locs vias types ops work64′ work32′ : List ℕ) : Type 0 where
-  pub size64 : length work64′ ≡ length work64
-  pub size32 : length work32′ ≡ length work32
-  pub is : (G : Facts) → Sure P G work64 work32 mv → next P r (λ Q. Holds Q bounds recs locs vias types ops × Begun Q G work64′ work32′) G
+pub record Finished (Q : Picture) (m : At) (work64 work32 : List ℕ) (fs : List Fact) (answer : Answer) (lines bounds recs locs vias types ops work64′ work32′ : List ℕ) (fs′ : List Fact) : Type 0 where
+  pub did : (P : Picture) (w64 w32 : ℕ) → Going P w64 w32 (length fs) Q m work64 work32 → Did (sink P w64 w32 (length fs)) answer lines bounds recs locs vias types ops
+  pub work : (P : Picture) (w64 w32 : ℕ) → Going P w64 w32 (length fs) Q m work64 work32 → Work (refusal P w64 w32 (length fs)) work64 work32 work64′ work32′
+  pub lent : (P : Picture) (w64 w32 : ℕ) → Going P w64 w32 (length fs) Q m work64 work32 → Lent (refusal P w64 w32 (length fs)) fs fs′

@@ -1,0 +1,98 @@
+-- `driver::rounds::put_line` meets its contract. Assumes nothing.
+use Rattle.driver.proofs.Lines.{put-line}
+use borrow.Author.Needs.{needs}
+use Rattle.driver.proofs.rounds.put_line.Statement.{statement}
+use Rattle.driver.proofs.rounds.put_line.Tie as tie
+
+mul-a : tie.Need-mul-a
+mul-a c = search needs
+
+add-r : tie.Need-add-r
+add-r c = search needs
+
+mul-r : tie.Need-mul-r
+mul-r c = search needs
+
+array-write-r : tie.Need-array-write-r
+array-write-r c = search needs
+
+cast-r : tie.Need-cast-r
+cast-r c = search needs
+
+add-r-2 : tie.Need-add-r-2
+add-r-2 c = search needs
+
+mul-r-2 : tie.Need-mul-r-2
+mul-r-2 c = search needs
+
+array-write-r-2 : tie.Need-array-write-r-2
+array-write-r-2 c = search needs
+
+cast-r-2 : tie.Need-cast-r-2
+cast-r-2 c = search needs
+
+add-r-3 : tie.Need-add-r-3
+add-r-3 c = search needs
+
+mul-r-3 : tie.Need-mul-r-3
+mul-r-3 c = search needs
+
+array-write-r-3 : tie.Need-array-write-r-3
+array-write-r-3 c = search needs
+
+add-r-4 : tie.Need-add-r-4
+add-r-4 c = search needs
+
+mul-r-4 : tie.Need-mul-r-4
+mul-r-4 c = search needs
+
+array-write-r-4 : tie.Need-array-write-r-4
+array-write-r-4 c = search needs
+
+add-r-5 : tie.Need-add-r-5
+add-r-5 c = search needs
+
+mul-r-5 : tie.Need-mul-r-5
+mul-r-5 c = search needs
+
+array-write-r-5 : tie.Need-array-write-r-5
+array-write-r-5 c = search needs
+
+add-r-6 : tie.Need-add-r-6
+add-r-6 c = search needs
+
+mul-r-6 : tie.Need-mul-r-6
+mul-r-6 c = search needs
+
+array-write-r-6 : tie.Need-array-write-r-6
+array-write-r-6 c = search needs
+
+returns : tie.Need-returns
+returns c = put-line (c .before .before .args .i) (c .before .before .args .l) (c .before .before .args .lines) (c .before .before .pre)
+
+pub put-line-spec : {M : Type 1} → statement M
+put-line-spec =
+    tie.close
+    (tie.spec
+    mul-a
+    add-r
+    mul-r
+    array-write-r
+    cast-r
+    add-r-2
+    mul-r-2
+    array-write-r-2
+    cast-r-2
+    add-r-3
+    mul-r-3
+    array-write-r-3
+    add-r-4
+    mul-r-4
+    array-write-r-4
+    add-r-5
+    mul-r-5
+    array-write-r-5
+    add-r-6
+    mul-r-6
+    array-write-r-6
+    returns)

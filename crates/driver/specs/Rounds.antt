@@ -1,0 +1,85 @@
+-- 01, "A round", "At most 8 rounds": the lines of the rounds, and what a move or a chain that was found makes of where the search
+-- stands. Assumes nothing.
+use mathlib.Core.Path.{_≡_}
+use mathlib.Core.Bool.{Bool, false}
+use mathlib.Core.List.{List, [], _∷_, _++_}
+use Prim.Native.Nat.{ℕ, _+_, _*_, _<_}
+use lib.Dec.{ltb}
+use lib.ListN.{length, take, replicate}
+use Rattle.model.specs.declared.Answer.{Answer}
+use Rattle.model.specs.declared.Answer.the-variants as answer
+use Rattle.model.specs.Pass.{most-rounds}
+use Rattle.trial.specs.declared.sizes.Sizes.{Sizes}
+use Rattle.search.specs.declared.find.Look.{Look}
+use Rattle.search.specs.declared.find.MaybeLook.{MaybeLook}
+use Rattle.search.specs.declared.find.MaybeLook.the-variants.{Is, Not}
+use Rattle.driver.specs.declared.round.Line.{Line}
+use Rattle.driver.specs.declared.round.Step.{Step}
+use Rattle.driver.specs.declared.round.Step.the-variants.{Goes, Short}
+use Rattle.driver.specs.declared.rounds.At.{At}
+
+-- ---- lines
+
+-- there is a line for round i + 1, and its block numbers are words
+pub record Small (i : ℕ) (l : Line) : Type 0 where
+  pub few : i < most-rounds
+  pub from-small : l .moved .from < 4294967296
+  pub into-small : l .moved .into < 4294967296
+
+-- the words of the line of round n
+abbrev pub line-words : ℕ → Line → List ℕ
+line-words n l = n ∷ l .moved .from ∷ l .moved .into ∷ l .moved .moved ∷ l .registers ∷ l .operands ∷ []
+
+-- behind the lines of i rounds stands that of round i + 1
+pub record Put (i : ℕ) (l : Line) (lines lines′ : List ℕ) : Type 0 where
+  pub size : length lines′ ≡ length lines
+  pub put : take (6 * (i + 1)) lines′ ≡ take (6 * i) lines ++ line-words (i + 1) l
+
+-- ---- before the first round
+
+abbrev pub first-at : Bool → Look → Answer → Sizes → ℕ → At
+first-at on look answer s opers = record { on = on; look = look; answer = answer; rounds = 0; operands = opers; sizes = s; lines = replicate 48 0 }
+
+-- ---- one round on
+
+abbrev pub small : ℕ → Step → Type 0
+small i (Goes l) = Small i l
+small i Short = Unit {0}
+
+pub record Advancing (m : At) (r : Step) : Type 0 where
+  pub long : length (m .lines) ≡ 48
+  pub line : small (m .rounds) r
+
+-- after a move, with these lines
+abbrev pub gone : At → Line → List ℕ → At
+gone m l lines = record {
+  on = ltb (m .rounds + 1) most-rounds;
+  look = m .look;
+  answer = answer.Done (record { rounds = m .rounds + 1; registers = l .registers; operands = l .operands });
+  rounds = m .rounds + 1;
+  operands = l .operands;
+  sizes = record { blocks = m .sizes .blocks; insts = m .sizes .insts; regs = l .registers; lent = m .sizes .lent };
+  lines = lines;
+}
+
+-- where there is no room for it
+abbrev pub halted : At → At
+halted m = record {
+  on = false;
+  look = m .look;
+  answer = answer.Short (record { rounds = m .rounds; registers = m .sizes .regs; operands = m .operands });
+  rounds = m .rounds;
+  operands = m .operands;
+  sizes = m .sizes;
+  lines = m .lines;
+}
+
+abbrev pub advanced : At → Step → At → Type 0
+advanced m (Goes l) q = (q ≡ gone m l (q .lines)) × Put (m .rounds) l (m .lines) (q .lines)
+advanced m Short q = q ≡ halted m
+
+-- ---- the chain to be tried next
+
+abbrev pub taken-up : At → MaybeLook → At
+taken-up m (Is k) = record { on = m .on; look = k; answer = m .answer; rounds = m .rounds; operands = m .operands; sizes = m .sizes; lines = m .lines }
+taken-up m Not = record { on = false; look = m .look; answer = m .answer; rounds = m .rounds; operands = m .operands; sizes = m .sizes; lines = m .lines }

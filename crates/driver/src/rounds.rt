@@ -1,0 +1,153 @@
+// Where the search stands (01, "A round", "At most 8 rounds"), and what a move or a chain that was found makes of that.
+use crate::round::Line;
+use crate::round::Step;
+use model::Answer;
+use model::Used;
+use plan::set::Sink;
+use search::find::Look;
+use search::find::MaybeLook;
+use search::find::nowhere;
+use trial::sizes::Sizes;
+ghost use mathlib.Core.Path.{_≡_};
+ghost use lib.ListN.{length};
+ghost use Rattle.driver.specs.Rounds.{Small, Put, first-at, Advancing, advanced, taken-up};
+
+// The answer, and a line of six words for each round: its number, from, into, moved, then registers and operands in use.
+pub struct Ran {
+    pub answer: Answer,
+    pub lines: [u32; 48],
+}
+
+// Whether a chain is to be tried, and which; the answer where none is left; rounds done; operands in use, and sizes with the registers
+// in use; the lines so far.
+pub struct At {
+    pub on: bool,
+    pub look: Look,
+    pub answer: Answer,
+    pub rounds: u32,
+    pub operands: u32,
+    pub sizes: Sizes,
+    pub lines: [u32; 48],
+}
+
+// What the call gives, where the search stands at its end.
+pub fn given(m: At) -> Ran
+    ensures { λ r. ⌜ (r .answer ≡ m .answer) × (r .lines ≡ m .lines) ⌝ }
+{
+    let answer = m.answer;
+    let lines = m.lines;
+    Ran {
+        answer: answer,
+        lines: lines,
+    }
+}
+
+// Before the first round.
+pub fn at_first(on: bool, answer: Answer, s: Sizes, opers: u32) -> At
+    ensures { λ q. ⌜ q ≡ first-at on (q .look) answer s opers ⌝ }
+{
+    At {
+        on: on,
+        look: nowhere(),
+        answer: answer,
+        rounds: 0,
+        operands: opers,
+        sizes: s,
+        lines: [0u32; 48],
+    }
+}
+
+// The lines with that of round i + 1.
+fn put_line(lines: [u32; 48], i: u32, l: Line) -> [u32; 48]
+    requires { ⌜ Small i l × (length lines ≡ 48) ⌝ }
+    ensures { λ r. ⌜ Put i l lines r ⌝ }
+{
+    let a = 6 * (i as usize);
+    let mut r = lines;
+    r[a] = i + 1;
+    r[a + 1] = l.moved.from as u32;
+    r[a + 2] = l.moved.into as u32;
+    r[a + 3] = l.moved.moved;
+    r[a + 4] = l.registers;
+    r[a + 5] = l.operands;
+    r
+}
+
+// One round on, by what its move came to.
+pub fn advance(m: At, r: Step) -> At
+    requires { ⌜ Advancing m r ⌝ }
+    ensures { λ q. ⌜ advanced m r q ⌝ }
+{
+    let n = m.rounds;
+    let look = m.look;
+    let sizes = m.sizes;
+    let before = m.lines;
+    let Step::Goes(l) = r else {
+        let answer = Answer::Short(Used {
+            rounds: n,
+            registers: sizes.regs,
+            operands: m.operands,
+        });
+        return At {
+            on: false,
+            look: look,
+            answer: answer,
+            rounds: n,
+            operands: m.operands,
+            sizes: sizes,
+            lines: before,
+        };
+    };
+    let lines = put_line(before, n, l);
+    let done = n + 1;
+    let answer = Answer::Done(Used {
+        rounds: done,
+        registers: l.registers,
+        operands: l.operands,
+    });
+    let then = Sizes {
+        blocks: sizes.blocks,
+        insts: sizes.insts,
+        regs: l.registers,
+        lent: sizes.lent,
+    };
+    At {
+        on: done < Sink::ROUNDS,
+        look: look,
+        answer: answer,
+        rounds: done,
+        operands: l.operands,
+        sizes: then,
+        lines: lines,
+    }
+}
+
+// With the chain that is to be tried next; at the end, if there is none.
+pub fn take_up(m: At, r: MaybeLook) -> At
+    ensures { λ q. ⌜ q ≡ taken-up m r ⌝ }
+{
+    let look = m.look;
+    let answer = m.answer;
+    let sizes = m.sizes;
+    let lines = m.lines;
+    let MaybeLook::Is(k) = r else {
+        return At {
+            on: false,
+            look: look,
+            answer: answer,
+            rounds: m.rounds,
+            operands: m.operands,
+            sizes: sizes,
+            lines: lines,
+        };
+    };
+    At {
+        on: m.on,
+        look: k,
+        answer: answer,
+        rounds: m.rounds,
+        operands: m.operands,
+        sizes: sizes,
+        lines: lines,
+    }
+}
