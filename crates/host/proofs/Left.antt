@@ -19,8 +19,8 @@ use Rattle.model.specs.Move.{Plan, apply}
 use Rattle.model.specs.Pass.{Outcome, used, rounds, number, ends-in, sink-all, most-rounds, gated, sink}
 use Rattle.layout.specs.Layout.{picture-bytes, Fitting}
 use Rattle.apply.specs.Apply.{Holds}
-use Rattle.sink.specs.Kept.{registers, operands}
-use Rattle.sink.specs.Sink.{Did}
+use Rattle.driver.specs.Ended.{Did}
+use Rattle.sink.specs.Sink.{registers, operands}
 use Rattle.host.specs.Host.{put-by, put-left, left-by, Ran-as, Roomy}
 use Rattle.laws.proofs.Accepted.{Accepted, accepted}
 use Rattle.laws.proofs.Sizes.{regs-lent, opers-lent}
@@ -96,26 +96,26 @@ pub data Came (P : Picture) (o : Outcome) : Type 0 where
   went : Went 8 0 P o → Came P o
   stopped : (n : ℕ) → n ≤ 12 → o ≡ ends-in (Refused n) P → Came P o
 
-module _ (P : Picture) (w64 w32 : ℕ) where
+module _ (P : Picture) (w64 w32 nf : ℕ) where
   abbrev by-refusal : ℕ → Outcome
   by-refusal n = elim n as (λ z. Outcome) [
     | suc n ↦ ends-in (Refused (suc n)) P
     | zero ↦ elim (gated P) as (λ z. Outcome) [ true ↦ ends-in (Done (used 0 P)) P | false ↦ sink-all most-rounds 0 (facts P) P ]
   ]
 
-  through : refusal P w64 w32 ≡ 0 → (gated P ≡ true) ⊎ (gated P ≡ false) → Came P (sink P w64 w32)
-  through z (inl e) = subst (Came P) (sym (sink-gated P w64 w32 z e)) (went (ends 8 0 P (accepted P w64 w32 z) (Done (used 0 P)) (inl refl)))
-  through z (inr e) = subst (Came P) (sym (sink-through P w64 w32 z e)) (went (all-went most-rounds 0 (facts P) P (accepted P w64 w32 z)))
+  through : refusal P w64 w32 nf ≡ 0 → (gated P ≡ true) ⊎ (gated P ≡ false) → Came P (sink P w64 w32 nf)
+  through z (inl e) = subst (Came P) (sym (sink-gated P w64 w32 nf z e)) (went (ends 8 0 P (accepted P w64 w32 nf z) (Done (used 0 P)) (inl refl)))
+  through z (inr e) = subst (Came P) (sym (sink-through P w64 w32 nf z e)) (went (all-went most-rounds 0 (facts P) P (accepted P w64 w32 nf z)))
 
-  refused-low : (n : ℕ) → refusal P w64 w32 ≡ n → n ≤ 12
-  refused-low n z = subst (λ (m : ℕ). m ≤ 12) z (lowest-low 1 (causes P w64 w32))
+  refused-low : (n : ℕ) → refusal P w64 w32 nf ≡ n → n ≤ 12
+  refused-low n z = subst (λ (m : ℕ). m ≤ 12) z (lowest-low 1 (causes P w64 w32 nf))
 
-  by-number : (n : ℕ) → refusal P w64 w32 ≡ n → Came P (sink P w64 w32)
+  by-number : (n : ℕ) → refusal P w64 w32 nf ≡ n → Came P (sink P w64 w32 nf)
   by-number zero z = through z (bool? (gated P))
   by-number (suc n) z = stopped (suc n) (refused-low (suc n) z) (ap by-refusal z)
 
-  pub came : Came P (sink P w64 w32)
-  came = by-number (refusal P w64 w32) refl
+  pub came : Came P (sink P w64 w32 nf)
+  came = by-number (refusal P w64 w32 nf) refl
 
 -- ---- what follows
 
@@ -204,7 +204,7 @@ module _ {P : Picture} {o : Outcome} where
     put-same k e result = ap (λ (a : Answer). put-by a (picture-bytes (left-by a bounds recs locs vias types ops (P .pairs) (P .targets) (P .replay))) result) e ∙ put-is k result
 
 -- all of it, of the call on P
-pub ran-of : (P : Picture) (w64 w32 : ℕ) {a : Answer} {lines bounds recs locs vias types ops result after : List ℕ} → Did (sink P w64 w32) a lines bounds recs locs vias types ops
+pub ran-of : (P : Picture) (w64 w32 nf : ℕ) {a : Answer} {lines bounds recs locs vias types ops result after : List ℕ} → Did (sink P w64 w32 nf) a lines bounds recs locs vias types ops
     → after ≡ put-by a (picture-bytes (left-by a bounds recs locs vias types ops (P .pairs) (P .targets) (P .replay))) result
-    → Ran-as (sink P w64 w32) result a lines after
-ran-of P w64 w32 {result = result} d e = record { answer-is = d .answer-is; lines-are = d .lines-are; result-is = e ∙ put-same (d .holds) (came P w64 w32) (d .answer-is) result }
+    → Ran-as (sink P w64 w32 nf) result a lines after
+ran-of P w64 w32 nf {result = result} d e = record { answer-is = d .answer-is; lines-are = d .lines-are; result-is = e ∙ put-same (d .holds) (came P w64 w32 nf) (d .answer-is) result }

@@ -97,8 +97,8 @@ in-picture bs k u c e b r l v t o p g y eb er el ev et eo ep eg ey =
       replay = ey z;
     }
 
-pub ran-same : (P Q : Picture) (w64 w32 : ℕ) {result lines result′ : List ℕ} {a : Answer} → P ≡ Q → Ran-as (sink P w64 w32) result a lines result′ → Ran-as (sink Q w64 w32) result a lines result′
-ran-same P Q w64 w32 {result} {lines} {result′} {a} e r = subst (λ (P : Picture). Ran-as (sink P w64 w32) result a lines result′) e r
+pub ran-same : (P Q : Picture) (w64 w32 nf : ℕ) {result lines result′ : List ℕ} {a : Answer} → P ≡ Q → Ran-as (sink P w64 w32 nf) result a lines result′ → Ran-as (sink Q w64 w32 nf) result a lines result′
+ran-same P Q w64 w32 nf {result} {lines} {result′} {a} e r = subst (λ (P : Picture). Ran-as (sink P w64 w32 nf) result a lines result′) e r
 
 -- ---- slices of the same lengths
 

@@ -12,8 +12,9 @@ use Rattle.model.specs.declared.Answer.{Answer}
 use Rattle.model.specs.declared.Answer.the-variants.{Done, Short, Refused}
 use Rattle.model.specs.Pass.{Outcome, rounds, number, sink}
 use Rattle.model.specs.Picture.{Picture}
+use Rattle.model.specs.Refusal.{records}
 use Rattle.layout.specs.Layout.{readable, picture-in, picture-bytes, pictured}
-use Rattle.sink.specs.Kept.{registers, operands}
+use Rattle.sink.specs.Sink.{registers, operands}
 
 -- the program's work slices: 64-bit 4 × 64 × 8 + 2 × 512, 32-bit 8 × 512 + 16 × 64 + 8,000
 abbrev pub work64 : ℕ
@@ -22,9 +23,9 @@ work64 = 3072
 abbrev pub work32 : ℕ
 work32 = 13120
 
--- the call on the picture in these bytes, with so many registers and operands lent
+-- the call on the picture in these bytes, with so many registers and operands lent, and as many records of facts as it takes
 abbrev pub sunk : List ℕ → ℕ → ℕ → Outcome
-sunk bs registers operands = sink (picture-in (words-of bs) registers operands) work64 work32
+sunk bs registers operands = sink (picture-in (words-of bs) registers operands) work64 work32 records
 
 -- "It lends the picture, at least 53,024 result bytes and, as numbers, the registers and operands lent, up to 512 and 2,048"
 abbrev pub within-bounds : List ℕ → ℕ → ℕ → ℕ → Bool

@@ -8,16 +8,17 @@ use crate::load::load_replay;
 use crate::load::load_targets;
 use crate::load::load_types;
 use crate::load::load_vias;
+use driver::rounds::Ran;
 use layout::read::counts;
 use layout::write::write_picture;
 use model::Answer;
-use sink::rounds::Ran;
-use sink::sink_rounds;
+use sink::here::sink_here;
 ghost use mathlib.Core.Path.{_≡_};
 ghost use mathlib.Core.Bool.{true};
 ghost use Prim.Native.Nat.{_≤_};
 ghost use lib.ListN.{length};
 ghost use Rattle.layout.specs.Layout.{readable, picture-bytes, Fitting};
+ghost use Rattle.model.specs.Refusal.{records};
 ghost use Rattle.sink.specs.Sink.{outcome};
 ghost use Rattle.host.specs.Host.{sunk, put-by, put-left, Ran-as, left-by, Roomy};
 
@@ -75,7 +76,7 @@ fn put_left(
     }
 }
 
-// The call on lent slices, and the picture left.
+// The call on lent slices, its facts in a list of its own, and the picture left.
 fn sink_into(
     result: &mut [u8],
     bounds: &mut [u32],
@@ -93,9 +94,9 @@ fn sink_into(
     work32: &mut [u32],
 ) -> Ran
     requires { ⌜ Roomy (now bounds) (now recs) (now locs) (now vias) (now types) (now ops) (now pairs) (now targets) (now replay) (length (now result)) ⌝ }
-    ensures { λ r. ⌜ Ran-as (outcome (now (bounds .entry)) (now (recs .entry)) (now (locs .entry)) (now (vias .entry)) (now (types .entry)) regs (now (ops .entry)) opers (now (pairs .entry)) (now (targets .entry)) (now (replay .entry)) (length (now (work64 .entry))) (length (now (work32 .entry)))) (now (result .entry)) (r .answer) (r .lines) (now (result .exit)) ⌝ }
+    ensures { λ r. ⌜ Ran-as (outcome (now (bounds .entry)) (now (recs .entry)) (now (locs .entry)) (now (vias .entry)) (now (types .entry)) regs (now (ops .entry)) opers (now (pairs .entry)) (now (targets .entry)) (now (replay .entry)) (length (now (work64 .entry))) (length (now (work32 .entry))) records) (now (result .entry)) (r .answer) (r .lines) (now (result .exit)) ⌝ }
 {
-    let r = sink_rounds(
+    let r = sink_here(
         bounds,
         recs,
         locs,

@@ -1,4 +1,4 @@
--- What `virdzeba_try` gives, case by case: refused, no block, sought. Assumes nothing.
+-- What `virdzeba_try` gives, case by case: refused, no block, no chain, sought. Assumes nothing.
 use mathlib.Core.Path.{_≡_, refl, sym, ap, _∙_, subst}
 use mathlib.Core.Bool.{Bool, true, false}
 use mathlib.Core.List.{List}
@@ -14,15 +14,31 @@ use Rattle.model.specs.Refusal.{refusal}
 use Rattle.model.specs.Analyse.{facts}
 use Rattle.model.specs.Move.{Plan, try-block}
 use Rattle.apply.specs.Apply.{Stands}
+use Rattle.laws.proofs.Accepted.{work-room}
+use Rattle.facts.specs.declared.Fact.{Fact}
+use Rattle.trial.specs.declared.sizes.Sizes.{Sizes}
 use Rattle.trial.specs.declared.block.Move.{Move}
 use Rattle.trial.specs.declared.block.MaybeMove.{MaybeMove}
-use Rattle.trial.specs.declared.block.MaybeMove.the-variants.{Is, Not}
+use Rattle.trial.specs.declared.block.MaybeMove.the-variants as tries
 use Rattle.trial.specs.Work.{chain-words}
-use Rattle.trial.specs.Trial.{Found, tried}
+use Rattle.trial.specs.Trial.{Found, tried, Following, Followed}
+use Rattle.search.specs.declared.find.Look.{Look}
+use Rattle.search.specs.declared.find.MaybeLook.{MaybeLook}
+use Rattle.search.specs.declared.find.MaybeLook.the-variants.{Is, Not}
+use Rattle.probe.specs.declared.attempt.Ready.{Ready}
 use Rattle.probe.specs.Heads.{with-four}
-use Rattle.probe.specs.Attempt.{move-number, with-move, plan-number, with-plan, attempt, with-attempt, Sought, Left}
+use Rattle.probe.specs.Attempt.{move-number, with-move, plan-number, with-plan, attempt, with-attempt, sizes-of, Sought, Left, Listed, Trying, Seen, taken, Taken, Ended, Goes, SetOut}
 
-module _ (P : Picture) (x : ℕ) (out : List ℕ) where
+clash : {A : Type 0} {b : Bool} → b ≡ true → b ≡ false → A
+clash p q = let e : true ≡ false = sym p ∙ q in let z : _≡_ {A = ℕ} 0 1 = ap (λ (b : Bool). elim b as (λ z. ℕ) [ true ↦ 0 | false ↦ 1 ]) e in absurd (omega arith)
+
+pub taken-none : {s : Sizes} {o : MaybeLook} {q : Ready} → o ≡ Not → (q .over ≡ true) × (q .number ≡ 0) → Taken o s q
+taken-none {s} {q = q} e t = subst (λ (o : MaybeLook). Taken o s q) (sym e) (record { is = t })
+
+pub taken-one : {s : Sizes} {o : MaybeLook} {k : Look} {q : Ready} → o ≡ Is k → q .over ≡ false → q .look ≡ k → q .sizes ≡ s → Taken o s q
+taken-one {s} {q = q} e a b c = subst (λ (o : MaybeLook). Taken o s q) (sym e) (record { is = (a, b, c) })
+
+module _ (P : Picture) (x : ℕ) where
   -- ---- by cases
 
   abbrev by-block : Bool → ℕ
@@ -31,74 +47,125 @@ module _ (P : Picture) (x : ℕ) (out : List ℕ) where
   abbrev by-refusal : ℕ → ℕ
   by-refusal n = elim n as (λ z. ℕ) [ suc n ↦ 200 + suc n | zero ↦ by-block (ltb x (nblocks P)) ]
 
-  abbrev out-by-block : Bool → List ℕ
-  out-by-block b = elim b as (λ z. List ℕ) [ true ↦ with-plan out (size P x - 1) (try-block P (facts P) x) | false ↦ out ]
+  abbrev out-by-block : List ℕ → Bool → List ℕ
+  out-by-block out b = elim b as (λ z. List ℕ) [ true ↦ with-plan out (size P x - 1) (try-block P (facts P) x) | false ↦ out ]
 
-  abbrev out-by-refusal : ℕ → List ℕ
-  out-by-refusal n = elim n as (λ z. List ℕ) [ suc n ↦ out | zero ↦ out-by-block (ltb x (nblocks P)) ]
+  abbrev out-by-refusal : List ℕ → ℕ → List ℕ
+  out-by-refusal out n = elim n as (λ z. List ℕ) [ suc n ↦ out | zero ↦ out-by-block out (ltb x (nblocks P)) ]
 
-  refused-by : (n : ℕ) → (n ≡ 0 → ⊥) → (200 + n ≡ by-refusal n) × (out ≡ out-by-refusal n)
+  refused-by : (n : ℕ) → (n ≡ 0 → ⊥) → 200 + n ≡ by-refusal n
   refused-by zero h = absurd (h refl)
-  refused-by (suc n) h = (refl, refl)
+  refused-by (suc n) h = refl
+
+  refused-out : (out : List ℕ) (n : ℕ) → (n ≡ 0 → ⊥) → out ≡ out-by-refusal out n
+  refused-out out zero h = absurd (h refl)
+  refused-out out (suc n) h = refl
 
   -- ---- a search that leaves the chain's words w
 
   module _ (w : List ℕ) where
     same-number : (r : MaybeMove) → tried P (facts P) x r w → move-number r ≡ plan-number (try-block P (facts P) x)
-    same-number (Is mv) f = sym (ap plan-number (f .is))
-    same-number Not f = sym (ap plan-number f)
+    same-number (tries.Is mv) f = sym (ap plan-number (f .is))
+    same-number tries.Not f = sym (ap plan-number f)
 
-    same-words : (mv : Move) → Found P (facts P) x mv w → with-move out (Is mv) ≡ with-plan out (size P x - 1) (try-block P (facts P) x)
-    same-words mv f =
+    same-words : (out : List ℕ) (mv : Move) → Found P (facts P) x mv w → with-move out (tries.Is mv) ≡ with-plan out (size P x - 1) (try-block P (facts P) x)
+    same-words out mv f =
         ap (λ (i : ℕ). with-four out i (mv .inside) (mv .places) (mv .moved)) (f .into-is)
         ∙ ap (λ (i : ℕ). with-four out (f .a .into) i (mv .places) (mv .moved)) (f .in-x)
         ∙ ap (λ (i : ℕ). with-four out (f .a .into) (size P x - 1) i (mv .moved)) (sym (f .stands .long))
         ∙ ap (λ (i : ℕ). with-four out (f .a .into) (size P x - 1) (length (f .a .run)) i) (f .moved-is)
         ∙ sym (ap (with-plan out (size P x - 1)) (f .is))
 
-    same-out : (r : MaybeMove) → tried P (facts P) x r w → with-move out r ≡ with-plan out (size P x - 1) (try-block P (facts P) x)
-    same-out (Is mv) f = same-words mv f
-    same-out Not f = sym (ap (with-plan out (size P x - 1)) f)
+    same-out : (out : List ℕ) (r : MaybeMove) → tried P (facts P) x r w → with-move out r ≡ with-plan out (size P x - 1) (try-block P (facts P) x)
+    same-out out (tries.Is mv) f = same-words out mv f
+    same-out out tries.Not f = sym (ap (with-plan out (size P x - 1)) f)
 
     stands-so : (r : MaybeMove) → tried P (facts P) x r w → (a : Plan) → try-block P (facts P) x ≡ some a
         → Stands P a (size P x - 1) (length (a .run)) w
-    stands-so (Is mv) f a e =
+    stands-so (tries.Is mv) f a e =
         let q : f .a ≡ a = ap (λ (o : Option Plan). elim o as (λ z. Plan) [ some p ↦ p | none ↦ a ]) (sym (f .is) ∙ e) in
         subst (λ (p : Plan). Stands P p (size P x - 1) (length (p .run)) w) q
         (subst (λ (n : ℕ). Stands P (f .a) (size P x - 1) n w) (sym (f .stands .long))
         (subst (λ (m : ℕ). Stands P (f .a) m (mv .places) w) (f .in-x) (f .stands)))
-    stands-so Not f a e = absurd (Option·none-ne-some a (sym f ∙ e))
+    stands-so tries.Not f a e = absurd (Option·none-ne-some a (sym f ∙ e))
 
   -- ---- the cases
 
-  module _ (work64 work32 : List ℕ) where
+  module _ (nf : ℕ) (work64 work32 : List ℕ) where
     -- nothing was sought
-    left-so : (refusal P (length work64) (length work32) ≡ 0 → x < nblocks P → ⊥) → Left P x work64 work32 work64 work32
+    left-so : (refusal P (length work64) (length work32) nf ≡ 0 → x < nblocks P → ⊥) → Left P x nf work64 work32 work64 work32
     left-so no-way = record { size64 = refl; size32 = refl; kept = λ h. (refl, refl); stands = λ a z l e. absurd (no-way z l) }
 
-    pub refused : (n : ℕ) → n ≡ refusal P (length work64) (length work32) → (n ≡ 0 → ⊥)
-        → (200 + n ≡ attempt P (length work64) (length work32) x) × ((out ≡ with-attempt out P (length work64) (length work32) x) × Left P x work64 work32 work64 work32)
-    refused n e h =
-        let z = refused-by n h in
-        (z .0 ∙ ap by-refusal e, (z .1 ∙ ap out-by-refusal e, left-so (λ k l. h (e ∙ k))))
+    pub refused : {n : ℕ} → n ≡ refusal P (length work64) (length work32) nf → (n ≡ 0 → ⊥) → Ended P x nf work64 work32 work64 work32 (200 + n)
+    refused {n} e h = record {
+      number-is = refused-by n h ∙ ap by-refusal e;
+      out-is = λ out. refused-out out n h ∙ ap (out-by-refusal out) e;
+      left = left-so (λ k l. h (e ∙ k));
+    }
 
-    pub no-block : refusal P (length work64) (length work32) ≡ 0 → nblocks P ≤ x
-        → (_≡_ {A = ℕ} 300 (attempt P (length work64) (length work32) x)) × ((out ≡ with-attempt out P (length work64) (length work32) x) × Left P x work64 work32 work64 work32)
-    no-block z h =
-        let f = le-ltb x (nblocks P) h in (
-          sym (ap by-refusal z ∙ ap by-block f),
-          (sym (ap out-by-refusal z ∙ ap out-by-block f), left-so (λ k l. omega arith)),
-        )
+    module _ (ok : refusal P (length work64) (length work32) nf ≡ 0) where
+      pub no-block : nblocks P ≤ x → Ended P x nf work64 work32 work64 work32 300
+      no-block h =
+          let f = le-ltb x (nblocks P) h in
+          record {
+            number-is = sym (ap by-refusal ok ∙ ap by-block f);
+            out-is = λ out. sym (ap (out-by-refusal out) ok ∙ ap (out-by-block out) f);
+            left = left-so (λ k l. omega arith);
+          }
 
-    pub settled : {work64′ work32′ : List ℕ} {n y : ℕ} {out′ : List ℕ} (r : MaybeMove) → refusal P (length work64) (length work32) ≡ 0 → x ≡ y → x < nblocks P → Sought P work64 work32 work64′ work32′ y r
-        → (n ≡ move-number r) × (out′ ≡ with-move out r)
-        → (n ≡ attempt P (length work64) (length work32) x) × ((out′ ≡ with-attempt out P (length work64) (length work32) x) × Left P x work64 work32 work64′ work32′)
-    settled {work64′} {work32′} r z e h f m =
-        let s = subst (λ (k : ℕ). Sought P work64 work32 work64′ work32′ k r) (sym e) f in
-        let t = lt-ltb x (nblocks P) h in (
-          m .0 ∙ same-number (chain-words work32′) r (s .is) ∙ sym (ap by-refusal z ∙ ap by-block t),
-          (
-            m .1 ∙ same-out (chain-words work32′) r (s .is) ∙ sym (ap out-by-refusal z ∙ ap out-by-block t),
-            record { size64 = s .size64; size32 = s .size32; kept = λ k. absurd (k z h); stands = λ a q l e. stands-so (chain-words work32′) r (s .is) a e },
-          ),
-        )
+      module _ (h : x < nblocks P) {work64′ work32′ : List ℕ} {r : MaybeMove} (s : Sought P work64 work32 work64′ work32′ x r) where
+        left-as : Left P x nf work64 work32 work64′ work32′
+        left-as = record { size64 = s .size64; size32 = s .size32; kept = λ k. absurd (k ok h); stands = λ a q l e. stands-so (chain-words work32′) r (s .is) a e }
+
+        number-as : move-number r ≡ attempt P (length work64) (length work32) nf x
+        number-as = same-number (chain-words work32′) r (s .is) ∙ sym (ap by-refusal ok ∙ ap by-block (lt-ltb x (nblocks P) h))
+
+        out-as : (out : List ℕ) → with-move out r ≡ with-attempt out P (length work64) (length work32) nf x
+        out-as out = same-out (chain-words work32′) out r (s .is) ∙ sym (ap (out-by-refusal out) ok ∙ ap (out-by-block out) (lt-ltb x (nblocks P) h))
+
+    -- ---- where the search stands
+
+    pub out-set : {work64′ work32′ : List ℕ} {n : ℕ} {k : Ready} → (k .over ≡ true) × (k .number ≡ n) → Ended P x nf work64 work32 work64′ work32′ n → SetOut P x nf work64 work32 work64′ work32′ k
+    out-set {work64′} {work32′} t e = record {
+      ended = λ z. subst (Ended P x nf work64 work32 work64′ work32′) (sym (t .1)) e;
+      goes = λ z. clash (t .0) z;
+    }
+
+    module _ (ok : refusal P (length work64) (length work32) nf ≡ 0) (h : x < nblocks P) {work64′ work32′ : List ℕ} {s : Sizes} (es : s ≡ sizes-of P) {k : Ready} where
+      by-look : (o : MaybeLook) → Seen P work64 work32 work64′ work32′ x o → taken o s k → SetOut P x nf work64 work32 work64′ work32′ k
+      by-look (Is l) z t = record {
+        ended = λ f. clash f (t .0);
+        goes = λ f. record { accepted = ok; is-block = h; sizes-are = t .2 ∙ es; trying = subst (Trying P work64 work32 work64′ work32′ x) (sym (t .1)) (z .is) };
+      }
+      by-look Not z t = out-set t record { number-is = number-as ok h (z .is); out-is = out-as ok h (z .is); left = left-as ok h (z .is) }
+
+      pub taken-set : {o : MaybeLook} {y : ℕ} → x ≡ y → Seen P work64 work32 work64′ work32′ y o → Taken o s k → SetOut P x nf work64 work32 work64′ work32′ k
+      taken-set {o} e z t = by-look o (subst (λ (i : ℕ). Seen P work64 work32 work64′ work32′ i o) (sym e) z) (t .is)
+
+  -- ---- all of it, with the list of records
+
+  module _ (work64 work32 : List ℕ) (facts₀ : List Fact) where
+    pub ended-all : {work64′ work32′ : List ℕ} {k : Ready} → SetOut P x (length facts₀) work64 work32 work64′ work32′ k → k .over ≡ true → (out : List ℕ)
+        → (k .number ≡ attempt P (length work64) (length work32) (length facts₀) x) × (out ≡ with-attempt out P (length work64) (length work32) (length facts₀) x)
+        × Left P x (length facts₀) work64 work32 work64′ work32′ × Listed P x (length work64) (length work32) facts₀ facts₀
+    ended-all s e out = let z = s .ended e in (z .number-is, z .out-is out, z .left, record { size = refl; kept = λ h. refl })
+
+    module _ {work64′ work32′ : List ℕ} {k : Ready} (s : SetOut P x (length facts₀) work64 work32 work64′ work32′ k) (e : k .over ≡ false) where
+      pub asked : Following (P .bounds) (P .recs) (P .ops) (P .pairs) (P .targets) (P .replay) (k .sizes) (k .look .x) (k .look .c) work64′ work32′
+      asked = let g = s .goes e in subst (λ (z : Sizes). Following (P .bounds) (P .recs) (P .ops) (P .pairs) (P .targets) (P .replay) z (k .look .x) (k .look .c) work64′ work32′) (sym (g .sizes-are)) (g .trying .following)
+
+      pub many : 800 ≤ length facts₀
+      many = work-room P (length work64) (length work32) (length facts₀) (s .goes e .accepted) .2
+
+      pub settled : {work64″ work32″ out′ : List ℕ} {facts″ : List Fact} {n : ℕ} (out : List ℕ) (r : MaybeMove)
+          → Followed (P .bounds) (P .recs) (P .ops) (P .pairs) (P .targets) (P .replay) (k .sizes) (k .look .x) (k .look .c) work64′ work32′ work64″ work32″ r
+          → length facts″ ≡ length facts₀ → (n ≡ move-number r) × (out′ ≡ with-move out r)
+          → (n ≡ attempt P (length work64) (length work32) (length facts₀) x) × (out′ ≡ with-attempt out P (length work64) (length work32) (length facts₀) x)
+          × Left P x (length facts₀) work64 work32 work64″ work32″ × Listed P x (length work64) (length work32) facts₀ facts″
+      settled {work64″} {work32″} out r f l m =
+          let g = s .goes e in
+          let f′ = subst (λ (z : Sizes). Followed (P .bounds) (P .recs) (P .ops) (P .pairs) (P .targets) (P .replay) z (k .look .x) (k .look .c) work64′ work32′ work64″ work32″ r) (g .sizes-are) f in
+          let z = g .trying .sought r work64″ work32″ f′ in
+          let ok = g .accepted in
+          let h = g .is-block in
+          (m .0 ∙ number-as (length facts₀) work64 work32 ok h z, m .1 ∙ out-as (length facts₀) work64 work32 ok h z out, left-as (length facts₀) work64 work32 ok h z, record { size = l; kept = λ k. absurd (k ok h) })

@@ -19,9 +19,9 @@ module _ (P : Picture) where
   preds-of words l = record { told = λ b h. subst (Told words b) (preds-whole P [] b) (l .told b h) }
 
 -- an answer of 0
-pub none : {r : ℕ} (P : Picture) (w64 w32 : ℕ) → r ≡ refusal P w64 w32 → r ≡ 0 → refusal P w64 w32 ≡ 0
-none P w64 w32 e z = sym e ∙ z
+pub none : {r : ℕ} (P : Picture) (w64 w32 nf : ℕ) → r ≡ refusal P w64 w32 nf → r ≡ 0 → refusal P w64 w32 nf ≡ 0
+none P w64 w32 nf e z = sym e ∙ z
 
 -- the slice lent for the predecessors has room for them
-pub words-room : (P : Picture) (w64 n : ℕ) → refusal P w64 n ≡ 0 → 2 * nblocks P ≤ n
-words-room P w64 n ok = let w = work-room P w64 n ok .1 in omega arith
+pub words-room : (P : Picture) (w64 n nf : ℕ) → refusal P w64 n nf ≡ 0 → 2 * nblocks P ≤ n
+words-room P w64 n nf ok = let w = work-room P w64 n nf ok .1 in omega arith

@@ -21,8 +21,8 @@ lowest-low n [] = omega arith
 lowest-low n (true ∷ cs) = omega arith
 lowest-low n (false ∷ cs) = let h = lowest-low (suc n) cs in omega arith
 
-pub refusal-low : (P : Picture) (w64 w32 : ℕ) → refusal P w64 w32 ≤ 12
-refusal-low P w64 w32 = lowest-low 1 (causes P w64 w32)
+pub refusal-low : (P : Picture) (w64 w32 nf : ℕ) → refusal P w64 w32 nf ≤ 12
+refusal-low P w64 w32 nf = lowest-low 1 (causes P w64 w32 nf)
 
 -- at most k rounds more
 rounds-low : (k n : ℕ) (G : Facts) (P : Picture) → number (sink-all k n G P .answer) ≤ 100 + n + k
@@ -34,7 +34,7 @@ rounds-low (suc k) n G P = go (λ a. rounds-low k (suc n) G (apply P a)) (next P
     go rec (no-room a e f) = subst (λ (o : Outcome). number (o .answer) ≤ 100 + n + suc k) (sym (sink-short k n G P a e f)) (omega arith)
     go rec (goes-on a e f) = subst (λ (o : Outcome). number (o .answer) ≤ 100 + n + suc k) (sym (sink-more k n G P a e f)) (let h = rec a in omega arith)
 
-module _ (P : Picture) (w64 w32 : ℕ) where
+module _ (P : Picture) (w64 w32 nf : ℕ) where
   abbrev by-gates : Bool → Outcome
   by-gates b = elim b as (λ z. Outcome) [ true ↦ ends-in (Done (used 0 P)) P | false ↦ sink-all most-rounds 0 (facts P) P ]
 
@@ -49,12 +49,12 @@ module _ (P : Picture) (w64 w32 : ℕ) where
   refusals-low zero h = gates-low (gated P)
   refusals-low (suc n) h = omega arith
 
-  answer-low : (r : Answer) → r ≡ sink P w64 w32 .answer → number r ≤ 300
-  answer-low r e = subst (λ (a : Answer). number a ≤ 300) (sym e) (refusals-low (refusal P w64 w32) (refusal-low P w64 w32))
+  answer-low : (r : Answer) → r ≡ sink P w64 w32 nf .answer → number r ≤ 300
+  answer-low r e = subst (λ (a : Answer). number a ≤ 300) (sym e) (refusals-low (refusal P w64 w32 nf) (refusal-low P w64 w32 nf))
 
 -- of a picture that is lent as slices
-pub outcome-low : (bounds recs locs vias types : List ℕ) (regs : ℕ) (ops : List ℕ) (opers : ℕ) (pairs targets replay : List ℕ) (w64 w32 : ℕ) (r : Answer)
-    → r ≡ outcome bounds recs locs vias types regs ops opers pairs targets replay w64 w32 .answer → number r ≤ 300
+pub outcome-low : (bounds recs locs vias types : List ℕ) (regs : ℕ) (ops : List ℕ) (opers : ℕ) (pairs targets replay : List ℕ) (w64 w32 nf : ℕ) (r : Answer)
+    → r ≡ outcome bounds recs locs vias types regs ops opers pairs targets replay w64 w32 nf .answer → number r ≤ 300
 unfolding outcome
-outcome-low bounds recs locs vias types regs ops opers pairs targets replay w64 w32 r e =
-    answer-low (picture-of bounds recs locs vias types regs ops opers pairs targets replay) w64 w32 r e
+outcome-low bounds recs locs vias types regs ops opers pairs targets replay w64 w32 nf r e =
+    answer-low (picture-of bounds recs locs vias types regs ops opers pairs targets replay) w64 w32 nf r e

@@ -12,22 +12,28 @@ use Rattle.model.specs.Refusal.{refusal}
 use Rattle.model.specs.Analyse.{facts}
 use Rattle.model.specs.Move.{Plan, try-block}
 use Rattle.apply.specs.Apply.{Stands}
+use Rattle.facts.specs.declared.Fact.{Fact}
+use Rattle.trial.specs.declared.sizes.Sizes.{Sizes}
 use Rattle.trial.specs.declared.block.MaybeMove.{MaybeMove}
-use Rattle.trial.specs.declared.block.MaybeMove.the-variants.{Is, Not}
+use Rattle.trial.specs.declared.block.MaybeMove.the-variants as tries
 use Rattle.trial.specs.Work.{chain-words}
-use Rattle.trial.specs.Trial.{tried}
+use Rattle.trial.specs.Trial.{tried, Following, Followed}
+use Rattle.search.specs.declared.find.Look.{Look}
+use Rattle.search.specs.declared.find.MaybeLook.{MaybeLook}
+use Rattle.search.specs.declared.find.MaybeLook.the-variants.{Is, Not}
+use Rattle.probe.specs.declared.attempt.Ready.{Ready}
 use Rattle.probe.specs.Heads.{with-four}
 
 -- ---- the number and the words that are given
 
 -- of an answer of the search: 1 if there is a move, and its target, positions in x but for its last, positions of the chain, members
 abbrev pub move-number : MaybeMove → ℕ
-move-number (Is mv) = 1
-move-number Not = 0
+move-number (tries.Is mv) = 1
+move-number tries.Not = 0
 
 abbrev pub with-move : List ℕ → MaybeMove → List ℕ
-with-move out (Is mv) = with-four out (mv .into) (mv .inside) (mv .places) (mv .moved)
-with-move out Not = out
+with-move out (tries.Is mv) = with-four out (mv .into) (mv .inside) (mv .places) (mv .moved)
+with-move out tries.Not = out
 
 -- of `model`'s plan
 abbrev pub plan-number : Option Plan → ℕ
@@ -38,17 +44,17 @@ abbrev pub with-plan : List ℕ → ℕ → Option Plan → List ℕ
 with-plan out n (some a) = with-four out (a .into) n (length (a .run)) (count (a .set))
 with-plan out n none = out
 
--- of the picture with work slices of these lengths: 200 and the number of a refusal; 300 where x is no block
-abbrev pub attempt : Picture → ℕ → ℕ → ℕ → ℕ
-attempt P w64 w32 x =
-    elim (refusal P w64 w32) [
+-- of the picture with work slices of these lengths and so many records: 200 and the number of a refusal; 300 where x is no block
+abbrev pub attempt : Picture → ℕ → ℕ → ℕ → ℕ → ℕ
+attempt P w64 w32 nf x =
+    elim (refusal P w64 w32 nf) [
       | suc n ↦ 200 + suc n
       | zero ↦ elim (ltb x (nblocks P)) [ true ↦ plan-number (try-block P (facts P) x) | false ↦ 300 ]
     ]
 
-abbrev pub with-attempt : List ℕ → Picture → ℕ → ℕ → ℕ → List ℕ
-with-attempt out P w64 w32 x =
-    elim (refusal P w64 w32) [
+abbrev pub with-attempt : List ℕ → Picture → ℕ → ℕ → ℕ → ℕ → List ℕ
+with-attempt out P w64 w32 nf x =
+    elim (refusal P w64 w32 nf) [
       | suc n ↦ out
       | zero ↦ elim (ltb x (nblocks P)) [ true ↦ with-plan out (size P x - 1) (try-block P (facts P) x) | false ↦ out ]
     ]
@@ -62,9 +68,61 @@ pub record Sought (P : Picture) (work64 work32 work64′ work32′ : List ℕ) (
   pub is : tried P (facts P) x r (chain-words work32′)
 
 -- they keep their lengths; where nothing was sought, their contents; of a move the chain's words stand for the plan
-pub record Left (P : Picture) (x : ℕ) (work64 work32 work64′ work32′ : List ℕ) : Type 0 where
+pub record Left (P : Picture) (x nf : ℕ) (work64 work32 work64′ work32′ : List ℕ) : Type 0 where
   pub size64 : length work64′ ≡ length work64
   pub size32 : length work32′ ≡ length work32
-  pub kept : (refusal P (length work64) (length work32) ≡ 0 → x < nblocks P → ⊥) → (work64′ ≡ work64) × (work32′ ≡ work32)
-  pub stands : (a : Plan) → refusal P (length work64) (length work32) ≡ 0 → x < nblocks P → try-block P (facts P) x ≡ some a
+  pub kept : (refusal P (length work64) (length work32) nf ≡ 0 → x < nblocks P → ⊥) → (work64′ ≡ work64) × (work32′ ≡ work32)
+  pub stands : (a : Plan) → refusal P (length work64) (length work32) nf ≡ 0 → x < nblocks P → try-block P (facts P) x ≡ some a
       → Stands P a (size P x - 1) (length (a .run)) (chain-words work32′)
+
+-- so does the list of records, but for what it then holds
+pub record Listed (P : Picture) (x w64 w32 : ℕ) (facts facts′ : List Fact) : Type 0 where
+  pub size : length facts′ ≡ length facts
+  pub kept : (refusal P w64 w32 (length facts) ≡ 0 → x < nblocks P → ⊥) → facts′ ≡ facts
+
+-- ---- before the chain is tried
+
+abbrev pub sizes-of : Picture → Sizes
+sizes-of P = record { blocks = nblocks P; insts = length (P .locs); regs = P .regs; lent = length (P .types) }
+
+-- chain k is to be tried, and what that leaves is what the search from block x leaves
+pub record Trying (P : Picture) (work64 work32 work64′ work32′ : List ℕ) (x : ℕ) (k : Look) : Type 0 where
+  pub following : Following (P .bounds) (P .recs) (P .ops) (P .pairs) (P .targets) (P .replay) (sizes-of P) (k .x) (k .c) work64′ work32′
+  pub sought : (r : MaybeMove) (work64″ work32″ : List ℕ)
+      → Followed (P .bounds) (P .recs) (P .ops) (P .pairs) (P .targets) (P .replay) (sizes-of P) (k .x) (k .c) work64′ work32′ work64″ work32″ r → Sought P work64 work32 work64″ work32″ x r
+
+-- the chain from block x, or it has no move
+abbrev pub to-try : Picture → List ℕ → List ℕ → List ℕ → List ℕ → ℕ → MaybeLook → Type 0
+to-try P work64 work32 work64′ work32′ x (Is k) = Trying P work64 work32 work64′ work32′ x k
+to-try P work64 work32 work64′ work32′ x Not = Sought P work64 work32 work64′ work32′ x tries.Not
+
+pub record Seen (P : Picture) (work64 work32 work64′ work32′ : List ℕ) (x : ℕ) (o : MaybeLook) : Type 0 where
+  pub size64 : length work64′ ≡ length work64
+  pub size32 : length work32′ ≡ length work32
+  pub is : to-try P work64 work32 work64′ work32′ x o
+
+-- what is made of it
+abbrev pub taken : MaybeLook → Sizes → Ready → Type 0
+taken (Is k) s q = (q .over ≡ false) × (q .look ≡ k) × (q .sizes ≡ s)
+taken Not s q = (q .over ≡ true) × (q .number ≡ 0)
+
+pub record Taken (o : MaybeLook) (s : Sizes) (q : Ready) : Type 0 where
+  pub is : taken o s q
+
+-- nothing is to be tried, and the answer is n
+pub record Ended (P : Picture) (x nf : ℕ) (work64 work32 work64′ work32′ : List ℕ) (n : ℕ) : Type 0 where
+  pub number-is : n ≡ attempt P (length work64) (length work32) nf x
+  pub out-is : (out : List ℕ) → out ≡ with-attempt out P (length work64) (length work32) nf x
+  pub left : Left P x nf work64 work32 work64′ work32′
+
+-- a chain is
+pub record Goes (P : Picture) (x nf : ℕ) (work64 work32 work64′ work32′ : List ℕ) (k : Ready) : Type 0 where
+  pub accepted : refusal P (length work64) (length work32) nf ≡ 0
+  pub is-block : x < nblocks P
+  pub sizes-are : k .sizes ≡ sizes-of P
+  pub trying : Trying P work64 work32 work64′ work32′ x (k .look)
+
+-- with so many records lent, where the search from block x stands
+pub record SetOut (P : Picture) (x nf : ℕ) (work64 work32 work64′ work32′ : List ℕ) (k : Ready) : Type 0 where
+  pub ended : k .over ≡ true → Ended P x nf work64 work32 work64′ work32′ (k .number)
+  pub goes : k .over ≡ false → Goes P x nf work64 work32 work64′ work32′ k

@@ -1,8 +1,11 @@
 -- What the functions write at the head of the slice lent for it. Assumes nothing.
+use mathlib.Core.Path.{_≡_}
 use mathlib.Core.List.{List, [], _∷_}
 use Prim.Native.Nat.{ℕ}
 use Rattle.model.specs.declared.Answer.{Answer}
 use Rattle.model.specs.declared.Answer.the-variants.{Done, Short, Refused}
+use Rattle.model.specs.Pass.{Outcome, number}
+use Rattle.apply.specs.Apply.{Holds}
 
 -- two words, or four, at its head if it has as many
 abbrev pub with-two : List ℕ → ℕ → ℕ → List ℕ
@@ -22,3 +25,9 @@ abbrev pub with-used : List ℕ → Answer → List ℕ
 with-used out (Done u) = with-two out (u .registers) (u .operands)
 with-used out (Short u) = with-two out (u .registers) (u .operands)
 with-used out (Refused n) = out
+
+-- the outcome o of the call: its number, the six slices, and the counts in use at the head of `out`
+pub record Told (o : Outcome) (n : ℕ) (bounds recs locs vias types ops out out′ : List ℕ) : Type 0 where
+  pub number-is : n ≡ number (o .answer)
+  pub holds : Holds (o .left) bounds recs locs vias types ops
+  pub out-is : out′ ≡ with-used out (o .answer)

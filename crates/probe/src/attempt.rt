@@ -1,4 +1,6 @@
-// The search from one block of a picture as lent (01, "A round"), with what it leaves in the chain's words.
+// The search from one block of a picture as lent (01, "A round"), with what it leaves: the facts along the chain in the lent list, and of
+// a move the chain's words.
+use facts::Fact;
 use flow::live::live_in;
 use inst::index::BlockId;
 use inst::index::MaybeBlock;
@@ -6,21 +8,32 @@ use inst::record::wide;
 use inst::table::table;
 use picture::refusal;
 use search::begin::begin;
+use search::find::Look;
 use search::find::MaybeLook;
 use search::find::look_from;
+use search::find::nowhere;
 use trial::block::MaybeMove;
 use trial::block::try_chain;
 use trial::sizes::Sizes;
 use trial::sizes::width;
 ghost use mathlib.Core.Path.{_≡_};
+ghost use mathlib.Core.Bool.{true};
 ghost use Prim.Native.Nat.{_<_};
 ghost use lib.ListN.{length};
 ghost use Rattle.model.specs.Picture.{nblocks};
-ghost use Rattle.model.specs.Refusal.{refusal};
+ghost use Rattle.model.specs.Refusal.{records, refusal};
 ghost use Rattle.picture.specs.Causes.{picture-of};
 ghost use Rattle.inst.specs.Table.{rows};
 ghost use Rattle.probe.specs.Heads.{with-four};
-ghost use Rattle.probe.specs.Attempt.{move-number, with-move, attempt, with-attempt, Sought, Left};
+ghost use Rattle.probe.specs.Attempt.{move-number, with-move, attempt, with-attempt, sizes-of, Seen, Taken, SetOut, Left, Listed};
+
+// Whether all is over, since there is no chain to be tried, and the answer then; which chain, with the picture's sizes.
+pub struct Ready {
+    pub over: bool,
+    pub number: u32,
+    pub look: Look,
+    pub sizes: Sizes,
+}
 
 // Four words at the head of `out`, if it has four.
 fn put_four(out: &mut [usize], a: usize, b: usize, c: usize, d: usize)
@@ -46,7 +59,40 @@ fn put_move(out: &mut [usize], r: MaybeMove) -> u32
     1
 }
 
-// The move from block x of an accepted picture, facts, predecessors and live-in made for this one search.
+// There is no chain to be tried.
+fn without(n: u32) -> Ready
+    ensures { λ r. ⌜ (r .over ≡ true) × (r .number ≡ n) ⌝ }
+{
+    let s = Sizes {
+        blocks: 0,
+        insts: 0,
+        regs: 0,
+        lent: 0,
+    };
+    Ready {
+        over: true,
+        number: n,
+        look: nowhere(),
+        sizes: s,
+    }
+}
+
+// With the chain that was found, if there is one.
+fn take(r: MaybeLook, s: Sizes) -> Ready
+    ensures { λ q. ⌜ Taken r s q ⌝ }
+{
+    let MaybeLook::Is(k) = r else {
+        return without(0);
+    };
+    Ready {
+        over: false,
+        number: 0,
+        look: k,
+        sizes: s,
+    }
+}
+
+// The chain from block x of an accepted picture, if it is worth a look; facts on registers, predecessors and live-in made for it.
 fn seek<'a>(
     t: &[u32; 202],
     bounds: &[u32],
@@ -62,17 +108,12 @@ fn seek<'a>(
     replay: &[u32],
     work64: &mut [u64],
     work32: &mut [u32],
+    s: Sizes,
     x: BlockId,
-) -> MaybeMove
-    requires { ⌜ (now t ≡ rows) × (refusal (picture-of (now bounds) (now recs) (now locs) (now vias) (now types) registers (now ops) operands (now pairs) (now targets) (now replay)) (length (now work64)) (length (now work32)) ≡ 0) × (x .0 < nblocks (picture-of (now bounds) (now recs) (now locs) (now vias) (now types) registers (now ops) operands (now pairs) (now targets) (now replay))) ⌝ }
-    ensures { λ r. ⌜ Sought (picture-of (now (bounds .entry)) (now (recs .entry)) (now (locs .entry)) (now (vias .entry)) (now (types .entry)) registers (now (ops .entry)) operands (now (pairs .entry)) (now (targets .entry)) (now (replay .entry))) (now (work64 .entry)) (now (work32 .entry)) (now (work64 .exit)) (now (work32 .exit)) (x .0) r ⌝ }
+) -> MaybeLook
+    requires { ⌜ (now t ≡ rows) × (refusal (picture-of (now bounds) (now recs) (now locs) (now vias) (now types) registers (now ops) operands (now pairs) (now targets) (now replay)) (length (now work64)) (length (now work32)) records ≡ 0) × (x .0 < nblocks (picture-of (now bounds) (now recs) (now locs) (now vias) (now types) registers (now ops) operands (now pairs) (now targets) (now replay))) × (s ≡ sizes-of (picture-of (now bounds) (now recs) (now locs) (now vias) (now types) registers (now ops) operands (now pairs) (now targets) (now replay))) ⌝ }
+    ensures { λ r. ⌜ Seen (picture-of (now (bounds .entry)) (now (recs .entry)) (now (locs .entry)) (now (vias .entry)) (now (types .entry)) registers (now (ops .entry)) operands (now (pairs .entry)) (now (targets .entry)) (now (replay .entry))) (now (work64 .entry)) (now (work32 .entry)) (now (work64 .exit)) (now (work32 .exit)) (x .0) r ⌝ }
 {
-    let s = Sizes {
-        blocks: (bounds.len() / 2) as u32,
-        insts: locs.len(),
-        regs: registers,
-        lent: types.len(),
-    };
     begin(
         t,
         bounds,
@@ -88,10 +129,129 @@ fn seek<'a>(
     );
     let w = width(wide(registers));
     live_in(work64, t, bounds, recs, ops, pairs, targets, w);
-    let MaybeLook::Is(k) = look_from(bounds, recs, replay, work32, s, x) else {
-        return MaybeMove::Not;
+    look_from(bounds, recs, replay, work32, s, x)
+}
+
+// Refused; no block; or the chain from block x. So many records are lent.
+fn set_out<'a>(
+    t: &[u32; 202],
+    bounds: &[u32],
+    recs: &'a [u32],
+    locs: &[u32],
+    vias: &[u32],
+    types: &[u32],
+    registers: u32,
+    ops: &[u32],
+    operands: u32,
+    pairs: &[u32],
+    targets: &'a [u32],
+    replay: &[u32],
+    work64: &mut [u64],
+    work32: &mut [u32],
+    lent: usize,
+    x: u32,
+) -> Ready
+    requires { ⌜ now t ≡ rows ⌝ }
+    ensures { λ r. ⌜ SetOut (picture-of (now (bounds .entry)) (now (recs .entry)) (now (locs .entry)) (now (vias .entry)) (now (types .entry)) registers (now (ops .entry)) operands (now (pairs .entry)) (now (targets .entry)) (now (replay .entry))) x lent (now (work64 .entry)) (now (work32 .entry)) (now (work64 .exit)) (now (work32 .exit)) r ⌝ }
+{
+    let n = refusal(
+        bounds,
+        recs,
+        locs,
+        vias,
+        types,
+        registers,
+        ops,
+        operands,
+        pairs,
+        targets,
+        work64.len(),
+        work32.len(),
+        lent,
+        t,
+    );
+    if n != 0 {
+        return without(200 + n);
+    }
+    let blocks = (bounds.len() / 2) as u32;
+    let MaybeBlock::Is(b) = BlockId::new(x, blocks) else {
+        return without(300);
     };
-    try_chain(
+    let s = Sizes {
+        blocks: blocks,
+        insts: locs.len(),
+        regs: registers,
+        lent: types.len(),
+    };
+    let r = seek(
+        t,
+        bounds,
+        recs,
+        locs,
+        vias,
+        types,
+        registers,
+        ops,
+        operands,
+        pairs,
+        targets,
+        replay,
+        work64,
+        work32,
+        s,
+        b,
+    );
+    take(r, s)
+}
+
+// The search by the table of opcodes.
+fn try_by<'a>(
+    t: &[u32; 202],
+    bounds: &[u32],
+    recs: &'a [u32],
+    locs: &[u32],
+    vias: &[u32],
+    types: &[u32],
+    registers: u32,
+    ops: &[u32],
+    operands: u32,
+    pairs: &[u32],
+    targets: &'a [u32],
+    replay: &[u32],
+    work64: &mut [u64],
+    work32: &mut [u32],
+    facts: &mut [Fact],
+    x: u32,
+    out: &mut [usize],
+) -> u32
+    requires { ⌜ now t ≡ rows ⌝ }
+    ensures { λ r. ⌜ (r ≡ attempt (picture-of (now (bounds .entry)) (now (recs .entry)) (now (locs .entry)) (now (vias .entry)) (now (types .entry)) registers (now (ops .entry)) operands (now (pairs .entry)) (now (targets .entry)) (now (replay .entry))) (length (now (work64 .entry))) (length (now (work32 .entry))) (length (now (facts .entry))) x)
+        × (now (out .exit) ≡ with-attempt (now (out .entry)) (picture-of (now (bounds .entry)) (now (recs .entry)) (now (locs .entry)) (now (vias .entry)) (now (types .entry)) registers (now (ops .entry)) operands (now (pairs .entry)) (now (targets .entry)) (now (replay .entry))) (length (now (work64 .entry))) (length (now (work32 .entry))) (length (now (facts .entry))) x)
+        × Left (picture-of (now (bounds .entry)) (now (recs .entry)) (now (locs .entry)) (now (vias .entry)) (now (types .entry)) registers (now (ops .entry)) operands (now (pairs .entry)) (now (targets .entry)) (now (replay .entry))) x (length (now (facts .entry))) (now (work64 .entry)) (now (work32 .entry)) (now (work64 .exit)) (now (work32 .exit))
+        × Listed (picture-of (now (bounds .entry)) (now (recs .entry)) (now (locs .entry)) (now (vias .entry)) (now (types .entry)) registers (now (ops .entry)) operands (now (pairs .entry)) (now (targets .entry)) (now (replay .entry))) x (length (now (work64 .entry))) (length (now (work32 .entry))) (now (facts .entry)) (now (facts .exit)) ⌝ }
+{
+    let k = set_out(
+        t,
+        bounds,
+        recs,
+        locs,
+        vias,
+        types,
+        registers,
+        ops,
+        operands,
+        pairs,
+        targets,
+        replay,
+        work64,
+        work32,
+        facts.len(),
+        x,
+    );
+    if k.over {
+        return k.number;
+    }
+    let r = try_chain(
         t,
         bounds,
         recs,
@@ -101,15 +261,17 @@ fn seek<'a>(
         replay,
         work64,
         work32,
-        s,
-        k.x,
-        k.c,
-    )
+        facts,
+        k.sizes,
+        k.look.x,
+        k.look.c,
+    );
+    put_move(out, r)
 }
 
 // 1 if block x has a move, 0 if not; 200 and the number of a refusal; 300 where x is no block. Of a move, at the head of `out`, if it
-// has four words: the target, the positions in x but for its last, those of the chain, the members. The chain's words are the first
-// 8,000 of `work32`, ten a position (docs/DESIGN.md).
+// has four words: the target, the positions in x but for its last, those of the chain, the members. The chain's facts are then the first
+// of `facts`, one a position, and its words the first 8,000 of `work32`, ten a position (docs/DESIGN.md).
 #[no_mangle]
 pub extern "C" fn virdzeba_try<'a>(
     bounds: &[u32],
@@ -125,36 +287,17 @@ pub extern "C" fn virdzeba_try<'a>(
     replay: &[u32],
     work64: &mut [u64],
     work32: &mut [u32],
+    facts: &mut [Fact],
     x: u32,
     out: &mut [usize],
 ) -> u32
-    ensures { λ r. ⌜ r ≡ attempt (picture-of (now (bounds .entry)) (now (recs .entry)) (now (locs .entry)) (now (vias .entry)) (now (types .entry)) registers (now (ops .entry)) operands (now (pairs .entry)) (now (targets .entry)) (now (replay .entry))) (length (now (work64 .entry))) (length (now (work32 .entry))) x ⌝ }
-    ensures { λ _. ⌜ now (out .exit) ≡ with-attempt (now (out .entry)) (picture-of (now (bounds .entry)) (now (recs .entry)) (now (locs .entry)) (now (vias .entry)) (now (types .entry)) registers (now (ops .entry)) operands (now (pairs .entry)) (now (targets .entry)) (now (replay .entry))) (length (now (work64 .entry))) (length (now (work32 .entry))) x ⌝ }
-    ensures { λ _. ⌜ Left (picture-of (now (bounds .entry)) (now (recs .entry)) (now (locs .entry)) (now (vias .entry)) (now (types .entry)) registers (now (ops .entry)) operands (now (pairs .entry)) (now (targets .entry)) (now (replay .entry))) x (now (work64 .entry)) (now (work32 .entry)) (now (work64 .exit)) (now (work32 .exit)) ⌝ }
+    ensures { λ r. ⌜ (r ≡ attempt (picture-of (now (bounds .entry)) (now (recs .entry)) (now (locs .entry)) (now (vias .entry)) (now (types .entry)) registers (now (ops .entry)) operands (now (pairs .entry)) (now (targets .entry)) (now (replay .entry))) (length (now (work64 .entry))) (length (now (work32 .entry))) (length (now (facts .entry))) x)
+        × (now (out .exit) ≡ with-attempt (now (out .entry)) (picture-of (now (bounds .entry)) (now (recs .entry)) (now (locs .entry)) (now (vias .entry)) (now (types .entry)) registers (now (ops .entry)) operands (now (pairs .entry)) (now (targets .entry)) (now (replay .entry))) (length (now (work64 .entry))) (length (now (work32 .entry))) (length (now (facts .entry))) x)
+        × Left (picture-of (now (bounds .entry)) (now (recs .entry)) (now (locs .entry)) (now (vias .entry)) (now (types .entry)) registers (now (ops .entry)) operands (now (pairs .entry)) (now (targets .entry)) (now (replay .entry))) x (length (now (facts .entry))) (now (work64 .entry)) (now (work32 .entry)) (now (work64 .exit)) (now (work32 .exit))
+        × Listed (picture-of (now (bounds .entry)) (now (recs .entry)) (now (locs .entry)) (now (vias .entry)) (now (types .entry)) registers (now (ops .entry)) operands (now (pairs .entry)) (now (targets .entry)) (now (replay .entry))) x (length (now (work64 .entry))) (length (now (work32 .entry))) (now (facts .entry)) (now (facts .exit)) ⌝ }
 {
     let t = table();
-    let n = refusal(
-        bounds,
-        recs,
-        locs,
-        vias,
-        types,
-        registers,
-        ops,
-        operands,
-        pairs,
-        targets,
-        work64.len(),
-        work32.len(),
-        &t,
-    );
-    if n != 0 {
-        return 200 + n;
-    }
-    let MaybeBlock::Is(b) = BlockId::new(x, (bounds.len() / 2) as u32) else {
-        return 300;
-    };
-    let r = seek(
+    try_by(
         &t,
         bounds,
         recs,
@@ -169,7 +312,8 @@ pub extern "C" fn virdzeba_try<'a>(
         replay,
         work64,
         work32,
-        b,
-    );
-    put_move(out, r)
+        facts,
+        x,
+        out,
+    )
 }

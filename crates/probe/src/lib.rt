@@ -32,8 +32,9 @@ pub extern "C" fn virdzeba_refusal(
     operands: u32,
     w64: usize,
     w32: usize,
+    records: usize,
 ) -> u32
-    ensures { λ r. ⌜ r ≡ refusal (picture-of (now (bounds .entry)) (now (recs .entry)) (now (locs .entry)) (now (vias .entry)) (now (types .entry)) registers (now (ops .entry)) operands (now (pairs .entry)) (now (targets .entry)) []) w64 w32 ⌝ }
+    ensures { λ r. ⌜ r ≡ refusal (picture-of (now (bounds .entry)) (now (recs .entry)) (now (locs .entry)) (now (vias .entry)) (now (types .entry)) registers (now (ops .entry)) operands (now (pairs .entry)) (now (targets .entry)) []) w64 w32 records ⌝ }
 {
     let t = table();
     refusal(
@@ -49,6 +50,7 @@ pub extern "C" fn virdzeba_refusal(
         targets,
         w64,
         w32,
+        records,
         &t,
     )
 }
@@ -69,8 +71,9 @@ pub extern "C" fn virdzeba_preds<'a>(
     registers: u32,
     operands: u32,
     w64: usize,
+    records: usize,
 ) -> u32
-    ensures { λ r. ⌜ r ≡ refusal (picture-of (now (bounds .entry)) (now (recs .entry)) (now (locs .entry)) (now (vias .entry)) (now (types .entry)) registers (now (ops .entry)) operands (now (pairs .entry)) (now (targets .entry)) []) w64 (length (now (words .entry))) ⌝ }
+    ensures { λ r. ⌜ r ≡ refusal (picture-of (now (bounds .entry)) (now (recs .entry)) (now (locs .entry)) (now (vias .entry)) (now (types .entry)) registers (now (ops .entry)) operands (now (pairs .entry)) (now (targets .entry)) []) w64 (length (now (words .entry))) records ⌝ }
     ensures { λ r. ⌜ ((r ≡ 0 → ⊥) → now (words .exit) ≡ now (words .entry)) ⌝ }
     ensures { λ r. ⌜ (r ≡ 0 → Preds (picture-of (now (bounds .entry)) (now (recs .entry)) (now (locs .entry)) (now (vias .entry)) (now (types .entry)) registers (now (ops .entry)) operands (now (pairs .entry)) (now (targets .entry)) []) (now (words .exit))) ⌝ }
 {
@@ -88,6 +91,7 @@ pub extern "C" fn virdzeba_preds<'a>(
         targets,
         w64,
         words.len(),
+        records,
         &t,
     );
     if r != 0 {
@@ -120,8 +124,9 @@ pub extern "C" fn virdzeba_live<'a>(
     registers: u32,
     operands: u32,
     w32: usize,
+    records: usize,
 ) -> u32
-    ensures { λ r. ⌜ r ≡ refusal (picture-of (now (bounds .entry)) (now (recs .entry)) (now (locs .entry)) (now (vias .entry)) (now (types .entry)) registers (now (ops .entry)) operands (now (pairs .entry)) (now (targets .entry)) []) (length (now (bits .entry))) w32 ⌝ }
+    ensures { λ r. ⌜ r ≡ refusal (picture-of (now (bounds .entry)) (now (recs .entry)) (now (locs .entry)) (now (vias .entry)) (now (types .entry)) registers (now (ops .entry)) operands (now (pairs .entry)) (now (targets .entry)) []) (length (now (bits .entry))) w32 records ⌝ }
     ensures { λ r. ⌜ ((r ≡ 0 → ⊥) → now (bits .exit) ≡ now (bits .entry)) ⌝ }
     ensures { λ r. ⌜ (r ≡ 0 → Live (picture-of (now (bounds .entry)) (now (recs .entry)) (now (locs .entry)) (now (vias .entry)) (now (types .entry)) registers (now (ops .entry)) operands (now (pairs .entry)) (now (targets .entry)) []) ((registers + 63) / 64) (now (bits .exit))) ⌝ }
 {
@@ -139,6 +144,7 @@ pub extern "C" fn virdzeba_live<'a>(
         targets,
         bits.len(),
         w32,
+        records,
         &t,
     );
     if r != 0 {

@@ -1,12 +1,14 @@
-// The whole call over slices, for pictures past the program's sizes (01, "The call").
+// The whole call over slices and a lent list of facts, for pictures past the program's sizes (01, "The call").
+use facts::Fact;
 use model::Answer;
 use sink::sink_all;
 ghost use mathlib.Core.Path.{_≡_};
 ghost use Prim.Native.Nat.{_≤_};
 ghost use lib.ListN.{length};
 ghost use Rattle.model.specs.Pass.{number};
-ghost use Rattle.sink.specs.Sink.{outcome, cause, Work};
-ghost use Rattle.probe.specs.Heads.{with-two, with-used};
+ghost use Rattle.driver.specs.Ended.{Work};
+ghost use Rattle.sink.specs.Sink.{outcome, cause, Lent};
+ghost use Rattle.probe.specs.Heads.{with-two, with-used, Told};
 
 // Two words at the head of `out`, if it has two.
 fn put_two(out: &mut [u32], a: u32, b: u32)
@@ -54,17 +56,12 @@ pub extern "C" fn virdzeba_sink_all(
     replay: &[u32],
     work64: &mut [u64],
     work32: &mut [u32],
+    facts: &mut [Fact],
     out: &mut [u32],
 ) -> u32
-    ensures { λ r. ⌜ r ≡ number (outcome (now (bounds .entry)) (now (recs .entry)) (now (locs .entry)) (now (vias .entry)) (now (types .entry)) registers (now (ops .entry)) operands (now (pairs .entry)) (now (targets .entry)) (now (replay .entry)) (length (now (work64 .entry))) (length (now (work32 .entry))) .answer) ⌝ }
-    ensures { λ _. ⌜ now (bounds .exit) ≡ outcome (now (bounds .entry)) (now (recs .entry)) (now (locs .entry)) (now (vias .entry)) (now (types .entry)) registers (now (ops .entry)) operands (now (pairs .entry)) (now (targets .entry)) (now (replay .entry)) (length (now (work64 .entry))) (length (now (work32 .entry))) .left .bounds ⌝ }
-    ensures { λ _. ⌜ now (recs .exit) ≡ outcome (now (bounds .entry)) (now (recs .entry)) (now (locs .entry)) (now (vias .entry)) (now (types .entry)) registers (now (ops .entry)) operands (now (pairs .entry)) (now (targets .entry)) (now (replay .entry)) (length (now (work64 .entry))) (length (now (work32 .entry))) .left .recs ⌝ }
-    ensures { λ _. ⌜ now (locs .exit) ≡ outcome (now (bounds .entry)) (now (recs .entry)) (now (locs .entry)) (now (vias .entry)) (now (types .entry)) registers (now (ops .entry)) operands (now (pairs .entry)) (now (targets .entry)) (now (replay .entry)) (length (now (work64 .entry))) (length (now (work32 .entry))) .left .locs ⌝ }
-    ensures { λ _. ⌜ now (vias .exit) ≡ outcome (now (bounds .entry)) (now (recs .entry)) (now (locs .entry)) (now (vias .entry)) (now (types .entry)) registers (now (ops .entry)) operands (now (pairs .entry)) (now (targets .entry)) (now (replay .entry)) (length (now (work64 .entry))) (length (now (work32 .entry))) .left .vias ⌝ }
-    ensures { λ _. ⌜ now (types .exit) ≡ outcome (now (bounds .entry)) (now (recs .entry)) (now (locs .entry)) (now (vias .entry)) (now (types .entry)) registers (now (ops .entry)) operands (now (pairs .entry)) (now (targets .entry)) (now (replay .entry)) (length (now (work64 .entry))) (length (now (work32 .entry))) .left .types ⌝ }
-    ensures { λ _. ⌜ now (ops .exit) ≡ outcome (now (bounds .entry)) (now (recs .entry)) (now (locs .entry)) (now (vias .entry)) (now (types .entry)) registers (now (ops .entry)) operands (now (pairs .entry)) (now (targets .entry)) (now (replay .entry)) (length (now (work64 .entry))) (length (now (work32 .entry))) .left .ops ⌝ }
-    ensures { λ _. ⌜ Work (cause (now (bounds .entry)) (now (recs .entry)) (now (locs .entry)) (now (vias .entry)) (now (types .entry)) registers (now (ops .entry)) operands (now (pairs .entry)) (now (targets .entry)) (now (replay .entry)) (length (now (work64 .entry))) (length (now (work32 .entry)))) (now (work64 .entry)) (now (work32 .entry)) (now (work64 .exit)) (now (work32 .exit)) ⌝ }
-    ensures { λ _. ⌜ now (out .exit) ≡ with-used (now (out .entry)) (outcome (now (bounds .entry)) (now (recs .entry)) (now (locs .entry)) (now (vias .entry)) (now (types .entry)) registers (now (ops .entry)) operands (now (pairs .entry)) (now (targets .entry)) (now (replay .entry)) (length (now (work64 .entry))) (length (now (work32 .entry))) .answer) ⌝ }
+    ensures { λ r. ⌜ Told (outcome (now (bounds .entry)) (now (recs .entry)) (now (locs .entry)) (now (vias .entry)) (now (types .entry)) registers (now (ops .entry)) operands (now (pairs .entry)) (now (targets .entry)) (now (replay .entry)) (length (now (work64 .entry))) (length (now (work32 .entry))) (length (now (facts .entry)))) r (now (bounds .exit)) (now (recs .exit)) (now (locs .exit)) (now (vias .exit)) (now (types .exit)) (now (ops .exit)) (now (out .entry)) (now (out .exit))
+        × Work (cause (now (bounds .entry)) (now (recs .entry)) (now (locs .entry)) (now (vias .entry)) (now (types .entry)) registers (now (ops .entry)) operands (now (pairs .entry)) (now (targets .entry)) (now (replay .entry)) (length (now (work64 .entry))) (length (now (work32 .entry))) (length (now (facts .entry)))) (now (work64 .entry)) (now (work32 .entry)) (now (work64 .exit)) (now (work32 .exit))
+        × Lent (cause (now (bounds .entry)) (now (recs .entry)) (now (locs .entry)) (now (vias .entry)) (now (types .entry)) registers (now (ops .entry)) operands (now (pairs .entry)) (now (targets .entry)) (now (replay .entry)) (length (now (work64 .entry))) (length (now (work32 .entry))) (length (now (facts .entry)))) (now (facts .entry)) (now (facts .exit)) ⌝ }
 {
     let answer = sink_all(
         bounds,
@@ -80,6 +77,7 @@ pub extern "C" fn virdzeba_sink_all(
         replay,
         work64,
         work32,
+        facts,
     );
     tell(out, answer)
 }

@@ -150,10 +150,10 @@ module _ (bs : List ℕ) where
   unread-is e = sym (ap (λ (b : Bool). elim b as (λ z. List ℕ) [ true ↦ text (sunk bs 512 2048) | false ↦ unread-text ]) e)
 
   pub few : {result lines after : List ℕ} {a : Answer} → Ran-as (sunk bs 512 2048) result a lines after → rounds a ≤ 8
-  few r = subst (λ (a : Answer). rounds a ≤ 8) (sym (r .answer-is)) (few-rounds (came (picture-in (words-of bs) 512 2048) 3072 13120))
+  few r = subst (λ (a : Answer). rounds a ≤ 8) (sym (r .answer-is)) (few-rounds (came (picture-in (words-of bs) 512 2048) 3072 13120 800))
 
   pub read-is : {result lines after : List ℕ} {a : Answer} → readable bs ≡ true → Ran-as (sunk bs 512 2048) result a lines after → ran-text a lines ≡ report-of bs
   read-is {lines = lines} {a = a} e r =
-      let k = came (picture-in (words-of bs) 512 2048) 3072 13120 in
+      let k = came (picture-in (words-of bs) 512 2048) 3072 13120 800 in
       text-is (sunk bs 512 2048) a lines (r .answer-is) (r .lines-are) (as-many k ∙ ap rounds (sym (r .answer-is))) (sixes-each k)
       ∙ sym (ap (λ (b : Bool). elim b as (λ z. List ℕ) [ true ↦ text (sunk bs 512 2048) | false ↦ unread-text ]) e)

@@ -1,4 +1,5 @@
 // The text of `sinkrounds` as a function from bytes to bytes (01, "One listing whole").
+use driver::rounds::Ran;
 use host::run::run;
 use layout::read::readable;
 use layout::text::put_answer_heading;
@@ -7,7 +8,6 @@ use layout::text::put_line;
 use layout::text::put_round_heading;
 use layout::text::put_unread;
 use model::Answer;
-use sink::rounds::Ran;
 ghost use mathlib.Core.Path.{_≡_};
 ghost use Prim.Native.Nat.{_+_, _*_, _≤_, _<_};
 ghost use lib.ListN.{length, take};

@@ -1,10 +1,10 @@
 //! Acceptance, judged by itself: document 01's table of causes in plain Rust, and the three gates of the entry.
 
 use crate::kinds::{self, KINDS, Slot};
-use crate::picture::{ABSENT, Picture, RECORD, Record};
+use crate::picture::{ABSENT, Picture, RECORD, Record, Work};
 
-/// The lowest number whose cause is present, 0 where none is. `w64` and `w32` are the lengths of the work slices.
-pub fn refusal(p: &Picture, w64: usize, w32: usize) -> u32 {
+/// The lowest number whose cause is present, 0 where none is, given what is lent to work in.
+pub fn refusal(p: &Picture, work: Work) -> u32 {
     let causes: [fn(&Picture) -> bool; 9] =
         [too_large, uneven, apart, bad_kind, bad_slot, bad_list, bad_target, long_cat, bad_type];
     for (k, cause) in causes.iter().enumerate() {
@@ -12,8 +12,8 @@ pub fn refusal(p: &Picture, w64: usize, w32: usize) -> u32 {
             return k as u32 + 1;
         }
     }
-    let (need64, need32) = p.work();
-    if w64 < need64 || w32 < need32 {
+    let need = p.work();
+    if work.w64 < need.w64 || work.w32 < need.w32 || work.records < need.records {
         return 10;
     }
     if p.records().any(|r| writes_two(&r)) { 11 } else { 0 }

@@ -4,6 +4,7 @@ use crate::accept;
 use crate::boundary;
 use crate::copies::copies;
 use crate::driver::{Facts, Pass};
+use crate::fact::Fact;
 use crate::generate::{Size, bare};
 use crate::kinds::{ALLOC, CAT, CMP, COND_BR, CONST, LOAD, RET, STMT, STORE};
 use crate::oracle::{Lent, oracle_with_work};
@@ -22,7 +23,7 @@ Written by `make bench`, which runs `compare bench` of tests/rust. Port and Rust
 
 - The port is `virdzeba_sink_all` of crate `probe`: `sink::sink_all` over lent slices, with acceptance, the gates, predecessors and the facts on registers in its time. It allocates nothing.
 - The Rust is `find_preds` and `sink_all` of `sink.rs` (docs/DIFFERENCES.md). Its facts on registers are found, and lengthened, before its time begins. Inside its time it allocates predecessors, live sets, the vectors and hash maps of each chain, and the code of the blocks that a move changes.
-- Each run gets a fresh picture and, for the port, fresh work slices that hold other words. They are made before the time begins and dropped after its end. The room lent is what the rounds need, no more.
+- Each run gets a fresh picture and, for the port, fresh work slices and a fresh list of 800 facts that hold something else. They are made before the time begins and dropped after its end. The room lent is what the rounds need, no more.
 - Before it is timed, each picture's result is compared, word for word.
 - Instructions are those that callgrind counts in one run of the same two functions (`valgrind --tool=callgrind --toggle-collect`), in thousands. They repeat where times do not. It counts each step of a repeated store (`rep stos`), so clearing memory weighs more there than in time.
 ";
@@ -167,11 +168,11 @@ fn of_blocks(blocks: &[Vec<Record>]) -> Picture {
 
 /// One run of the port over fresh slices, in milliseconds.
 fn port_once(p: &Picture) -> f64 {
-    let (w64, w32) = p.work();
-    let fresh = (p.clone(), vec![!0u64; w64], vec![!0u32; w32]);
-    once(fresh, |(mut p, mut work64, mut work32)| {
-        port::sink_all(&mut p, &mut work64, &mut work32, &mut [0; 2]);
-        (p, work64, work32)
+    let work = p.work();
+    let fresh = (p.clone(), vec![!0u64; work.w64], vec![!0u32; work.w32], vec![Fact::junk(!0); work.records]);
+    once(fresh, |(mut p, mut work64, mut work32, mut facts)| {
+        port::sink_all(&mut p, &mut work64, &mut work32, &mut facts, &mut [0; 2]);
+        (p, work64, work32, facts)
     })
 }
 
@@ -209,16 +210,17 @@ fn counted(side: &str, row: &Row) -> String {
 
 /// The medians of the Rust, the port, and the port's acceptance alone, once the results are the same.
 fn times(p: &Picture) -> [f64; 3] {
-    let (w64, w32) = p.work();
+    let work = p.work();
     let wanted = oracle_with_work(p).expect("no more types than the Rust has");
     let (mut q, mut out) = (p.clone(), [0; 2]);
-    let number = port::sink_all(&mut q, &mut vec![!0; w64], &mut vec![!0; w32], &mut out);
+    let mut facts = vec![Fact::junk(!0); work.records];
+    let number = port::sink_all(&mut q, &mut vec![!0; work.w64], &mut vec![!0; work.w32], &mut facts, &mut out);
     [q.regs, q.opers] = out;
     assert!(number == wanted.answer.number() && q == wanted.picture, "the port's result is the Rust's");
     let lent = Lent::new(p).expect("no more types than the Rust has");
     let mut rust = || rust_once(&lent);
     let mut port = || port_once(p);
-    let mut scan = || once(p, |p| port::refusal(p, w64, w32));
+    let mut scan = || once(p, |p| port::refusal(p, work));
     medians([&mut rust, &mut port, &mut scan])
 }
 
@@ -244,10 +246,10 @@ fn print_row(row: Row) {
 fn print_stack(rows: &[Row]) {
     let most = rows.iter().map(|row| {
         let mut p = row.picture();
-        let (w64, w32) = p.work();
-        let (mut work64, mut work32) = (vec![!0u64; w64], vec![!0u32; w32]);
+        let work = p.work();
+        let (mut work64, mut work32, mut facts) = (vec![!0u64; work.w64], vec![!0u32; work.w32], vec![Fact::junk(!0); work.records]);
         stack(&mut || {
-            port::sink_all(&mut p, &mut work64, &mut work32, &mut [0; 2]);
+            port::sink_all(&mut p, &mut work64, &mut work32, &mut facts, &mut [0; 2]);
         })
     });
     println!("\n## Stack\n\n{} bytes at most beside the lent slices, over {}; no heap.", most.max().unwrap_or(0), rows.iter().map(Row::name).collect::<Vec<_>>().join(", "));

@@ -1,26 +1,28 @@
-//! What the port's search from a block leaves held against the Rust's `analyse` and `plan` before round 1: of each position its
-//! class, the origin of its value, length, layout, creates, memory written and read, barrier, suspends and the register written; of
-//! each register its facts and last writer; of a move the target, the set and each member's last use. Of a refused picture, and
-//! where the block is none, nothing may be written. Pictures: generated ones, damaged ones, and each kind and form once over registers
-//! of each origin.
+//! What the port's search from a block leaves held against the Rust's `analyse` and `plan` before round 1: of each position, in the lent
+//! list, its class, the origin of its value, length, layout, creates, memory written and read, barrier, suspends, and the registers read
+//! and written; of each register its facts and last writer; of a move the target, the set, in the list and in the chain's words, and each
+//! member's last use. Of a refused picture, with 799 records, and where the block is none, nothing may be written. Pictures: generated
+//! ones, damaged ones, and each kind and form once over registers of each origin.
 
 use std::collections::BTreeMap;
 
 use crate::accept;
 use crate::damage::DAMAGES;
 use crate::driver::{Pass, Search, Told};
+use crate::fact::Fact;
 use crate::generate::picture;
 use crate::kinds::{self, KINDS, Slot};
 use crate::oracle::Lent;
-use crate::picture::{ABSENT, Picture, Record};
+use crate::picture::{ABSENT, Picture, Record, Work};
 use crate::random::Random;
 use crate::selfcheck::size_of;
 
-/// The search from a block, or something that stands for it: the picture, both work slices, the block and four words for the move.
-pub trait Tries: FnMut(&Picture, &mut [u64], &mut [u32], u32, &mut [usize]) -> u32 {}
-impl<F: FnMut(&Picture, &mut [u64], &mut [u32], u32, &mut [usize]) -> u32> Tries for F {}
+/// The search from a block, or something that stands for it: the picture, both work slices, the list of facts, the block and four words
+/// for the move.
+pub trait Tries: FnMut(&Picture, &mut [u64], &mut [u32], &mut [Fact], u32, &mut [usize]) -> u32 {}
+impl<F: FnMut(&Picture, &mut [u64], &mut [u32], &mut [Fact], u32, &mut [usize]) -> u32> Tries for F {}
 
-/// Words of a position, and where the words of registers begin.
+/// Words of a position for the move, and where the copy of the words of registers begins.
 const POSITION: usize = 10;
 const REGISTERS: usize = 8000;
 /// The memory that a Cat reads is looked up again.
@@ -45,6 +47,8 @@ pub struct Stats {
     pub none: usize,
     pub passed_over: usize,
     pub no_block: usize,
+    /// accepted but for the records, 799 of them
+    pub few_records: usize,
     pub second_target: usize,
     pub positions: usize,
     pub values: usize,
@@ -58,6 +62,9 @@ pub struct Stats {
     pub flags: [usize; 5],
     /// registers with each flag, and with a last writer
     pub registers: [usize; 5],
+    /// positions that read two registers and no more, and that read or write more than the fact names
+    pub two_reads: usize,
+    pub more: usize,
     pub members: usize,
     pub to_the_end: usize,
     pub faults: Vec<String>,
@@ -145,8 +152,8 @@ pub fn facts(n: usize, seed: u64, mut tries: impl Tries) -> Stats {
 
 impl Stats {
     fn compare(&mut self, p: &Picture, name: &str, rnd: &mut Random, tries: &mut impl Tries) {
-        let (w64, w32) = p.work();
-        let refused = accept::refusal(p, w64, w32);
+        let work = p.work();
+        let refused = accept::refusal(p, work);
         let mut searches = Vec::new();
         if refused == 0 {
             // A damaged picture may use more types than the Rust has.
@@ -163,9 +170,8 @@ impl Stats {
             if x >= 64 && x < blocks && searches[x].is_none() && !rnd.chance(5) {
                 continue;
             }
-            let junk = rnd.word();
-            let (mut work64, mut work32, mut out) = (vec![junk; w64], vec![junk as u32; w32], [junk as usize; 5]);
-            let found = tries(p, &mut work64, &mut work32, x as u32, &mut out);
+            let mut lent = Slices::new(work, rnd.word());
+            let found = lent.search(p, x, tries);
             if *p != copy {
                 self.faults.push(format!("{name}: the port changed the picture"));
                 return;
@@ -173,25 +179,31 @@ impl Stats {
             if x == blocks {
                 let wanted = if refused == 0 { 300 } else { 200 + refused };
                 self.no_block += usize::from(refused == 0);
-                let kept = work64.iter().all(|&w| w == junk) && work32.iter().all(|&w| w == junk as u32) && out == [junk as usize; 5];
-                if found != wanted || !kept {
+                if found != wanted || !lent.untouched() {
                     self.faults.push(format!("{name}: {found} in place of {wanted}, or something was written"));
                 }
             } else {
-                let left = Left { p, x, work64: &work64, work32: &work32, out: &out, junk: junk as usize };
-                self.searched(&left, searches[x].as_ref(), found, name);
+                self.searched(&Left { p, x, lent: &lent }, searches[x].as_ref(), found, name);
+            }
+        }
+        if refused == 0 && rnd.chance(10) {
+            self.few_records += 1;
+            let mut lent = Slices::new(Work { records: work.records - 1, ..work }, rnd.word());
+            let found = lent.search(p, 0, tries);
+            if found != 210 || !lent.untouched() {
+                self.faults.push(format!("{name}: {found} in place of 210 for 799 records, or something was written"));
             }
         }
     }
 
     fn searched(&mut self, left: &Left, search: Option<&Search>, found: u32, name: &str) {
         let target = search.and_then(|s| s.target);
-        let mut wanted = [left.junk; 5];
+        let mut wanted = [left.lent.junk as usize; 5];
         if let (Some(s), Some(into)) = (search, target) {
             wanted[..4].copy_from_slice(&[into, s.inside, s.told.len(), s.set.iter().filter(|m| **m).count()]);
         }
-        if found != u32::from(target.is_some()) || *left.out != wanted {
-            self.faults.push(format!("{name}, block {}: {found} and {:?} in place of {wanted:?}", left.x, left.out));
+        if found != u32::from(target.is_some()) || left.lent.out != wanted {
+            self.faults.push(format!("{name}, block {}: {found} and {:?} in place of {wanted:?}", left.x, left.lent.out));
             return;
         }
         let Some(s) = search else {
@@ -233,6 +245,9 @@ impl Stats {
             (self.passed_over, "blocks that are not looked at"),
             (self.second_target, "moves into f"),
             (self.no_block, "a block that is none"),
+            (self.few_records, "799 records"),
+            (self.two_reads, "positions that read two registers"),
+            (self.more, "positions that read or write more"),
             (self.refused, "refused pictures"),
             (self.to_the_end, "members that the target reads"),
         ] {
@@ -258,12 +273,12 @@ impl Stats {
 
     pub fn print(&self) {
         println!("facts: the port's search from each block against analyse and plan, {} pictures, {} of one instruction, {} differences", self.pictures, self.singles, self.faults.len());
-        println!("refused, nothing written {} and so where the block is none {}", self.refused, self.no_block);
+        println!("refused, nothing written {}, and so where the block is none {}, with 799 records {}", self.refused, self.no_block, self.few_records);
         println!("moves {}, into f {}, members {}, read by the target {}", self.moves, self.second_target, self.members, self.to_the_end);
         println!("searches without a move {}, blocks not looked at {}", self.none, self.passed_over);
         println!("positions {} of {} kinds and forms, classes No, Movable, Free {:?}", self.positions, self.arms.len(), self.classes);
         println!("by {SORTS:?}: values {:?} of {}, memory written {:?}, read {:?}", self.origins, self.values, self.written, self.read);
-        println!("by {FLAGS:?}: {:?}", self.flags);
+        println!("by {FLAGS:?}: {:?}; two registers read {}, more read or written {}", self.flags, self.two_reads, self.more);
         println!("registers read-only, frame, length, above 0, written {:?}", self.registers);
         for f in self.faults.iter().take(20) {
             println!("fault: {f}");
@@ -280,21 +295,45 @@ fn is_left(held: u64, writer: Option<usize>, s: &Search) -> bool {
     held % 2048 == u64::from(origin) && bit(11) == length && maker.is_none_or(|(_, _, layout)| bit(12) == layout)
 }
 
+/// What is lent to a search, each filled with one word at first.
+struct Slices {
+    work64: Vec<u64>,
+    work32: Vec<u32>,
+    facts: Vec<Fact>,
+    out: [usize; 5],
+    junk: u64,
+}
+
+impl Slices {
+    fn new(work: Work, junk: u64) -> Slices {
+        Slices { work64: vec![junk; work.w64], work32: vec![junk as u32; work.w32], facts: vec![Fact::junk(junk); work.records], out: [junk as usize; 5], junk }
+    }
+
+    fn search(&mut self, p: &Picture, x: usize, tries: &mut impl Tries) -> u32 {
+        tries(p, &mut self.work64, &mut self.work32, &mut self.facts, x as u32, &mut self.out)
+    }
+
+    fn untouched(&self) -> bool {
+        let (junk, fact) = (self.junk, Fact::junk(self.junk));
+        self.work64.iter().all(|&w| w == junk)
+            && self.work32.iter().all(|&w| w == junk as u32)
+            && self.facts.iter().all(|&f| f == fact)
+            && self.out == [junk as usize; 5]
+    }
+}
+
 /// What a search from block `x` left.
 struct Left<'a> {
     p: &'a Picture,
     x: usize,
-    work64: &'a [u64],
-    work32: &'a [u32],
-    out: &'a [usize; 5],
-    junk: usize,
+    lent: &'a Slices,
 }
 
 impl Left<'_> {
     /// The word of a register, and its copy.
     fn register(&self, r: usize) -> (u64, u32) {
         let at = 4 * self.p.nblocks() * self.p.types.len().div_ceil(64);
-        (self.work64[at + r], self.work32[REGISTERS + r])
+        (self.lent.work64[at + r], self.lent.work32[REGISTERS + r])
     }
 
     fn went_to_f(&self, target: Option<usize>) -> bool {
@@ -306,30 +345,27 @@ impl Left<'_> {
         target == Some(last(b).0[10] as usize)
     }
 
-    /// A word of position `k` that is not as told.
+    /// What of position `k` is not as told.
     fn position(&self, k: usize, told: &Told, s: &Search, stats: &mut Stats) -> Option<String> {
-        let w = &self.work32[POSITION * k..POSITION * (k + 1)];
+        let f = &self.lent.facts[k];
         let at = &told.position;
         let place = self.p.bounds[2 * told.place.0] as usize + told.place.1;
         let r = self.p.record(place);
         stats.positions += 1;
         *stats.arms.entry((r.kind(), r.form())).or_default() += 1;
         stats.classes[told.class as usize] += 1;
-        let flag = |on: bool, n: u32| u32::from(on) * n;
+        let mut flags = [false, false, at.creates, at.barrier, at.suspends];
         // Length and layout where the value was looked at.
-        let mut flags = flag(at.creates, 4) + flag(at.barrier, 8) + flag(at.suspends, 16);
-        let mut seen = 28;
         if let Some((origin, length, layout)) = told.value {
-            if w[2] != origin {
-                return Some(format!("origin {} in place of {origin}", w[2]));
+            if (f.org, f.len, f.layout) != (origin, length, layout) {
+                return Some(format!("origin, length, layout {:?} in place of {:?}", (f.org, f.len, f.layout), (origin, length, layout)));
             }
             stats.values += 1;
             stats.origins[sort(origin)] += 1;
-            flags += flag(length, 1) + flag(layout, 2);
-            seen = 31;
+            (flags[0], flags[1]) = (length, layout);
         }
-        for bit in 0..5 {
-            stats.flags[bit] += usize::from(flags >> bit & 1 == 1);
+        for (many, on) in stats.flags.iter_mut().zip(flags) {
+            *many += usize::from(on);
         }
         let memory = |o: Option<u32>| o.map_or(0, |o| o + 1);
         if let Some(o) = at.wrote {
@@ -339,19 +375,48 @@ impl Left<'_> {
             stats.read[sort(o)] += 1;
         }
         let read = if r.kind() == kinds::CAT { PIECES } else { memory(at.reads.first().copied()) };
-        let wanted = [place as u32, told.class, flags, memory(at.wrote), read];
-        let found = [w[0], w[1], w[3] & seen, w[4], w[5]];
-        if found != wanted || w[3] > 31 {
-            return Some(format!("record, class, flags, written, read {found:?} in place of {wanted:?}"));
+        let wanted = ([place as u32, told.class, memory(at.wrote), read], [at.creates, at.barrier, at.suspends]);
+        let found = ([f.rec, f.class, f.wrote, f.from], [f.creates, f.barrier, f.suspends]);
+        if found != wanted {
+            return Some(format!("record, class, written, read; creates, barrier, suspends {found:?} in place of {wanted:?}"));
         }
         let register = at.defs.first().copied().unwrap_or(ABSENT);
-        let planned = s.target.is_some() && k < s.inside;
         // A position that writes two registers never moves.
-        if at.defs.len() < 2 && w[if planned { 8 } else { 6 }] != register {
-            return Some(format!("register written {} in place of {register}", w[if planned { 8 } else { 6 }]));
+        if at.defs.len() < 2 && f.def != register {
+            return Some(format!("register written {} in place of {register}", f.def));
         }
-        if planned && (w[6] != 0) != s.set[k] {
-            return Some(format!("mark {} in place of {}", w[6], s.set[k]));
+        if let Some(what) = self.reads(f, &told.position.uses.iter().map(|u| u.0).collect::<Vec<_>>(), at.defs.len(), stats) {
+            return Some(what);
+        }
+        self.planned(k, told, s, register, place, stats)
+    }
+
+    /// The registers that a position reads, which are not as its fact says.
+    fn reads(&self, f: &Fact, uses: &[u32], defs: usize, stats: &mut Stats) -> Option<String> {
+        let named: Vec<u32> = [f.use0, f.use1].into_iter().filter(|&r| r != ABSENT).collect();
+        stats.more += usize::from(f.more);
+        stats.two_reads += usize::from(!f.more && named.len() == 2);
+        let wrong = if f.more { uses.len() < 3 && defs < 2 || !uses.starts_with(&named) } else { defs > 1 || uses != named };
+        wrong.then(|| format!("registers read {named:?}, more {} in place of {uses:?}", f.more))
+    }
+
+    /// Of a move: the mark in the list, and what stands in the chain's words.
+    fn planned(&self, k: usize, told: &Told, s: &Search, register: u32, place: usize, stats: &mut Stats) -> Option<String> {
+        s.target?;
+        let w = &self.lent.work32[POSITION * k..POSITION * (k + 1)];
+        let inside = k < s.inside;
+        let member = inside && s.set[k];
+        if self.lent.facts[k].member != member {
+            return Some(format!("mark {} in place of {member}", self.lent.facts[k].member));
+        }
+        if w[0] != place as u32 {
+            return Some(format!("word of the record {} in place of {place}", w[0]));
+        }
+        if inside && (w[6] != 0) != member {
+            return Some(format!("word of the mark {} in place of {member}", w[6]));
+        }
+        if inside && told.position.defs.len() < 2 && w[8] != register {
+            return Some(format!("word of the register written {} in place of {register}", w[8]));
         }
         if let Some(last) = told.last_use {
             stats.members += 1;
@@ -375,8 +440,7 @@ mod tests {
         for (k, kind) in KINDS.iter().enumerate() {
             for form in kind.forms.0..=kind.forms.1 {
                 let p = single(k as u32, form, 5, 1);
-                let (w64, w32) = p.work();
-                assert_eq!(accept::refusal(&p, w64, w32), 0, "{} at form {form}", kind.name);
+                assert_eq!(accept::refusal(&p, p.work()), 0, "{} at form {form}", kind.name);
                 let lent = Lent::new(&p).expect("one type");
                 let searches = Pass::searches(&lent.program, &lent.function, &lent.replay);
                 assert!(searches[0].is_some(), "{} at form {form}", kind.name);
@@ -387,30 +451,58 @@ mod tests {
     /// A search that does nothing is found.
     #[test]
     fn nothing_is_found() {
-        let stats = facts(1, 1, |_: &Picture, _: &mut [u64], _: &mut [u32], _: u32, _: &mut [usize]| 0);
+        let stats = facts(1, 1, |_: &Picture, _: &mut [u64], _: &mut [u32], _: &mut [Fact], _: u32, _: &mut [usize]| 0);
         assert!(!stats.faults.is_empty());
     }
 
-    /// A slip in any word that is compared is found.
+    /// A slip in any part of a fact, and in any word, that is compared is found.
     #[cfg(feature = "port")]
     #[test]
     fn a_slip_is_found() {
         use crate::port;
         assert!(facts(40, 1, port::try_block).faults.is_empty());
-        for word in [0, 1, 2, 3, 4, 5, 6, 7, 8] {
-            let slip = |p: &Picture, a: &mut [u64], b: &mut [u32], x: u32, out: &mut [usize]| {
-                let r = port::try_block(p, a, b, x, out);
+        let slips: [fn(&mut [u32], &mut Fact); 17] = [
+            |_, f| f.rec ^= 1,
+            |_, f| f.class ^= 1,
+            |_, f| f.org ^= 1,
+            |_, f| f.wrote ^= 1,
+            |_, f| f.from ^= 1,
+            |_, f| f.def ^= 1,
+            |_, f| f.use0 ^= 1,
+            |_, f| f.use1 ^= 1,
+            |_, f| f.more ^= true,
+            |_, f| f.len ^= true,
+            |_, f| f.layout ^= true,
+            |_, f| f.creates ^= true,
+            |_, f| f.member ^= true,
+            |w, _| w[POSITION] ^= 1,
+            |w, _| w[POSITION + 6] ^= 1,
+            |w, _| w[POSITION + 7] ^= 1,
+            |w, _| w[POSITION + 8] ^= 1,
+        ];
+        for (k, slip) in slips.iter().enumerate() {
+            let slip = |p: &Picture, a: &mut [u64], b: &mut [u32], f: &mut [Fact], x: u32, out: &mut [usize]| {
+                let r = port::try_block(p, a, b, f, x, out);
                 if r == 1 {
-                    b[POSITION + word] ^= 1;
+                    slip(b, &mut f[1]);
                 }
                 r
             };
-            assert!(!facts(40, 1, slip).faults.is_empty(), "word {word}");
+            assert!(!facts(40, 1, slip).faults.is_empty(), "slip {k}");
         }
-        let slip = |p: &Picture, a: &mut [u64], b: &mut [u32], x: u32, out: &mut [usize]| {
-            let r = port::try_block(p, a, b, x, out);
+        let slip = |p: &Picture, a: &mut [u64], b: &mut [u32], f: &mut [Fact], x: u32, out: &mut [usize]| {
+            let r = port::try_block(p, a, b, f, x, out);
             if r < 200 {
                 b[REGISTERS] ^= 16;
+            }
+            r
+        };
+        assert!(!facts(40, 1, slip).faults.is_empty());
+        // A mark in the list of a picture that is refused.
+        let slip = |p: &Picture, a: &mut [u64], b: &mut [u32], f: &mut [Fact], x: u32, out: &mut [usize]| {
+            let r = port::try_block(p, a, b, f, x, out);
+            if r > 200 {
+                f[0].member ^= true;
             }
             r
         };

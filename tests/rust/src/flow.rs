@@ -50,13 +50,13 @@ pub fn flow(n: usize, seed: u64) -> Stats {
 
 impl Stats {
     fn compare(&mut self, p: &Picture, name: &str, rnd: &mut Random) {
-        let (w64, w32) = p.work();
-        let wanted = accept::refusal(p, w64, w32);
+        let work = p.work();
+        let wanted = accept::refusal(p, work);
         let copy = p.clone();
         // What lies in the lent slices must not matter.
         let junk = rnd.word();
-        let (mut words, mut bits) = (vec![junk as u32; w32], vec![junk; w64]);
-        for (what, found) in [("preds", port::preds(&mut words, p, w64)), ("live", port::live(&mut bits, p, w32))] {
+        let (mut words, mut bits) = (vec![junk as u32; work.w32], vec![junk; work.w64]);
+        for (what, found) in [("preds", port::preds(&mut words, p, work)), ("live", port::live(&mut bits, p, work))] {
             if found != wanted {
                 self.faults.push(format!("{name}: {what} is refused with {found}, not {wanted}"));
                 return;
@@ -150,12 +150,12 @@ pub fn chain(blocks: usize, regs: u32, down: bool) -> Picture {
 
 /// The times of both on one picture, in a line.
 fn print_time(what: &str, p: &Picture) {
-    let (w64, w32) = p.work();
-    assert_eq!(accept::refusal(p, w64, w32), 0, "a picture to be timed is accepted");
+    let work = p.work();
+    assert_eq!(accept::refusal(p, work), 0, "a picture to be timed is accepted");
     let lent = Lent::new(p).expect("few types");
     let rust = Pass::live_time(&lent.program, &lent.function, RUNS);
-    let port = best(RUNS, || vec![!0; w64], |mut bits| (port::live(&mut bits, p, w32), bits));
-    let scan = best(RUNS, || p, |p| port::refusal(p, w64, w32));
+    let port = best(RUNS, || vec![!0; work.w64], |mut bits| (port::live(&mut bits, p, work), bits));
+    let scan = best(RUNS, || p, |p| port::refusal(p, work));
     let (insts, blocks, alone) = (p.locs.len(), p.nblocks(), port - scan);
     println!("{what:<12}{insts:>7}{blocks:>7}{:>7} |{rust:>9.3}{port:>9.3}{scan:>9.3} |{:>8.2}{:>8.2}", p.regs, port / rust, alone / rust);
 }

@@ -1,6 +1,6 @@
 //! The pass over lent slices held against the Rust, beyond the program's sizes: large generated pictures, copies of one up to
 //! 32,768 instructions, chains of 800 and 801, and damaged ones. Compared are the number, the registers and operands in use,
-//! every word of the picture and of the room past it, and for a refusal the work slices too.
+//! every word of the picture and of the room past it, and for a refusal the work slices and the list of facts too.
 
 use std::collections::BTreeMap;
 
@@ -9,17 +9,18 @@ use crate::boundary;
 use crate::copies::{copies, spread};
 use crate::damage::DAMAGES;
 use crate::driver::{Facts, Trace};
+use crate::fact::Fact;
 use crate::generate::{Size, bare};
 use crate::oracle::{Answer, Lent, Outcome, oracle};
-use crate::picture::Picture;
+use crate::picture::{Picture, Work};
 use crate::random::Random;
 use crate::rooms::rooms;
 use crate::tally::Tally;
 
-/// The pass over slices, or something that stands for it: the picture, both work slices, and the registers and operands in use
-/// after it.
-pub trait Slices: FnMut(&mut Picture, &mut [u64], &mut [u32], &mut [u32]) -> u32 {}
-impl<F: FnMut(&mut Picture, &mut [u64], &mut [u32], &mut [u32]) -> u32> Slices for F {}
+/// The pass over slices, or something that stands for it: the picture, both work slices, the list of facts, and the registers and
+/// operands in use after it.
+pub trait Slices: FnMut(&mut Picture, &mut [u64], &mut [u32], &mut [Fact], &mut [u32]) -> u32 {}
+impl<F: FnMut(&mut Picture, &mut [u64], &mut [u32], &mut [Fact], &mut [u32]) -> u32> Slices for F {}
 
 #[derive(Default)]
 pub struct Stats {
@@ -27,6 +28,9 @@ pub struct Stats {
     pub tally: Tally,
     /// runs by number
     pub runs: BTreeMap<u32, usize>,
+    /// runs with a word of 64 or of 32 bits too few, or a record, and runs of accepted pictures with just as many records and with more
+    pub short_work: [usize; 3],
+    pub records: [usize; 2],
     /// the most instructions, blocks and registers in use that a picture with a round had
     pub most: [usize; 3],
     pub faults: Vec<String>,
@@ -54,8 +58,10 @@ pub fn large(n: usize, seed: u64, mut pass: impl Slices) -> Stats {
         if (d.deed)(&mut q, &mut rnd) {
             stats.judge(&q, q.work(), &format!("seed {this}: {}", d.what), &mut pass);
         }
-        let (w64, w32) = p.work();
-        stats.judge(&p, if k % 2 == 0 { (w64 - 1, w32) } else { (w64, w32 - 1) }, &format!("seed {this}: short work"), &mut pass);
+        let work = p.work();
+        let less = [Work { w64: work.w64 - 1, ..work }, Work { w32: work.w32 - 1, ..work }, Work { records: work.records - 1, ..work }];
+        stats.short_work[k % 3] += 1;
+        stats.judge(&p, less[k % 3], &format!("seed {this}: short work"), &mut pass);
     }
     stats
 }
@@ -70,13 +76,14 @@ fn with_room(p: &Picture, (registers, operands): (usize, usize)) -> Picture {
 
 impl Stats {
     /// One call, held against what it must give.
-    fn run(&mut self, p: &Picture, (w64, w32): (usize, usize), wanted: &Outcome, name: &str, pass: &mut impl Slices) {
+    fn run(&mut self, p: &Picture, work: Work, wanted: &Outcome, name: &str, pass: &mut impl Slices) {
         let number = wanted.answer.number();
         *self.runs.entry(number).or_default() += 1;
-        // What lies in the work slices must not matter.
+        // What lies in the work slices and in the list must not matter.
         let mut q = p.clone();
-        let (mut work64, mut work32, mut out) = (vec![!0x5A5A; w64], vec![0xA5A5_A5A5; w32], [77; 2]);
-        let found = pass(&mut q, &mut work64, &mut work32, &mut out);
+        let junk = Fact::junk(0x5A5A_A5A5_1234_5678);
+        let (mut work64, mut work32, mut facts, mut out) = (vec![!0x5A5A; work.w64], vec![0xA5A5_A5A5; work.w32], vec![junk; work.records], [77; 2]);
+        let found = pass(&mut q, &mut work64, &mut work32, &mut facts, &mut out);
         let mut fault = |what: String| {
             self.faults.push(format!("{name}, {} registers and {} operands lent: {what}", p.types.len(), p.ops.len()));
         };
@@ -94,6 +101,9 @@ impl Stats {
         }
         if refused && (work64.iter().any(|&w| w != !0x5A5A) || work32.iter().any(|&w| w != 0xA5A5_A5A5)) {
             fault("the port wrote in the work slices though it refuses".into());
+        }
+        if refused && facts.iter().any(|f| *f != junk) {
+            fault("the port wrote in the list of facts though it refuses".into());
         }
         if refused && out != [77; 2] {
             fault("the port gives counts though it refuses".into());
@@ -121,17 +131,18 @@ impl Stats {
                 self.most = [0, 1, 2].map(|k| self.most[k].max(sizes[k]));
             }
             // As long as they have to be, or longer.
-            let (w64, w32) = q.work();
-            let more = rnd.below(3);
-            self.run(&q, (w64 + more, w32 + more), &outcome, name, pass);
+            let (work, more) = (q.work(), rnd.below(3));
+            let work = Work { w64: work.w64 + more, w32: work.w32 + more, records: work.records + more };
+            self.records[more.min(1)] += 1;
+            self.run(&q, work, &outcome, name, pass);
         }
         trace
     }
 
-    /// Any picture as it is, with work slices of these lengths.
-    fn judge(&mut self, p: &Picture, (w64, w32): (usize, usize), name: &str, pass: &mut impl Slices) {
-        let outcome = oracle(p, w64, w32).expect("no more types than the Rust has");
-        self.run(p, (w64, w32), &outcome, name, pass);
+    /// Any picture as it is, with so much to work in.
+    fn judge(&mut self, p: &Picture, work: Work, name: &str, pass: &mut impl Slices) {
+        let outcome = oracle(p, work).expect("no more types than the Rust has");
+        self.run(p, work, &outcome, name, pass);
     }
 
     /// Chains at the bound of 800 instructions, in one block and in six; a seventh block.
@@ -175,6 +186,8 @@ impl Stats {
         want(self.tally.chains.keys().any(|&n| n > 1) && self.tally.moved > 0, "rounds, and chains of several blocks");
         want(self.tally.after_one.iter().all(|n| *n > 0), "of pictures after one round: targets before x, empty ones, Sig, long shared lists");
         want(self.tally.short_registers > 0 && self.tally.short_operands > 0, "Short by one register and by one operand");
+        want(self.short_work.iter().all(|n| *n > 0), "work slices a word short, and 799 records");
+        want(self.records.iter().all(|n| *n > 0), "800 records, and more");
         want([0, 1, 8, 210].iter().all(|n| self.runs.contains_key(n)), "Done with 0, 1 and 8 rounds, refusal 10");
         want(self.most[0] > 30000, "a picture of more than 30,000 instructions that moves");
         out
@@ -183,6 +196,7 @@ impl Stats {
     pub fn print(&self) {
         println!("large: the pass over slices against the Rust, {} pictures, {} runs, {} differences", self.pictures, self.runs.values().sum::<usize>(), self.faults.len());
         println!("runs by number {:?}", self.runs);
+        println!("short of a 64-bit word, a 32-bit word, a record {:?}; accepted with 800 records, with more {:?}", self.short_work, self.records);
         let [instructions, blocks, registers] = self.most;
         println!("at most, with a round: {instructions} instructions, {blocks} blocks, {registers} registers");
         println!("of those accepted, once for each room lent:");
@@ -215,8 +229,8 @@ mod tests {
     /// The Rust itself in the place of the port, and with one word wrong.
     #[test]
     fn the_rust_agrees_with_itself_and_a_slip_is_found() {
-        let rust = |p: &mut Picture, w64: &mut [u64], w32: &mut [u32], out: &mut [u32]| {
-            let outcome = oracle(p, w64.len(), w32.len()).expect("few types");
+        let rust = |p: &mut Picture, w64: &mut [u64], w32: &mut [u32], facts: &mut [Fact], out: &mut [u32]| {
+            let outcome = oracle(p, Work { w64: w64.len(), w32: w32.len(), records: facts.len() }).expect("few types");
             *p = outcome.picture;
             if !matches!(outcome.answer, Answer::Refused(_)) {
                 out.copy_from_slice(&[p.regs, p.opers]);
@@ -226,13 +240,27 @@ mod tests {
         let stats = large(24, 1, rust);
         stats.print();
         assert_eq!(stats.missing(), Vec::<String>::new());
-        let slip = |p: &mut Picture, w64: &mut [u64], w32: &mut [u32], out: &mut [u32]| {
-            let number = rust(p, w64, w32, out);
+        let slip = |p: &mut Picture, w64: &mut [u64], w32: &mut [u32], facts: &mut [Fact], out: &mut [u32]| {
+            let number = rust(p, w64, w32, facts, out);
             if let Some(last) = p.ops.last_mut() {
                 *last ^= 1;
             }
             number
         };
         assert!(large(2, 1, slip).faults.len() > 2);
+        // A mark in the list though the picture is refused; 799 records taken.
+        let slip = |p: &mut Picture, w64: &mut [u64], w32: &mut [u32], facts: &mut [Fact], out: &mut [u32]| {
+            let number = rust(p, w64, w32, facts, out);
+            if number > 200 {
+                facts[0].member ^= true;
+            }
+            number
+        };
+        assert!(!large(3, 1, slip).faults.is_empty());
+        let slip = |p: &mut Picture, w64: &mut [u64], w32: &mut [u32], facts: &mut [Fact], out: &mut [u32]| {
+            let mut more = vec![facts[0]; facts.len() + 1];
+            rust(p, w64, w32, &mut more, out)
+        };
+        assert!(!large(3, 1, slip).faults.is_empty());
     }
 }

@@ -10,6 +10,7 @@ pub mod copies;
 pub mod crossed;
 pub mod damage;
 pub mod driver;
+pub mod fact;
 pub mod facts;
 #[cfg(feature = "port")]
 pub mod flow;

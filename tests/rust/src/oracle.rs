@@ -3,7 +3,7 @@
 use crate::accept;
 use crate::convert::{self, Types};
 use crate::driver::{Facts, Pass, State, Trace};
-use crate::picture::Picture;
+use crate::picture::{Picture, Work};
 
 #[derive(Clone, Copy, Debug, PartialEq, Eq)]
 pub enum Answer {
@@ -87,11 +87,11 @@ impl<'a> Lent<'a> {
     }
 }
 
-/// What the entry must answer for any picture, work slices of the given lengths lent. `None` where the picture is accepted
+/// What the entry must answer for any picture, so much lent to work in. `None` where the picture is accepted
 /// and has more types than the Rust knows.
-pub fn oracle(picture: &Picture, w64: usize, w32: usize) -> Option<Outcome> {
+pub fn oracle(picture: &Picture, work: Work) -> Option<Outcome> {
     let ends = |answer| Some(Outcome { answer, lines: Vec::new(), picture: picture.clone() });
-    match accept::refusal(picture, w64, w32) {
+    match accept::refusal(picture, work) {
         0 if accept::gated(picture) => ends(Answer::Done(0)),
         0 => {
             let lent = Lent::new(picture)?;
@@ -101,8 +101,7 @@ pub fn oracle(picture: &Picture, w64: usize, w32: usize) -> Option<Outcome> {
     }
 }
 
-/// The same with work slices as long as they have to be.
+/// The same with as much to work in as there has to be.
 pub fn oracle_with_work(picture: &Picture) -> Option<Outcome> {
-    let (w64, w32) = picture.work();
-    oracle(picture, w64, w32)
+    oracle(picture, picture.work())
 }

@@ -61,6 +61,14 @@ impl Record {
     }
 }
 
+/// What the pass works in: so many words of 64 and of 32 bits, and records of facts.
+#[derive(Clone, Copy, Debug, PartialEq, Eq)]
+pub struct Work {
+    pub w64: usize,
+    pub w32: usize,
+    pub records: usize,
+}
+
 impl Picture {
     /// A picture of these blocks, with nothing lent past what is in use.
     pub fn of_blocks(blocks: &[Vec<Record>]) -> Picture {
@@ -106,9 +114,9 @@ impl Picture {
         &self.ops[start as usize..(start + len) as usize]
     }
 
-    /// The words of 64 and of 32 bits that the pass works in (document 01, "Port order and sizes").
-    pub fn work(&self) -> (usize, usize) {
+    /// What the pass needs to work in, and no more (document 01, "Port order and sizes" and "What changes shape").
+    pub fn work(&self) -> Work {
         let (b, k) = (self.nblocks(), self.types.len());
-        (4 * b * k.div_ceil(64) + 2 * k, 8 * k + 16 * b + 8000)
+        Work { w64: 4 * b * k.div_ceil(64) + 2 * k, w32: 8 * k + 16 * b + 8000, records: 800 }
     }
 }

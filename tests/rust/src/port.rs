@@ -1,9 +1,10 @@
 //! The port, layer by layer: the functions of crate `probe`, each wrapped. They ask nothing of their caller, so the wrappers
 //! test nothing. A slice goes over as a pointer and a length; nothing checks these declarations against crates/probe/src.
 
-use crate::picture::Picture;
+use crate::fact::Fact;
+use crate::picture::{Picture, Work};
 
-/// Declares functions that take a picture between arguments of their own, and wraps them.
+/// Declares functions that take a picture between a slice of their own and how much is lent to work in, and wraps them.
 macro_rules! port {
     ($($(#[$doc:meta])* $name:ident $symbol:ident ($($first:ident: $slice:ty),*) ($($last:ident),*);)*) => {
         #[link(name = "probe", kind = "static")]
@@ -33,7 +34,7 @@ macro_rules! port {
         }
 
         $($(#[$doc])*
-        pub fn $name($($first: &mut [$slice],)* p: &Picture, $($last: usize),*) -> u32 {
+        pub fn $name($($first: &mut [$slice],)* p: &Picture, work: Work) -> u32 {
             // Each pointer comes with the length of its own slice; those of the picture are only read.
             unsafe {
                 $symbol(
@@ -56,7 +57,7 @@ macro_rules! port {
                     p.targets.len(),
                     p.regs,
                     p.opers,
-                    $($last,)*
+                    $(work.$last,)*
                 )
             }
         })*
@@ -65,11 +66,11 @@ macro_rules! port {
 
 port! {
     /// The port's `accept::refusal`.
-    refusal virdzeba_refusal () (w64, w32);
+    refusal virdzeba_refusal () (w64, w32, records);
     /// Where the answer is 0: of each block how many predecessors it has, up to two, and the first.
-    preds virdzeba_preds (words: u32) (w64);
+    preds virdzeba_preds (words: u32) (w64, records);
     /// Where the answer is 0: of each block its live-in row, a word for each 64 registers lent.
-    live virdzeba_live (bits: u64) (w32);
+    live virdzeba_live (bits: u64) (w32, records);
 }
 
 #[link(name = "probe", kind = "static")]
@@ -99,14 +100,16 @@ unsafe extern "C" {
         work64_len: usize,
         work32: *mut u32,
         work32_len: usize,
+        facts: *mut Fact,
+        facts_len: usize,
         out: *mut u32,
         out_len: usize,
     ) -> u32;
 }
 
-/// The whole pass over lent slices. The answer is numbered as the host's; `out` gets the registers and operands in use, and the
-/// picture's own counts stay as they are.
-pub fn sink_all(p: &mut Picture, work64: &mut [u64], work32: &mut [u32], out: &mut [u32]) -> u32 {
+/// The whole pass over lent slices and a lent list of facts. The answer is numbered as the host's; `out` gets the registers and operands
+/// in use, and the picture's own counts stay as they are.
+pub fn sink_all(p: &mut Picture, work64: &mut [u64], work32: &mut [u32], facts: &mut [Fact], out: &mut [u32]) -> u32 {
     // Each pointer comes with the length of its own slice, and no two slices are the same.
     unsafe {
         virdzeba_sink_all(
@@ -134,6 +137,8 @@ pub fn sink_all(p: &mut Picture, work64: &mut [u64], work32: &mut [u32], out: &m
             work64.len(),
             work32.as_mut_ptr(),
             work32.len(),
+            facts.as_mut_ptr(),
+            facts.len(),
             out.as_mut_ptr(),
             out.len(),
         )
@@ -167,6 +172,8 @@ unsafe extern "C" {
         work64_len: usize,
         work32: *mut u32,
         work32_len: usize,
+        facts: *mut Fact,
+        facts_len: usize,
         x: u32,
         out: *mut usize,
         out_len: usize,
@@ -174,8 +181,8 @@ unsafe extern "C" {
 }
 
 /// The search from block `x` of the picture as lent: 1 for a move, 0 for none, 200 and the number of a refusal, 300 where `x` is no
-/// block. `out` gets the target, the positions in `x` but for its last, those of the chain, and the members.
-pub fn try_block(p: &Picture, work64: &mut [u64], work32: &mut [u32], x: u32, out: &mut [usize]) -> u32 {
+/// block. `out` gets the target, the positions in `x` but for its last, those of the chain, and the members; `facts` the chain's facts.
+pub fn try_block(p: &Picture, work64: &mut [u64], work32: &mut [u32], facts: &mut [Fact], x: u32, out: &mut [usize]) -> u32 {
     // Each pointer comes with the length of its own slice; those of the picture are only read.
     unsafe {
         virdzeba_try(
@@ -203,6 +210,8 @@ pub fn try_block(p: &Picture, work64: &mut [u64], work32: &mut [u32], x: u32, ou
             work64.len(),
             work32.as_mut_ptr(),
             work32.len(),
+            facts.as_mut_ptr(),
+            facts.len(),
             x,
             out.as_mut_ptr(),
             out.len(),

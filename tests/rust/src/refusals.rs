@@ -1,5 +1,5 @@
-//! The port's acceptance held against `accept.rs`: generated pictures, damaged ones, work slices one word short, and random
-//! words. Every picture lent is compared with a copy afterwards. Then the time of one scan of the largest picture.
+//! The port's acceptance held against `accept.rs`: generated pictures, damaged ones, work slices one word short, a record too
+//! few, and random words. Every picture lent is compared with a copy afterwards. Then the time of one scan of the largest picture.
 
 use std::collections::BTreeMap;
 
@@ -7,7 +7,7 @@ use crate::accept;
 use crate::damage::{DAMAGES, alter, any_words, damage_again};
 use crate::generate::{Size, picture};
 use crate::kinds::STMT;
-use crate::picture::{Picture, Record};
+use crate::picture::{Picture, Record, Work};
 use crate::port;
 use crate::random::Random;
 use crate::selfcheck::size_of;
@@ -20,6 +20,7 @@ pub enum Source {
     Damaged,
     DamagedTwice,
     ShortWork,
+    FewRecords,
     Altered,
     Random,
 }
@@ -43,6 +44,7 @@ pub fn refusals(n: usize, seed: u64) -> Stats {
         for short in short_work(work) {
             stats.compare(Source::ShortWork, &p, short, &name);
         }
+        stats.compare(Source::FewRecords, &p, few_records(work), &name);
         for d in DAMAGES {
             let mut q = p.clone();
             if !(d.deed)(&mut q, &mut rnd) {
@@ -50,7 +52,7 @@ pub fn refusals(n: usize, seed: u64) -> Stats {
             }
             let work = q.work();
             stats.compare(Source::Damaged, &q, work, &format!("{name}: {}", d.what));
-            // A second cause, and perhaps work slices too short: the lowest number is the answer.
+            // A second cause, and perhaps too little to work in: the lowest number is the answer.
             if let Some(what) = damage_again(&mut q, d, &mut rnd) {
                 let work = some_work(&q, &mut rnd);
                 stats.compare(Source::DamagedTwice, &q, work, &format!("{name}: {}, {what}", d.what));
@@ -72,24 +74,31 @@ pub fn refusals(n: usize, seed: u64) -> Stats {
 }
 
 /// One word short in the one and in the other.
-fn short_work((w64, w32): (usize, usize)) -> Vec<(usize, usize)> {
-    let mut out = vec![(w64, w32 - 1)];
-    if w64 > 0 {
-        out.push((w64 - 1, w32));
+fn short_work(work: Work) -> Vec<Work> {
+    let mut out = vec![Work { w32: work.w32 - 1, ..work }];
+    if work.w64 > 0 {
+        out.push(Work { w64: work.w64 - 1, ..work });
     }
     out
 }
 
-/// Mostly just enough, else one word short.
-fn some_work(p: &Picture, rnd: &mut Random) -> (usize, usize) {
+/// One record too few: 799.
+fn few_records(work: Work) -> Work {
+    Work { records: work.records - 1, ..work }
+}
+
+/// Mostly just enough, else one word short or one record too few.
+fn some_work(p: &Picture, rnd: &mut Random) -> Work {
     let enough = p.work();
-    if rnd.chance(75) { enough } else { rnd.pick(&short_work(enough)) }
+    let mut less = short_work(enough);
+    less.push(few_records(enough));
+    if rnd.chance(75) { enough } else { rnd.pick(&less) }
 }
 
 impl Stats {
-    fn compare(&mut self, source: Source, p: &Picture, (w64, w32): (usize, usize), name: &str) {
+    fn compare(&mut self, source: Source, p: &Picture, work: Work, name: &str) {
         let copy = p.clone();
-        let (port, wanted) = (port::refusal(p, w64, w32), accept::refusal(&copy, w64, w32));
+        let (port, wanted) = (port::refusal(p, work), accept::refusal(&copy, work));
         if port != wanted {
             self.faults.push(format!("{name} ({source:?}): the port refuses with {port}, not {wanted}"));
         }
@@ -110,7 +119,7 @@ impl Stats {
         if !self.faults.is_empty() {
             out.push("no fault".to_string());
         }
-        let wanted = (0..=9).map(|cause| (cause, Source::Damaged)).chain([(0, Source::Generated), (10, Source::ShortWork)]);
+        let wanted = (0..=9).map(|cause| (cause, Source::Damaged)).chain([(0, Source::Generated), (10, Source::ShortWork), (10, Source::FewRecords)]);
         for (cause, source) in wanted {
             if self.of(cause, source) == 0 {
                 out.push(format!("cause {cause} among those {source:?}"));
@@ -120,7 +129,8 @@ impl Stats {
     }
 
     pub fn print(&self) {
-        let sources = [Source::Generated, Source::Damaged, Source::DamagedTwice, Source::ShortWork, Source::Altered, Source::Random];
+        let sources =
+            [Source::Generated, Source::Damaged, Source::DamagedTwice, Source::ShortWork, Source::FewRecords, Source::Altered, Source::Random];
         println!("refusals: the port against accept.rs, {} runs, {} differences", self.runs.values().sum::<usize>(), self.faults.len());
         println!("cause {}", sources.map(|s| format!("{s:?}")).map(|s| format!("{s:>13}")).join(""));
         for cause in 0..=11 {
@@ -173,10 +183,10 @@ pub fn largest(seed: u64) -> Picture {
 /// The time of one scan of the largest picture, which lies there already, warm.
 pub fn print_time(seed: u64) {
     let p = largest(seed);
-    let (w64, w32) = p.work();
-    assert_eq!((accept::refusal(&p, w64, w32), port::refusal(&p, w64, w32)), (0, 0), "the largest picture is accepted");
-    let port = best(50, || &p, |p| port::refusal(p, w64, w32));
-    let own = best(10, || &p, |p| accept::refusal(p, w64, w32));
+    let work = p.work();
+    assert_eq!((accept::refusal(&p, work), port::refusal(&p, work)), (0, 0), "the largest picture is accepted");
+    let port = best(50, || &p, |p| port::refusal(p, work));
+    let own = best(10, || &p, |p| accept::refusal(p, work));
     println!(
         "a scan of {} instructions in {} blocks: the port {port:.3} ms, accept.rs {own:.3} ms, at best",
         p.locs.len(),

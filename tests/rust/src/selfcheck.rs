@@ -9,7 +9,7 @@ use crate::damage::DAMAGES;
 use crate::driver::{Facts, Pass, Trace};
 use crate::generate::{Size, picture};
 use crate::oracle::{Answer, Lent, oracle, oracle_with_work};
-use crate::picture::Picture;
+use crate::picture::{Picture, Work};
 use crate::random::Random;
 use crate::rules::Chain;
 use crate::tally::Tally;
@@ -47,8 +47,7 @@ pub fn selfcheck(n: usize, seed: u64) -> Stats {
             if !(d.deed)(&mut q, &mut Random::new(this)) {
                 continue;
             }
-            let (w64, w32) = q.work();
-            let found = accept::refusal(&q, w64, w32);
+            let found = accept::refusal(&q, q.work());
             if found == d.cause {
                 *stats.damages.entry(d.cause).or_default() += 1;
             } else {
@@ -62,12 +61,12 @@ pub fn selfcheck(n: usize, seed: u64) -> Stats {
                 stats.past_gates += apart.tally.gated;
             }
         }
-        // Work slices one word too short are cause 10.
-        let (w64, w32) = p.work();
-        for (a, b) in [(w64.saturating_sub(1), w32), (w64, w32 - 1)] {
-            let answer = oracle(&p, a, b).map(|o| o.answer);
-            if (a, b) != (w64, w32) && answer != Some(Answer::Refused(10)) {
-                stats.faults.push(format!("seed {this}: short work slices give {answer:?}"));
+        // Work slices one word too short are cause 10, and 799 records.
+        let work = p.work();
+        for less in [Work { w64: work.w64.saturating_sub(1), ..work }, Work { w32: work.w32 - 1, ..work }, Work { records: 799, ..work }] {
+            let answer = oracle(&p, less).map(|o| o.answer);
+            if less != work && answer != Some(Answer::Refused(10)) {
+                stats.faults.push(format!("seed {this}: {less:?} gives {answer:?}"));
             }
         }
     }
@@ -82,8 +81,8 @@ fn same_rounds(a: &Trace, b: &Trace, lent: &Lent) -> bool {
 
 fn check(stats: &mut Stats, p: &Picture, name: &str) {
     let mut fault = |what: &str| stats.faults.push(format!("{name}: {what}"));
-    let (w64, w32) = p.work();
-    if accept::refusal(p, w64, w32) != 0 {
+    let work = p.work();
+    if accept::refusal(p, work) != 0 {
         fault("is refused");
         return;
     }
@@ -161,7 +160,7 @@ fn check(stats: &mut Stats, p: &Picture, name: &str) {
             fault("the bytes are another picture");
         }
     }
-    if accept::refusal(&outcome.picture, w64, w32) != 0 {
+    if accept::refusal(&outcome.picture, work) != 0 {
         fault("what is left is refused");
     }
     stats.stopped += usize::from(short.stopped);

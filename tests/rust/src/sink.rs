@@ -157,8 +157,7 @@ impl Stats {
         let trace = Lent::new(p).expect("no more types than the Rust has").rounds(Facts::Lengthened);
         for (registers, operands) in rooms(p, &trace, (REGISTERS, OPERANDS), rnd) {
             let q = bytes::from_bytes(&bytes, registers, operands).expect("a picture within the program's sizes");
-            let (w64, w32) = q.work();
-            let outcome = match accept::refusal(&q, w64, w32) {
+            let outcome = match accept::refusal(&q, q.work()) {
                 0 if accept::gated(&q) => Outcome { answer: Answer::Done(0), lines: Vec::new(), picture: q.clone() },
                 0 => Lent::new(&q).expect("the same types").outcome(&trace),
                 n => Outcome { answer: Answer::Refused(n), lines: Vec::new(), picture: q.clone() },

@@ -24,7 +24,7 @@ run-requires : tie.Need-run-requires
 run-requires c κs = let w = all-within _ _ _ (c .before .if2 .left) in (sym (c .before .before .before .readable .ensures) ∙ not-false _ (c .before .before .if1 .left), w .long, w .regs-few, w .opers-few)
 
 number-requires : tie.Need-number-requires
-number-requires c κs = subst (λ (a : Answer). number a ≤ 300) (sym (c .before .before .run .ensures .answer-is)) (small (came (picture-in (words-of (c .before .before .before .before .before .before .before .before .before .args .picture .now)) (c .before .before .before .before .before .before .before .before .before .args .registers) (c .before .before .before .before .before .before .before .before .before .args .operands)) 3072 13120))
+number-requires c κs = subst (λ (a : Answer). number a ≤ 300) (sym (c .before .before .run .ensures .answer-is)) (small (came (picture-in (words-of (c .before .before .before .before .before .before .before .before .before .args .picture .now)) (c .before .before .before .before .before .before .before .before .before .args .registers) (c .before .before .before .before .before .before .before .before .before .args .operands)) 3072 13120 800))
 
 same-length : tie.Need-same-length
 same-length c = c .before .before .before .run .kept .1 .0

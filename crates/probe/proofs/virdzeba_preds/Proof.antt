@@ -23,8 +23,8 @@ find-preds-requires : tie.Need-find-preds-requires
 find-preds-requires c κs =
     let a = c .before .before .before .before .before .before .before .before .before .before .before .before .before .before .before .args in
     let P = picture-of (a .bounds .now) (a .recs .now) (a .locs .now) (a .vias .now) (a .types .now) (a .registers) (a .ops .now) (a .operands) (a .pairs .now) (a .targets .now) [] in
-    let z = none P (a .w64) (length (a .words .now)) (c .before .before .before .refusal .ensures) (c .before .before .if1 .left) in
-    (c .before .before .before .before .before .table .ensures, graph-given P (accepted P (a .w64) (length (a .words .now)) z), words-room P (a .w64) (length (a .words .now)) z)
+    let z = none P (a .w64) (length (a .words .now)) (a .records) (c .before .before .before .refusal .ensures) (c .before .before .if1 .left) in
+    (c .before .before .before .before .before .table .ensures, graph-given P (accepted P (a .w64) (length (a .words .now)) (a .records) z), words-room P (a .w64) (length (a .words .now)) (a .records) z)
 
 same-length : tie.Need-same-length
 same-length c = search needs
@@ -33,7 +33,7 @@ returns-2 : tie.Need-returns-2
 returns-2 c =
     let a = c .before .before .before .before .before .before .before .before .before .before .before .before .before .before .before .before .before .before .args in
     let P = picture-of (a .bounds .now) (a .recs .now) (a .locs .now) (a .vias .now) (a .types .now) (a .registers) (a .ops .now) (a .operands) (a .pairs .now) (a .targets .now) [] in
-    let z = none P (a .w64) (length (a .words .now)) (c .before .before .before .before .before .before .refusal .ensures) (c .before .before .before .before .before .if1 .left) in
+    let z = none P (a .w64) (length (a .words .now)) (a .records) (c .before .before .before .before .before .before .refusal .ensures) (c .before .before .before .before .before .if1 .left) in
     (sym z, ((λ n. absurd (n refl)), λ e. preds-of P _ (c .before .before .find-preds .ensures)))
 
 pub virdzeba-preds-spec : {M : Type 1} → statement M

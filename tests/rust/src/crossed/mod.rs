@@ -9,18 +9,18 @@ mod text;
 pub use pages::files;
 
 use crate::oracle::Outcome;
-use crate::picture::Picture;
+use crate::picture::{Picture, Work};
 
 /// Rows that move or stay; the refused ones come behind them.
 pub const ROWS: usize = 72;
 /// Seeds that are looked at.
 const SEEDS: u64 = 4000;
 
-/// A picture with the lengths of the work slices, and what it gives.
+/// A picture with what is lent to work in, and what it gives.
 pub struct Row {
     pub name: String,
     pub notes: String,
     pub what: Picture,
-    pub work: (usize, usize),
+    pub work: Work,
     pub gives: Outcome,
 }

@@ -49,7 +49,7 @@ fn proofs(pages: std::ops::RangeInclusive<usize>) -> String {
     for k in pages.clone() {
         let _ = writeln!(t, "use Rattle.crossed.specs.Rows{k}.{{rows{k}}}");
     }
-    t += "\nabbrev answered : Row → Outcome\nanswered w = sink (w .what) (w .w64) (w .w32)\n";
+    t += "\nabbrev answered : Row → Outcome\nanswered w = sink (w .what) (w .w64) (w .w32) (w .nf)\n";
     for k in pages {
         let _ = writeln!(t, "\npub page{k} : map answered rows{k} ≡ map (λ w. w .gives) rows{k}\npage{k} = refl");
     }

@@ -8,7 +8,7 @@ use crate::damage::DAMAGES;
 use crate::driver::Facts;
 use crate::generate::{Size, picture};
 use crate::oracle::{Answer, Lent, oracle};
-use crate::picture::Picture;
+use crate::picture::{Picture, Work};
 use crate::random::Random;
 
 /// Instructions of a picture at most.
@@ -48,7 +48,7 @@ pub fn picked(many: usize) -> Vec<Row> {
             let lent = Lent::new(&p).expect("few types");
             let trace = lent.rounds(Facts::Lengthened);
             let work = p.work();
-            let out = oracle(&p, work.0, work.1).expect("few types");
+            let out = oracle(&p, work).expect("few types");
             let mut shows = features(&p, &trace, &out);
             shows.extend(decided(&p, &lent));
             if lent.rounds(Facts::AsRun).stopped {
@@ -82,20 +82,21 @@ pub fn refused() -> Vec<Row> {
             }
             if small(&p) {
                 let work = p.work();
-                let gives = oracle(&p, work.0, work.1).expect("few types");
+                let gives = oracle(&p, work).expect("few types");
                 assert_eq!(gives.answer, Answer::Refused(d.cause), "{}", d.what);
                 rows.push(Row { name: format!("d{k}"), notes: format!("seed {seed}, {}: refused {}", d.what, d.cause), what: p, work, gives });
             }
             break;
         }
     }
-    // Work slices one word too short, either of them.
-    for (name, less) in [("w64", (1, 0)), ("w32", (0, 1))] {
+    // Work slices one word too short, either of them; a record too few.
+    let too_short = "a work slice one word too short: refused 10";
+    for (name, [a, b, c], notes) in [("w64", [1, 0, 0], too_short), ("w32", [0, 1, 0], too_short), ("few", [0, 0, 1], "799 records: refused 10")] {
         let what = (0..SEEDS).map(|seed| picture(seed, Size::Small)).find(|p| p.locs.len() <= 14).expect("a small one");
         let need = what.work();
-        let work = (need.0 - less.0, need.1 - less.1);
-        let gives = oracle(&what, work.0, work.1).expect("few types");
-        rows.push(Row { name: name.into(), notes: "a work slice one word too short: refused 10".into(), what, work, gives });
+        let work = Work { w64: need.w64 - a, w32: need.w32 - b, records: need.records - c };
+        let gives = oracle(&what, work).expect("few types");
+        rows.push(Row { name: name.into(), notes: notes.into(), what, work, gives });
     }
     rows
 }

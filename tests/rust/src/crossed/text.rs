@@ -6,7 +6,7 @@ use std::fmt::Write;
 use super::Row;
 use crate::kinds::KINDS;
 use crate::oracle::Answer;
-use crate::picture::{ABSENT, Picture, RECORD, Record};
+use crate::picture::{ABSENT, Picture, RECORD, Record, Work};
 
 /// Columns that code is broken at.
 const COLUMNS: usize = 118;
@@ -121,7 +121,7 @@ pub fn row_text(row: &Row, used: &mut BTreeSet<&'static str>) -> String {
     let _ = writeln!(t, "abbrev pub {n}-lent : Picture\n{n}-lent =");
     t += &picture_text(&row.what, used);
     let out = &row.gives;
-    let (w64, w32) = row.work;
+    let Work { w64, w32, records } = row.work;
     let (regs, opers) = (out.picture.regs, out.picture.opers);
     let words = match out.answer {
         Answer::Done(k) => format!("done {k} {regs} {opers}"),
@@ -129,13 +129,13 @@ pub fn row_text(row: &Row, used: &mut BTreeSet<&'static str>) -> String {
         Answer::Refused(k) => format!("refused {k}"),
     };
     if out.lines.is_empty() {
-        let _ = writeln!(t, "\nabbrev pub {n} : Row\n{n} = stays {n}-lent {w64} {w32} ({words})");
+        let _ = writeln!(t, "\nabbrev pub {n} : Row\n{n} = stays {n}-lent {w64} {w32} {records} ({words})");
         return t;
     }
     let _ = writeln!(t, "\nabbrev pub {n}-left : Picture\n{n}-left =");
     t += &picture_text(&out.picture, used);
     let lines: Vec<String> = out.lines.iter().map(|l| format!("({})", list(l))).collect();
-    let _ = writeln!(t, "\nabbrev pub {n} : Row\n{n} = moves {n}-lent {w64} {w32} ({words}) ({} ∷ []) {n}-left", lines.join(" ∷ "));
+    let _ = writeln!(t, "\nabbrev pub {n} : Row\n{n} = moves {n}-lent {w64} {w32} {records} ({words}) ({} ∷ []) {n}-left", lines.join(" ∷ "));
     t
 }
 
