@@ -8,7 +8,7 @@ use native.Mathlib.Omega.{arith}
 use borrow.Author.Tests.{eq-eqb, ne-eqb, eqb-true, le-leb, lt-leb, not-true, not-false}
 use lib.Dec.{T, eqb, leb, leb→le}
 use lib.ListN.{getD, length, set, replicate, length-set, length-replicate}
-use lib.Seq.{getD-set-same, getD-set-other}
+use lib.Seq.{getD-set-same, getD-set-other, set-getD}
 use Rattle.words.specs.Last.{last-below}
 use Rattle.words.specs.Lists.{hit}
 use Rattle.words.proofs.Bools.{eq?, lt?, true-T}
@@ -126,14 +126,29 @@ pub later-is : (ls : List ℕ) (k v : ℕ) {y : ℕ} → y ≡ 1024 * (getD ls k
 unfolding later-in
 later-is ls k v e = ap (set ls k) e
 
-pub flag-low : (b : Bool) {q x : ℕ} → q < 800 → x ≡ cond b (q + 1) 0 → x ≤ 800
+-- none is noted
+max-none : (n : ℕ) → max n 0 ≡ n
+max-none n = omega arith
+
+later-none : (ls : List ℕ) (k : ℕ) → ls ≡ later-in k 0 ls
+unfolding later-in
+later-none ls k =
+    let e : 1024 * (getD ls k 0 / 1024) + getD ls k 0 % 1024 ≡ getD ls k 0 = omega arith in
+    sym (ap (set ls k) (ap (λ (x : ℕ). 1024 * (getD ls k 0 / 1024) + x) (max-none (getD ls k 0 % 1024)) ∙ e) ∙ set-getD ls k 0)
+
+pub later-where : (ls : List ℕ) (k v : ℕ) (b : Bool) {x : List ℕ} → b ≡ true → x ≡ later-in k v ls → x ≡ later-in k (cond b v 0) ls
+later-where ls k v b e d = d ∙ ap (λ (c : Bool). later-in k (cond c v 0) ls) (sym e)
+
+pub later-else : (ls : List ℕ) (k v : ℕ) (b : Bool) → b ≡ false → ls ≡ later-in k (cond b v 0) ls
+later-else ls k v b e = later-none ls k ∙ ap (λ (c : Bool). later-in k (cond c v 0) ls) (sym e)
+
+flag-low : (b : Bool) {q x : ℕ} → q < 800 → x ≡ cond b (q + 1) 0 → x ≤ 800
 flag-low true h e = omega arith
 flag-low false h e = omega arith
 
-pub three-notes : (ls : List ℕ) (q o : ℕ) (u v : Bool) {k a b : ℕ} {x y z : List ℕ} → k ≡ o → x ≡ later-in k (q + 1) ls → a ≡ cond u (q + 1) 0 → y ≡ later-in 2006 a x → b ≡ cond v (q + 1) 0 → z ≡ later-in 2007 b y
+pub three-notes : (ls : List ℕ) (q o : ℕ) (u v : Bool) {k : ℕ} {x y z : List ℕ} → k ≡ o → x ≡ later-in k (q + 1) ls → y ≡ later-in 2006 (cond u (q + 1) 0) x → z ≡ later-in 2007 (cond v (q + 1) 0) y
     → z ≡ later-in 2007 (cond v (q + 1) 0) (later-in 2006 (cond u (q + 1) 0) (later-in o (q + 1) ls))
-three-notes ls q o u v {x = x} {y = y} g h i j k l =
-    l ∙ ap (λ (c : ℕ). later-in 2007 c y) k ∙ ap (later-in 2007 (cond v (q + 1) 0)) (j ∙ ap (λ (c : ℕ). later-in 2006 c x) i ∙ ap (later-in 2006 (cond u (q + 1) 0)) (h ∙ ap (λ (c : ℕ). later-in c (q + 1) ls) g))
+three-notes ls q o u v g h j l = l ∙ ap (later-in 2007 (cond v (q + 1) 0)) (j ∙ ap (later-in 2006 (cond u (q + 1) 0)) (h ∙ ap (λ (c : ℕ). later-in c (q + 1) ls) g))
 
 pub member-is : (q : ℕ) (ls : List ℕ) → set ls (2 * q + 5) (getD ls (2 * q + 5) 0 % 1024 + 1024) ≡ member-in q ls
 unfolding member-in

@@ -63,9 +63,9 @@ pub fn back(
     ensures { λ b. ⌜ Backed (now (recs .entry)) (now (ops .entry)) f q (now (st .entry)) (now (lasts .entry)) (now (st .exit)) (now (lasts .exit)) b ⌝ }
 {
     let stays = may_stay(t, recs, f, st);
+    note_at(f, stays, lasts, q);
     let v = kept_at(stays, q);
     put_writes(t, recs, f.rec, f.def, f.more, st, 1024, v, 0);
     await_reads(t, ops, recs, f, stays, st);
-    note_at(f, stays, lasts, q);
     stays
 }

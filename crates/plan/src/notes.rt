@@ -26,14 +26,14 @@ fn note(lasts: &mut [u32; 2008], k: usize, v: u32)
     lasts[k] = later(lasts[k], v);
 }
 
-// v where b holds.
-fn where_so(b: bool, v: u32) -> u32
-    ensures { λ r. ⌜ r ≡ cond b v 0 ⌝ }
+// Position v - 1 is noted in word k where b holds, unless a later one is.
+fn note_where(lasts: &mut [u32; 2008], k: usize, b: bool, v: u32)
+    requires { ⌜ (k < 2008) × (v ≤ 800) ⌝ }
+    ensures { λ _. ⌜ now (lasts .exit) ≡ later-in k (cond b v 0) (now (lasts .entry)) ⌝ }
 {
     if b {
-        return v;
+        note(lasts, k, v);
     }
-    0
 }
 
 // What position q, of fact f, does is noted.
@@ -43,8 +43,8 @@ fn note_all(f: Fact, lasts: &mut [u32; 2008], q: usize)
 {
     let e = q as u32 + 1;
     note(lasts, inst::record::wide(f.wrote), e);
-    note(lasts, 2006, where_so(f.barrier, e));
-    note(lasts, 2007, where_so(f.suspends, e));
+    note_where(lasts, 2006, f.barrier, e);
+    note_where(lasts, 2007, f.suspends, e);
 }
 
 // Position q is a member.
