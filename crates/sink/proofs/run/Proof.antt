@@ -348,9 +348,9 @@ module _ {M : Type 1} (𝓤 : URA M) (H : Heap 𝓤) (A : Atoms 𝓤) (W : Given
           calls-with (go-args s h test bits words e-bits e-words r v r-is tried) B.the-row (Go-says s h test bits words e-bits e-words r v r-is tried) fm (go-call s h test bits words e-bits e-words r v r-is tried) ! (and-then ! (load ! (from ! (stop !)) (look ! 92 refl)) (and-then ! (load ! (from ! (stop !)) (look ! 30 refl)) (and-then ! (load ! (from ! (stop !)) (look ! 26 refl)) (and-then ! (load ! (from ! (stop !)) (look ! 22 refl)) (and-then ! (load ! (from ! (stop !)) (look ! 18 refl)) (and-then ! (load ! (from ! (stop !)) (look ! 14 refl)) (and-then ! (load ! (from ! (stop !)) (look ! 10 refl)) (and-then ! (load ! (from ! (stop !)) (look ! 78 refl)) (and-then ! (load ! (from ! (stop !)) (look ! 76 refl)) (and-then ! (load ! (from ! (stop !)) (look ! 74 refl)) (and-then ! (load ! (from ! (stop !)) (look ! 6 refl)) (and-then ! (load ! (from ! (stop !)) (look ! 2 refl)) (and-then ! (load ! (from ! (stop !)) (look ! 64 refl)) (and-then ! (load ! (from ! (stop !)) (look ! 62 refl)) (no-more !))))))))))))))) (λ u q b.
           land ! (from ! (stop !)) (init ! 71 refl (LL.lawful B.the-type B′.the-laws 𝓤 H A W .typed (q .0) (u ∷ []) (b .0) .0)) $ rewrite ! 71 (λ (y : Val). ‵ (fat fullShare B′.mir (l 17) 0 y)) (ap only (B′.lowers .val-is (q .0) (u ∷ []) (b .0))) refl $
           assigns-last ! (of-opd ! (load ! (from ! (stop !)) (look ! 71 refl))) (from ! (stop !)) (store ! 75 refl (LL.lawful B.the-type B′.the-laws 𝓤 H A W .typed (q .0) _ (stands (q .0) u (b .0)) .0)) $
-          by ! (via 𝓤 _ (empties 𝓤 H A W (Held (q .1 .1 .0) (q .1 .1 .1 .0) (q .1 .1 .1 .1 .0) (q .1 .1 .1 .1 .1 .0) (q .1 .1 .1 .1 .1 .1 .0) (q .1 .1 .1 .1 .1 .1 .1 .0) (q .1 .1 .1 .1 .1 .1 .1 .1 .1 .1 .1 .0) (q .1 .1 .1 .1 .1 .1 .1 .1 .1 .1 .1 .1 .0) (fs)) En (room ∷ filled (given ++ (B′.lowered (q .0) ∷ []))) (has v ∷ has (B′.lowered (q .0)) ∷ room ∷ room ∷ room ∷ room ∷ room ∷ room ∷ room ∷ room ∷ room ∷ room ∷ room ∷ room ∷ room ∷ for-go))
-          (loop-of.again 𝓤 H A W 𝓣 En m.turn-1 Left Holds μ At (to-come (s .m)) (record { bounds = q .1 .1 .0; recs = q .1 .1 .1 .0; locs = q .1 .1 .1 .1 .0; vias = q .1 .1 .1 .1 .1 .0; types = q .1 .1 .1 .1 .1 .1 .0; ops = q .1 .1 .1 .1 .1 .1 .1 .0; work64 = q .1 .1 .1 .1 .1 .1 .1 .1 .1 .1 .1 .0; work32 = q .1 .1 .1 .1 .1 .1 .1 .1 .1 .1 .1 .1 .0; facts = fs; m = q .0 })
-          (next s h test bits words fs r (record { bounds = q .1 .1 .0; recs = q .1 .1 .1 .0; locs = q .1 .1 .1 .1 .0; vias = q .1 .1 .1 .1 .1 .0; types = q .1 .1 .1 .1 .1 .1 .0; ops = q .1 .1 .1 .1 .1 .1 .1 .0; work64 = q .1 .1 .1 .1 .1 .1 .1 .1 .1 .1 .1 .0; work32 = q .1 .1 .1 .1 .1 .1 .1 .1 .1 .1 .1 .1 .0; facts = fs; m = q .0 }) (stands (q .0) u (b .0)) tried (b .1 .0) (b .1 .1 .1 .0) (b .1 .1 .1 .1 .0) (b .1 .1 .1 .1 .1 .0) (b .1 .1 .1 .1 .1 .1 .0) (b .1 .1 .1 .1 .1 .1 .1 .0) (b .1 .1 .1 .1 .1 .1 .1 .1 .0) e-fs) (b .1 .0 .fewer))))
+          cut ((Held (q .1 .1 .0) (q .1 .1 .1 .0) (q .1 .1 .1 .1 .0) (q .1 .1 .1 .1 .1 .0) (q .1 .1 .1 .1 .1 .1 .0) (q .1 .1 .1 .1 .1 .1 .1 .0) (q .1 .1 .1 .1 .1 .1 .1 .1 .1 .1 .1 .0) (q .1 .1 .1 .1 .1 .1 .1 .1 .1 .1 .1 .1 .0) (fs)) ++ cells 𝓤 H En ((room ∷ filled (given ++ (B′.lowered (q .0) ∷ []))) ++ (has v ∷ has (B′.lowered (q .0)) ∷ room ∷ room ∷ room ∷ room ∷ room ∷ room ∷ room ∷ room ∷ room ∷ room ∷ room ∷ room ∷ room ∷ for-go))) ((Held (q .1 .1 .0) (q .1 .1 .1 .0) (q .1 .1 .1 .1 .0) (q .1 .1 .1 .1 .1 .0) (q .1 .1 .1 .1 .1 .1 .0) (q .1 .1 .1 .1 .1 .1 .1 .0) (q .1 .1 .1 .1 .1 .1 .1 .1 .1 .1 .1 .0) (q .1 .1 .1 .1 .1 .1 .1 .1 .1 .1 .1 .1 .0) (fs)) ++ cells 𝓤 H En (room ∷ filled (given ++ (B′.lowered (q .0) ∷ [])))) [] (empties 𝓤 H A W (Held (q .1 .1 .0) (q .1 .1 .1 .0) (q .1 .1 .1 .1 .0) (q .1 .1 .1 .1 .1 .0) (q .1 .1 .1 .1 .1 .1 .0) (q .1 .1 .1 .1 .1 .1 .1 .0) (q .1 .1 .1 .1 .1 .1 .1 .1 .1 .1 .1 .0) (q .1 .1 .1 .1 .1 .1 .1 .1 .1 .1 .1 .1 .0) (fs)) En (room ∷ filled (given ++ (B′.lowered (q .0) ∷ []))) (has v ∷ has (B′.lowered (q .0)) ∷ room ∷ room ∷ room ∷ room ∷ room ∷ room ∷ room ∷ room ∷ room ∷ room ∷ room ∷ room ∷ room ∷ for-go)) $
+          by ! (loop-of.again 𝓤 H A W 𝓣 En m.turn-1 Left Holds μ At (to-come (s .m)) (record { bounds = q .1 .1 .0; recs = q .1 .1 .1 .0; locs = q .1 .1 .1 .1 .0; vias = q .1 .1 .1 .1 .1 .0; types = q .1 .1 .1 .1 .1 .1 .0; ops = q .1 .1 .1 .1 .1 .1 .1 .0; work64 = q .1 .1 .1 .1 .1 .1 .1 .1 .1 .1 .1 .0; work32 = q .1 .1 .1 .1 .1 .1 .1 .1 .1 .1 .1 .1 .0; facts = fs; m = q .0 })
+          (next s h test bits words fs r (record { bounds = q .1 .1 .0; recs = q .1 .1 .1 .0; locs = q .1 .1 .1 .1 .0; vias = q .1 .1 .1 .1 .1 .0; types = q .1 .1 .1 .1 .1 .1 .0; ops = q .1 .1 .1 .1 .1 .1 .1 .0; work64 = q .1 .1 .1 .1 .1 .1 .1 .1 .1 .1 .1 .0; work32 = q .1 .1 .1 .1 .1 .1 .1 .1 .1 .1 .1 .1 .0; facts = fs; m = q .0 }) (stands (q .0) u (b .0)) tried (b .1 .0) (b .1 .1 .1 .0) (b .1 .1 .1 .1 .0) (b .1 .1 .1 .1 .1 .0) (b .1 .1 .1 .1 .1 .1 .0) (b .1 .1 .1 .1 .1 .1 .1 .0) (b .1 .1 .1 .1 .1 .1 .1 .1 .0) e-fs) (b .1 .0 .fewer)))
 
       -- what is lent to `go_on`
       goes-on : (s : State) (h : Holds s) → s .m .on ≡ true → (bits words : List ℕ) (fs : List Fact) → length bits ≡ length work64₀ → length words ≡ length work32₀ → length fs ≡ length (s .facts) → (r : MaybeMove) (v : Val) → Is Y.the-row r (v ∷ []) → Followed (s .bounds) (s .recs) (s .ops) pairs targets replay (s .m .sizes) (s .m .look .x) (s .m .look .c) (s .work64) (s .work32) bits words r
@@ -390,8 +390,8 @@ module _ {M : Type 1} (𝓤 : URA M) (H : Heap 𝓤) (A : Atoms 𝓤) (W : Given
           move ! (2 ∷ 5 ∷ 10 ∷ []) $
           backs-both u32 (named 2) (s-recs .κ) (s-recs .q) (s-recs .γ) (s-recs .b) (s-recs .o) (length recs₀) (s .recs) wide-recs (e-recs s h) u32 (named 8) (s-targets .κ) (s-targets .q) (at-spot s-targets targets) (value s-targets targets ∷ []) (named 2) (named 2) ! tt ν δ (
           move ! (2 ∷ 3 ∷ 0 ∷ 10 ∷ 11 ∷ 12 ∷ 4 ∷ 5 ∷ 1 ∷ 6 ∷ 7 ∷ 8 ∷ 9 ∷ []) $
-          by ! (via 𝓤 _ (empties 𝓤 H A W (Held (s .bounds) (s .recs) (s .locs) (s .vias) (s .types) (s .ops) (r .1 .1 .1 .1 .1 .1 .1 .1 .0) (r .1 .1 .1 .1 .1 .1 .1 .1 .1 .0) (r .1 .1 .1 .1 .1 .1 .1 .1 .1 .1 .0)) En (room ∷ filled (given ++ (B′.lowered (s .m) ∷ v ∷ []))) (room ∷ has (vbool true) ∷ for-try))
-          (goes-on s h test (r .1 .1 .1 .1 .1 .1 .1 .1 .0) (r .1 .1 .1 .1 .1 .1 .1 .1 .1 .0) (r .1 .1 .1 .1 .1 .1 .1 .1 .1 .1 .0) (a .1 .1 .1 .1 .1 .1 .1 .1 .1 .0 ∙ e-work64 s h) (a .1 .1 .1 .1 .1 .1 .1 .1 .1 .1 .0 ∙ e-work32 s h) (a .1 .1 .1 .1 .1 .1 .1 .1 .1 .1 .1 .0) (r .0) v (a .0) (a .1 .0))))))
+          cut ((Held (s .bounds) (s .recs) (s .locs) (s .vias) (s .types) (s .ops) (r .1 .1 .1 .1 .1 .1 .1 .1 .0) (r .1 .1 .1 .1 .1 .1 .1 .1 .1 .0) (r .1 .1 .1 .1 .1 .1 .1 .1 .1 .1 .0)) ++ cells 𝓤 H En ((room ∷ filled (given ++ (B′.lowered (s .m) ∷ v ∷ []))) ++ (room ∷ has (vbool true) ∷ for-try))) ((Held (s .bounds) (s .recs) (s .locs) (s .vias) (s .types) (s .ops) (r .1 .1 .1 .1 .1 .1 .1 .1 .0) (r .1 .1 .1 .1 .1 .1 .1 .1 .1 .0) (r .1 .1 .1 .1 .1 .1 .1 .1 .1 .1 .0)) ++ cells 𝓤 H En (room ∷ filled (given ++ (B′.lowered (s .m) ∷ v ∷ [])))) [] (empties 𝓤 H A W (Held (s .bounds) (s .recs) (s .locs) (s .vias) (s .types) (s .ops) (r .1 .1 .1 .1 .1 .1 .1 .1 .0) (r .1 .1 .1 .1 .1 .1 .1 .1 .1 .0) (r .1 .1 .1 .1 .1 .1 .1 .1 .1 .1 .0)) En (room ∷ filled (given ++ (B′.lowered (s .m) ∷ v ∷ []))) (room ∷ has (vbool true) ∷ for-try)) $
+          by ! (goes-on s h test (r .1 .1 .1 .1 .1 .1 .1 .1 .0) (r .1 .1 .1 .1 .1 .1 .1 .1 .1 .0) (r .1 .1 .1 .1 .1 .1 .1 .1 .1 .1 .0) (a .1 .1 .1 .1 .1 .1 .1 .1 .1 .0 ∙ e-work64 s h) (a .1 .1 .1 .1 .1 .1 .1 .1 .1 .1 .0 ∙ e-work32 s h) (a .1 .1 .1 .1 .1 .1 .1 .1 .1 .1 .1 .0) (r .0) v (a .0) (a .1 .0)))))
 
       -- a turn
       turns : (s : State) → Holds s → s .m .on ≡ true → ent 𝓤 (⋆ 𝓤 H A (At s)) (Wp 𝓤 H C Λ En m.turn-1 (afterTurn 𝓤 H (Below (to-come (s .m))) Left))

@@ -273,8 +273,8 @@ module _ {M : Type 1} (𝓤 : URA M) (H : Heap 𝓤) (A : Atoms 𝓤) (W : Given
           move ! (2 ∷ 8 ∷ 12 ∷ []) $
           backs-both u32 (named 2) (s-recs .κ) (s-recs .q) (s-recs .γ) (s-recs .b) (s-recs .o) (length recs₀) recs₀ wide-recs refl u32 (named 8) (s-targets .κ) (s-targets .q) (at-spot s-targets targets) (value s-targets targets ∷ []) (named 2) (named 2) ! tt ν δ (
           move ! (2 ∷ 3 ∷ 0 ∷ 4 ∷ 5 ∷ 6 ∷ 7 ∷ 8 ∷ 1 ∷ 9 ∷ 10 ∷ 11 ∷ 12 ∷ []) $
-          by ! (via 𝓤 _ (empties 𝓤 H A W (Held bounds₀ recs₀ locs₀ vias₀ types₀ ops₀ (r .1 .1 .1 .1 .1 .1 .1 .1 .1 .1 .1 .0) (r .1 .1 .1 .1 .1 .1 .1 .1 .1 .1 .1 .1 .0) facts₀) En (room ∷ filled (given ++ (B′.lowered (r .0) ∷ []))) for-start)
-          (lends-on (r .0) (stands (r .0) u (a .0)) (r .1 .1 .1 .1 .1 .1 .1 .1 .1 .1 .1 .0) (r .1 .1 .1 .1 .1 .1 .1 .1 .1 .1 .1 .1 .0) (a .1 .1 .1 .1 .1 .1 .1 .1 .1 .1 .1 .1 .0) (a .1 .1 .1 .1 .1 .1 .1 .1 .1 .1 .1 .1 .1 .0) (a .1 .0))))))
+          cut ((Held bounds₀ recs₀ locs₀ vias₀ types₀ ops₀ (r .1 .1 .1 .1 .1 .1 .1 .1 .1 .1 .1 .0) (r .1 .1 .1 .1 .1 .1 .1 .1 .1 .1 .1 .1 .0) facts₀) ++ cells 𝓤 H En ((room ∷ filled (given ++ (B′.lowered (r .0) ∷ []))) ++ for-start)) ((Held bounds₀ recs₀ locs₀ vias₀ types₀ ops₀ (r .1 .1 .1 .1 .1 .1 .1 .1 .1 .1 .1 .0) (r .1 .1 .1 .1 .1 .1 .1 .1 .1 .1 .1 .1 .0) facts₀) ++ cells 𝓤 H En (room ∷ filled (given ++ (B′.lowered (r .0) ∷ [])))) [] (empties 𝓤 H A W (Held bounds₀ recs₀ locs₀ vias₀ types₀ ops₀ (r .1 .1 .1 .1 .1 .1 .1 .1 .1 .1 .1 .0) (r .1 .1 .1 .1 .1 .1 .1 .1 .1 .1 .1 .1 .0) facts₀) En (room ∷ filled (given ++ (B′.lowered (r .0) ∷ []))) for-start) $
+          by ! (lends-on (r .0) (stands (r .0) u (a .0)) (r .1 .1 .1 .1 .1 .1 .1 .1 .1 .1 .1 .0) (r .1 .1 .1 .1 .1 .1 .1 .1 .1 .1 .1 .1 .0) (a .1 .1 .1 .1 .1 .1 .1 .1 .1 .1 .1 .1 .0) (a .1 .1 .1 .1 .1 .1 .1 .1 .1 .1 .1 .1 .1 .0) (a .1 .0)))))
 
       -- the MIR, once the parameters are in their locals: what is lent to `start`
       begins : ent 𝓤 (⋆ 𝓤 H A (cells 𝓤 H En (room ∷ filled given) ++ Held bounds₀ recs₀ locs₀ vias₀ types₀ ops₀ work64₀ work32₀ facts₀)) (Wp 𝓤 H C Λ En m.t-1 (atReturn 𝓤 H En Post))

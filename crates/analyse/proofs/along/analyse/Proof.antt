@@ -289,6 +289,7 @@ module _ {M : Type 1} (𝓤 : URA M) (H : Heap 𝓤) (A : Atoms 𝓤) (W : Given
             land ! (from ! (stop !)) (store ! 28 refl (LL.lawful X.the-type X′.the-laws 𝓤 H A W .typed (r″ .0) (w″ ∷ []) (a″ .0) .0)) $ rewrite ! 28 (λ (u : Val). ‵ (fat fullShare X′.mir (l 11) 0 u)) (ap only (LL.tells X.the-type X′.the-laws (r″ .0) (w″ ∷ []) (a″ .0))) refl $
             assigns-last ! (bin ! (load ! (from ! (stop !)) (look ! 26 refl)) (lit ! tt) (record { fits = on })) (from ! (stop !)) (store ! 26 refl (tt, record { fits = on })) $
             forget ! 6 refl $ forget ! 8 refl $ forget ! 10 refl $ forget ! 12 refl $ forget ! 14 refl $ forget ! 16 refl $ forget ! 18 refl $ forget ! 24 refl $ move ! (2 ∷ 3 ∷ 4 ∷ 5 ∷ 1 ∷ 0 ∷ []) $
+            cut (At (record { p = s .p + 1; ys = r .1 .1 .1 .1 .0; gs = r′ .1 .0; cur = r″ .0 })) (At (record { p = s .p + 1; ys = r .1 .1 .1 .1 .0; gs = r′ .1 .0; cur = r″ .0 })) [] (id⊢ 𝓤 _) $
             by ! (loop-of.again 𝓤 H A W 𝓣 En m.turn-1 Left (Holds zs) μ At (800 - s .p) (record { p = s .p + 1; ys = r .1 .1 .1 .1 .0; gs = r′ .1 .0; cur = r″ .0 })
             (more s h below (r .0) (r .1 .1 .1 .1 .0) (r′ .1 .0) (r″ .0) (a .1 .1 .1 .1 .1 .0) (a .1 .0) (a′ .1 .0) (cur-is (r″ .0) w″ (a″ .0)) (a″ .1 .0)) (omega (arith, low))))))
           where
@@ -336,7 +337,7 @@ module _ {M : Type 1} (𝓤 : URA M) (H : Heap 𝓤) (A : Atoms 𝓤) (W : Given
           calls-with begin-args X.the-row Begin-says fm begin-call ! (and-then ! (load ! (from ! (stop !)) (look ! 19 refl)) (and-then ! (load ! (from ! (stop !)) (look ! 37 refl)) (and-then ! (load ! (from ! (stop !)) (look ! 35 refl)) (and-then ! (load ! (from ! (stop !)) (look ! 33 refl)) (and-then ! (load ! (from ! (stop !)) (look ! 31 refl)) (no-more !)))))) (λ w r a.
           land ! (from ! (stop !)) (init ! 28 refl (LL.lawful X.the-type X′.the-laws 𝓤 H A W .typed (r .0) (w ∷ []) (a .0) .0)) $ rewrite ! 28 (λ (u : Val). ‵ (fat fullShare X′.mir (l 11) 0 u)) (ap only (LL.tells X.the-type X′.the-laws (r .0) (w ∷ []) (a .0))) refl $
           assigns ! (of-opd ! (lit ! tt)) (from ! (stop !)) (init ! 26 refl (tt, record { fits = lit< tt })) $ forget ! 22 refl $ forget ! 20 refl $ move ! (2 ∷ 3 ∷ 4 ∷ 0 ∷ 5 ∷ 1 ∷ []) $
-          by ! (loops (r .1 .0) (r .0) (a .1 .0) (a .1 .1 .0) (cur-is (r .0) w (a .0))))
+          cut (At (record { p = 0; ys = r .1 .0; gs = fs; cur = r .0 })) (At (record { p = 0; ys = r .1 .0; gs = fs; cur = r .0 })) [] (id⊢ 𝓤 _) $ by ! (loops (r .1 .0) (r .0) (a .1 .0) (a .1 .1 .0) (cur-is (r .0) w (a .0))))
 
     -- the arguments are of their locals' types
     typed : (homes : Homes (code.function .locals)) → TypedIn 𝓤 H (envOf 𝓤 H (code.function .locals) homes) given

@@ -319,6 +319,7 @@ module _ {M : Type 1} (𝓤 : URA M) (H : Heap 𝓤) (A : Atoms 𝓤) (W : Given
             land ! (from ! (stop !)) (init ! 27 refl (LL.lawful K.the-type K′.the-laws 𝓤 H A W .typed (t .0) (v ∷ []) (d .0) .0)) $ rewrite ! 27 (λ (v : Val). ‵ (fat fullShare K′.mir (l 13) 0 v)) (ap only (LL.tells K.the-type K′.the-laws (t .0) (v ∷ []) (d .0))) refl $
             assigns-last ! (of-opd ! (load ! (from ! (stop !)) (look ! 27 refl))) (from ! (stop !)) (store ! 33 refl (LL.lawful K.the-type K′.the-laws 𝓤 H A W .typed (t .0) _ (cycle-is (t .0) v (d .0)) .0)) $
             forget ! 7 refl $ forget ! 9 refl $ forget ! 11 refl $ forget ! 13 refl $ forget ! 15 refl $ forget ! 17 refl $ forget ! 19 refl $ forget ! 21 refl $ forget ! 23 refl $ forget ! 25 refl $ forget ! 27 refl $ forget ! 29 refl $ forget ! 31 refl $
+            cut (At (record { c = t .0; ws = r .1 .1 .1 .1 .1 .0; js = r .1 .1 .1 .1 .1 .1 .0; gs = r .1 .1 .1 .1 .1 .1 .1 .0 })) (At (record { c = t .0; ws = r .1 .1 .1 .1 .1 .0; js = r .1 .1 .1 .1 .1 .1 .0; gs = r .1 .1 .1 .1 .1 .1 .1 .0 })) [] (id⊢ 𝓤 _) $
             by ! (loop-of.again 𝓤 H A W 𝓣 En m.turn-1 Left Holds μ At (μ s) (record { c = t .0; ws = r .1 .1 .1 .1 .1 .0; js = r .1 .1 .1 .1 .1 .1 .0; gs = r .1 .1 .1 .1 .1 .1 .1 .0 })
             (record { is = cycle-is (t .0) v (d .0); went = goes-on (b .1 .0) (a .1 .0) (d .1 .0) }) (fewer (b .1 .0) (a .1 .0) (d .1 .0))))))
           where
@@ -379,7 +380,7 @@ module _ {M : Type 1} (𝓤 : URA M) (H : Heap 𝓤) (A : Atoms 𝓤) (W : Given
           calls-with zero-args B.the-row Zero-says fm zero-call ! (no-more !) (λ w r a.
           land ! (from ! (stop !)) (init ! 28 refl (LL.lawful B.the-type B′.the-laws 𝓤 H A W .typed (r .0) (w ∷ []) (a .0) .0)) $ rewrite ! 28 (λ (v : Val). ‵ (fat fullShare B′.mir (l 9) 0 v)) (ap only (LL.tells B.the-type B′.the-laws (r .0) (w ∷ []) (a .0))) refl $
           assigns ! (of-opd ! (load ! (from ! (stop !)) (look ! 30 refl))) (from ! (stop !)) (init ! 26 refl (LL.lawful K.the-type K′.the-laws 𝓤 H A W .typed z _ z-is .0)) $
-          move ! (48 ∷ 49 ∷ 50 ∷ 51 ∷ 52 ∷ 53 ∷ 54 ∷ []) $ by ! (loops (r .0) (tally-is (r .0) w (a .0)) (a .1 .0)))
+          move ! (48 ∷ 49 ∷ 50 ∷ 51 ∷ 52 ∷ 53 ∷ 54 ∷ []) $ cut (Held ws₀ js₀ fs₀ ++ cells 𝓤 H En (room ∷ filled (given ++ (B′.lowered (r .0) ∷ K′.lowered z ∷ [])))) (Held ws₀ js₀ fs₀ ++ cells 𝓤 H En (room ∷ filled (given ++ (B′.lowered (r .0) ∷ K′.lowered z ∷ [])))) [] (id⊢ 𝓤 _) $ by ! (loops (r .0) (tally-is (r .0) w (a .0)) (a .1 .0)))
 
     -- the arguments are of their locals' types
     typed : (homes : Homes (code.function .locals)) → TypedIn 𝓤 H (envOf 𝓤 H (code.function .locals) homes) given

@@ -320,7 +320,7 @@ module _ {M : Type 1} (𝓤 : URA M) (H : Heap 𝓤) (A : Atoms 𝓤) (W : Given
           qed W (Held work64₀ work32₀ facts₀ out₀ ++ cells 𝓤 H En ((room ∷ filled given) ++ (room ∷ room ∷ lent-first))) ∵ exec ! C Λ En m.t-6 (atRet En Post) $
           calls-with set-args D.the-row Set-says fm set-call ! (and-then ! (load ! (from ! (stop !)) (look ! 67 refl)) (and-then ! (load ! (from ! (stop !)) (look ! 65 refl)) (and-then ! (load ! (from ! (stop !)) (look ! 63 refl)) (and-then ! (load ! (from ! (stop !)) (look ! 61 refl)) (and-then ! (load ! (from ! (stop !)) (look ! 59 refl)) (and-then ! (load ! (from ! (stop !)) (look ! 57 refl)) (and-then ! (load ! (from ! (stop !)) (look ! 55 refl)) (and-then ! (load ! (from ! (stop !)) (look ! 53 refl)) (and-then ! (load ! (from ! (stop !)) (look ! 51 refl)) (and-then ! (load ! (from ! (stop !)) (look ! 49 refl)) (and-then ! (load ! (from ! (stop !)) (look ! 47 refl)) (and-then ! (load ! (from ! (stop !)) (look ! 45 refl)) (and-then ! (load ! (from ! (stop !)) (look ! 27 refl)) (and-then ! (load ! (from ! (stop !)) (look ! 23 refl)) (and-then ! (load ! (from ! (stop !)) (look ! 21 refl)) (and-then ! (load ! (from ! (stop !)) (look ! 37 refl)) (no-more !))))))))))))))))) (λ u r a.
           land ! (from ! (stop !)) (init ! 44 refl (LL.lawful D.the-type D′.the-laws 𝓤 H A W .typed (r .0) (u ∷ []) (a .0) .0)) $ rewrite ! 44 (λ (y : Val). ‵ (fat fullShare D′.mir (l 18) 0 y)) (ap only (D′.lowers .val-is (r .0) (u ∷ []) (a .0))) refl $
-          by ! (tests (r .0) (subst (Is D.the-row (r .0)) (D′.lowers .val-is (r .0) (u ∷ []) (a .0)) (a .0)) (r .1 .1 .1 .1 .1 .1 .1 .1 .1 .1 .1 .1 .1 .0) (r .1 .1 .1 .1 .1 .1 .1 .1 .1 .1 .1 .1 .1 .1 .0) (a .1 .1 .1 .1 .1 .1 .1 .1 .1 .1 .1 .1 .1 .1 .0) (a .1 .1 .1 .1 .1 .1 .1 .1 .1 .1 .1 .1 .1 .1 .1 .0) (a .1 .0)))
+          cut (Held (r .1 .1 .1 .1 .1 .1 .1 .1 .1 .1 .1 .1 .1 .0) (r .1 .1 .1 .1 .1 .1 .1 .1 .1 .1 .1 .1 .1 .1 .0) facts₀ out₀ ++ cells 𝓤 H En ((room ∷ filled given) ++ (has (D′.lowered (r .0)) ∷ room ∷ lent-first))) (Held (r .1 .1 .1 .1 .1 .1 .1 .1 .1 .1 .1 .1 .1 .0) (r .1 .1 .1 .1 .1 .1 .1 .1 .1 .1 .1 .1 .1 .1 .0) facts₀ out₀ ++ cells 𝓤 H En ((room ∷ filled given) ++ (has (D′.lowered (r .0)) ∷ room ∷ lent-first))) [] (id⊢ 𝓤 _) $ by ! (tests (r .0) (subst (Is D.the-row (r .0)) (D′.lowers .val-is (r .0) (u ∷ []) (a .0)) (a .0)) (r .1 .1 .1 .1 .1 .1 .1 .1 .1 .1 .1 .1 .1 .0) (r .1 .1 .1 .1 .1 .1 .1 .1 .1 .1 .1 .1 .1 .1 .0) (a .1 .1 .1 .1 .1 .1 .1 .1 .1 .1 .1 .1 .1 .1 .0) (a .1 .1 .1 .1 .1 .1 .1 .1 .1 .1 .1 .1 .1 .1 .1 .0) (a .1 .0)))
 
       -- the MIR, once the parameters are in their locals: what is lent
       begins : ent 𝓤 (⋆ 𝓤 H A (cells 𝓤 H En (room ∷ filled given) ++ Held work64₀ work32₀ facts₀ out₀)) (Wp 𝓤 H C Λ En m.t-1 (atReturn 𝓤 H En Post))

@@ -324,7 +324,7 @@ module _ {M : Type 1} (𝓤 : URA M) (H : Heap 𝓤) (A : Atoms 𝓤) (W : Given
             qed W (At xs₁ ws₁ fs₁ (vint w64 n ∷ [])) ∵ exec ! C Λ En body.t-8 (atRet En Post) $ move ! (1 ∷ 6 ∷ []) $
             calls-with {Γ = Rest (par-table 𝓤 H A W st ts ∷ par-words 𝓤 H A W 2 sr rs ∷ par-words 𝓤 H A W 3 so os ∷ par-words 𝓤 H A W 4 sp ps ∷ par-words-at 𝓤 H A W 2 sr sg gs ∷ par-list 𝓤 H A W u64 6 sx xs xs₁ ∷ par-list 𝓤 H A W u32 7 sw ws ws₁ ∷ par-list 𝓤 H A W T.the-row 8 sf fs fs₁ ∷ []) (vint w64 n ∷ []) []} want-args O.the-row Want-says fm want-call ! (and-then ! (load ! (from ! (stop !)) (look ! 77 refl)) (and-then ! (load ! (from ! (stop !)) (look ! 67 refl)) (and-then ! (load ! (from ! (stop !)) (look ! 57 refl)) (and-then ! (load ! (from ! (stop !)) (look ! 55 refl)) (no-more !))))) (λ w r y.
             land ! (from ! (stop !)) (init ! 52 refl (LL.lawful O.the-type O′.the-laws 𝓤 H A W .typed (r .0) (w ∷ []) (y .0) .0)) $ rewrite ! 52 (λ (u : Val). ‵ (fat fullShare O′.mir (l 15) 0 u)) (ap only (O′.lowers .val-is (r .0) (w ∷ []) (y .0))) refl $ move ! (2 ∷ 0 ∷ 3 ∷ 4 ∷ 5 ∷ 6 ∷ 1 ∷ []) $
-            by ! (tries-t (r .0) (subst (Is O.the-row (r .0)) (O′.lowers .val-is (r .0) (w ∷ []) (y .0)) (y .0)) (y .1 .0)))
+            cut (At xs₁ ws₁ fs₁ (vint w64 n ∷ O′.lowered (r .0) ∷ [])) (At xs₁ ws₁ fs₁ (vint w64 n ∷ O′.lowered (r .0) ∷ [])) [] (id⊢ 𝓤 _) $ by ! (tries-t (r .0) (subst (Is O.the-row (r .0)) (O′.lowers .val-is (r .0) (w ∷ []) (y .0)) (y .0)) (y .1 .0)))
 
       abbrev learn-args : List (Arg 𝓤 H A)
       learn-args = see-table 𝓤 H A W st ts ∷ see 𝓤 H A W 1 sb bs ∷ see 𝓤 H A W 2 sr rs ∷ see 𝓤 H A W 3 so os ∷ lend 𝓤 H A W u64 6 sx xs 4 xs wide-xs refl ∷ lend 𝓤 H A W u32 7 sw ws 5 ws wide-ws refl ∷ lend 𝓤 H A W T.the-row 8 sf fs 6 fs wide-fs refl

@@ -99,6 +99,13 @@ use Rattle.trial.proofs.target.plan.Code.Mir as body
 abbrev stayed : Stays (f.ended .signature .params) (f.ended .kept)
 stayed = (stay-none-ref (0 ∷ []) tt (ArrayOf (plain (λ _. u32)) (λ _. tt) 202) yes, (stay-none-slice (1 ∷ []) tt (plain (λ _. u32)) yes, (stay-none-slice (2 ∷ []) tt (plain (λ _. u32)) yes, (stay-none-slice (3 ∷ []) tt (plain (λ _. u32)) yes, (stay-none-slice (4 ∷ []) tt (plain (λ _. u32)) yes, (stay-none-slice (2 ∷ []) tt (plain (λ _. u32)) yes, (stay-slice (5 ∷ []) tt (plain (λ _. u64)), (stay-slice (6 ∷ []) tt (plain (λ _. u32)), (stay-slice (7 ∷ []) tt (plain (λ _. T.the-row)), (stay-none (λ _. S.the-row) yes, (stay-none (λ _. K.the-row) yes, (stay-none (λ _. u32) yes, (stay-none (λ _. B.the-row) yes, (stay-none (λ _. B.the-row) yes, (stay-none (λ _. usize) yes, (stay-none (λ _. usize) yes, tt))))))))))))))))
 
+-- a struct that a callee answers, by its own machine value
+sunk-is : (b : Sunk) (u : Val) → Is D.the-row b (u ∷ []) → Is D.the-row b (D′.lowered b ∷ [])
+sunk-is b u is = subst (Is D.the-row b) (D′.lowers .val-is b (u ∷ []) is) is
+
+aim-is : (a : Aim) (u : Val) → Is E.the-row a (u ∷ []) → Is E.the-row a (E′.lowered a ∷ [])
+aim-is a u is = subst (Is E.the-row a) (E′.lowers .val-is a (u ∷ []) is) is
+
 -- the contracts that the proof cites
 module _ {M : Type 1} (𝓤 : URA M) (H : Heap 𝓤) (A : Atoms 𝓤) (mem : Memory → SProp 𝓤) (run : Routine → Fun 𝓤) where
   abbrev TakeAim : Contract 𝓤
@@ -313,7 +320,7 @@ module _ {M : Type 1} (𝓤 : URA M) (H : Heap 𝓤) (A : Atoms 𝓤) (W : Given
               qed W (At xs₂ ws hs (E′.lowered a ∷ vint w64 (a .end) ∷ vint w32 k ∷ [])) ∵ exec ! C Λ En body.t-16 (atRet En Post) $
               calls-with {Γ = At xs₂ ws hs (E′.lowered a ∷ vint w64 (a .end) ∷ vint w32 k ∷ [])} take-args D.the-row Take-says fm take-call ! (and-then ! (load ! (from ! (stop !)) (look ! 54 refl)) (and-then ! (load ! (from ! (stop !)) (look ! 58 refl)) (and-then ! (load ! (from ! (stop !)) (look ! 60 refl)) (no-more !)))) (λ w r y.
               land ! (from ! (stop !)) (init ! 51 refl (LL.lawful D.the-type D′.the-laws 𝓤 H A W .typed (r .0) (w ∷ []) (y .0) .0)) $ rewrite ! 51 (λ (u : Val). ‵ (fat fullShare D′.mir (l 20) 0 u)) (ap only (D′.lowers .val-is (r .0) (w ∷ []) (y .0))) refl $
-              by ! (puts (r .0) (subst (Is D.the-row (r .0)) (D′.lowers .val-is (r .0) (w ∷ []) (y .0)) (y .0)) (y .1 .0)))
+              cut (At xs₂ ws hs (E′.lowered a ∷ vint w64 (a .end) ∷ vint w32 k ∷ D′.lowered (r .0) ∷ [])) (At xs₂ ws hs (E′.lowered a ∷ vint w64 (a .end) ∷ vint w32 k ∷ D′.lowered (r .0) ∷ [])) [] (id⊢ 𝓤 _) $ by ! (puts (r .0) (sunk-is (r .0) w (y .0)) (y .1 .0)))
 
         -- the set: _18, where the copied words end; _25 to _28, the copied words; six items are handed over
         chooses : ent 𝓤 (⋆ 𝓤 H A (At xs₁ ws fs (E′.lowered a ∷ []))) (Wp 𝓤 H C Λ En body.t-6 (atReturn 𝓤 H En Post))
@@ -355,7 +362,7 @@ module _ {M : Type 1} (𝓤 : URA M) (H : Heap 𝓤) (A : Atoms 𝓤) (W : Given
           move ! (0 ∷ 1 ∷ 2 ∷ 4 ∷ 5 ∷ 6 ∷ 7 ∷ []) $
           calls-with {Γ = Rest (par-words 𝓤 H A W 3 so os ∷ par-list 𝓤 H A W T.the-row 7 sf fs fs ∷ []) [] (room ∷ room ∷ room ∷ room ∷ filled (points sx ∷ value sx xs ∷ points sw ∷ value sw ws ∷ []))} aim-args E.the-row Aim-says fm aim-call ! (and-then ! (load ! (from ! (stop !)) (look ! 83 refl)) (and-then ! (load ! (from ! (stop !)) (look ! 81 refl)) (and-then ! (load ! (from ! (stop !)) (look ! 79 refl)) (and-then ! (load ! (from ! (stop !)) (look ! 75 refl)) (and-then ! (load ! (from ! (stop !)) (look ! 73 refl)) (and-then ! (load ! (from ! (stop !)) (look ! 41 refl)) (and-then ! (load ! (from ! (stop !)) (look ! 37 refl)) (and-then ! (load ! (from ! (stop !)) (look ! 65 refl)) (and-then ! (load ! (from ! (stop !)) (look ! 63 refl)) (and-then ! (load ! (from ! (stop !)) (look ! 61 refl)) (and-then ! (load ! (from ! (stop !)) (look ! 59 refl)) (and-then ! (load ! (from ! (stop !)) (look ! 57 refl)) (and-then ! (load ! (from ! (stop !)) (look ! 55 refl)) (and-then ! (load ! (from ! (stop !)) (look ! 53 refl)) (no-more !))))))))))))))) (λ w r y.
           land ! (from ! (stop !)) (init ! 57 refl (LL.lawful E.the-type E′.the-laws 𝓤 H A W .typed (r .0) (w ∷ []) (y .0) .0)) $ rewrite ! 57 (λ (u : Val). ‵ (fat fullShare E′.mir (l 17) 0 u)) (ap only (E′.lowers .val-is (r .0) (w ∷ []) (y .0))) refl $ move ! (0 ∷ 1 ∷ 2 ∷ 7 ∷ []) $
-          forget ! 49 refl $ forget ! 47 refl $ forget ! 45 refl $ forget ! 43 refl $ by ! (chooses (r .0) (subst (Is E.the-row (r .0)) (E′.lowers .val-is (r .0) (w ∷ []) (y .0)) (y .0)) (r .1 .1 .1 .1 .1 .1 .0) (y .1 .1 .1 .1 .1 .1 .1 .0) (y .1 .0)))
+          forget ! 49 refl $ forget ! 47 refl $ forget ! 45 refl $ forget ! 43 refl $ cut (At (r .1 .1 .1 .1 .1 .1 .0) ws fs (E′.lowered (r .0) ∷ [])) (At (r .1 .1 .1 .1 .1 .1 .0) ws fs (E′.lowered (r .0) ∷ [])) [] (id⊢ 𝓤 _) $ by ! (chooses (r .0) (aim-is (r .0) w (y .0)) (r .1 .1 .1 .1 .1 .1 .0) (y .1 .1 .1 .1 .1 .1 .1 .0) (y .1 .0)))
 
     -- the arguments are of their locals' types
     typed : (homes : Homes (code.function .locals)) → TypedIn 𝓤 H (envOf 𝓤 H (code.function .locals) homes) given
