@@ -61,7 +61,7 @@ if [ "${1:-}" = --bench ]; then
 fi
 
 # The comparisons themselves: a slip that is put in is found.
-[ "${1:-}" = --if-there ] || cargo test --release --offline --locked --quiet --features port,host
+cargo test --release --offline --locked --quiet --features port,host
 
 $compare roles ../../crates/model/specs/Kinds.antt
 $compare selfcheck "${PICTURES:-4000}" "${SEED:-1}"

@@ -25,12 +25,12 @@ use Rattle.inst.specs.Record.{Within, Listed, write-at}
 use Rattle.inst.specs.Table.{arm-code}
 use Rattle.inst.proofs.Words.{slots-long, slot-is}
 use Rattle.chains.specs.Places.{Pairs, end-past}
-use Rattle.analyse.specs.Written.{Fits}
-use Rattle.analyse.specs.Flags.{Found, Seen}
+use Rattle.regfacts.specs.Written.{Fits}
+use Rattle.regfacts.specs.Flags.{Found, Seen}
 use Rattle.analyse.specs.State.{Readable}
 use Rattle.analyse.specs.Step.{Good}
 use Rattle.analyse.proofs.Learned.{fits-more}
-use Rattle.analyse.proofs.First.{first-seen}
+use Rattle.regfacts.proofs.First.{first-seen}
 
 -- ---- slots
 

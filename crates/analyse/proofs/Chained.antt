@@ -17,7 +17,7 @@ use Rattle.chains.specs.Cursor.{left-of, Standing}
 use Rattle.chains.proofs.Seeking.{next-left, nothing-left}
 use Rattle.inst.specs.Table.{rows}
 use Rattle.facts.specs.declared.Fact as F
-use Rattle.analyse.specs.Flags.{Seen}
+use Rattle.regfacts.specs.Flags.{Seen}
 use Rattle.analyse.specs.State.{cell, opt-at, State, Ranged, Safe}
 use Rattle.analyse.specs.Step.{Forgot, Good, Learned, Holds, Ran, Begun, Ready, Analysed}
 use Rattle.analyse.specs.Cells.{cells}

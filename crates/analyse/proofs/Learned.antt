@@ -24,8 +24,8 @@ use Rattle.effects.specs.Arms.{leads}
 use Rattle.effects.specs.declared.arms.Effect.{Effect}
 use Rattle.effects.specs.declared.arms.Input.{Input}
 use Rattle.analyse.specs.declared.look.Value.{Value}
-use Rattle.analyse.specs.Written.{Fits, Written, settle}
-use Rattle.analyse.specs.Flags.{Seen}
+use Rattle.regfacts.specs.Written.{Fits, Written, settle}
+use Rattle.regfacts.specs.Flags.{Seen}
 use Rattle.analyse.specs.State.{opt-at, left-in, Left, Marked, Ranges, Ranged, Asked, Low, Judged}
 use Rattle.analyse.specs.Step.{stamp, marked, more, fact-of, Good, Stands, Sized, Learned}
 use Rattle.analyse.proofs.Layouts.{lay-keep}

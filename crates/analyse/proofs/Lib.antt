@@ -1,6 +1,3 @@
-pub mod Writing
-pub mod Soles
-pub mod Turned
 pub mod Layouts
 pub mod Leads
 pub mod Looked
@@ -11,7 +8,6 @@ pub mod Learned
 pub mod Puts
 pub mod Run
 pub mod Chained
-pub mod First
 pub mod Accepted
 pub mod RunOf
 pub mod Cells

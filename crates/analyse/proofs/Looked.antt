@@ -13,7 +13,7 @@ use Rattle.model.specs.Picture.{absent}
 use Rattle.model.specs.Analyse.{Facts, Fact, Known, unknown, Org, Unknown, Ro, Frame, no-fact, last-writer, org-of, len-of, when-some, known-of, small, positive, Read}
 use Rattle.effects.specs.Origin.{org-at, num}
 use Rattle.analyse.specs.declared.look.Value.{Value}
-use Rattle.analyse.specs.Flags.{flags-of, Seen}
+use Rattle.regfacts.specs.Flags.{flags-of, Seen}
 use Rattle.analyse.specs.State.{opt-at, left-in, Left, Marked, Ranges, org-reg, len-reg, Reg?, Valued}
 use Rattle.analyse.proofs.Layouts.{lay-low}
 

@@ -12,7 +12,7 @@ use lib.ListN.{getD, length, set, length-set}
 use lib.Seq.{getD-set-same, getD-set-other}
 use Rattle.words.specs.Lists.{mem}
 use Rattle.model.specs.Analyse.{Fact, last-writer}
-use Rattle.analyse.specs.Written.{settle}
+use Rattle.regfacts.specs.Written.{settle}
 use Rattle.effects.specs.Origin.{num}
 use Rattle.analyse.specs.State.{opt-at, left-in, Ranges}
 use Rattle.analyse.specs.Step.{stamp, marked, Forgot}

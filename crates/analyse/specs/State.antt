@@ -17,7 +17,7 @@ use Rattle.inst.specs.declared.access.Firsts.{Firsts}
 use Rattle.effects.specs.Origin.{org-at, class-at, wrote-at, from-at, num}
 use Rattle.effects.specs.declared.arms.Input.{Input}
 use Rattle.effects.specs.declared.arms.Effect.{Effect}
-use Rattle.analyse.specs.Flags.{Seen}
+use Rattle.regfacts.specs.Flags.{Seen}
 use Rattle.analyse.specs.declared.look.Value.{Value}
 
 -- ---- a position's words

@@ -21,8 +21,8 @@ use Rattle.chains.specs.declared.cursor.Cursor.{Cursor}
 use Rattle.chains.specs.Chain.{blocks-of, Sound}
 use Rattle.chains.specs.Cursor.{left-of, Standing}
 use Rattle.chains.specs.Places.{Pairs, end-past}
-use Rattle.analyse.specs.Written.{Fits}
-use Rattle.analyse.specs.Flags.{Seen}
+use Rattle.regfacts.specs.Written.{Fits}
+use Rattle.regfacts.specs.Flags.{Seen}
 use Rattle.analyse.specs.State.{cell, pack, Marked, Ranged, State, Safe, Readable}
 
 -- ---- last writers

@@ -1,5 +1,4 @@
 // What the instruction at a position does (01, "The legal set": `analyse` and `writes_nothing` of 000).
-use crate::flags::is_small;
 use crate::look::is_divisor;
 use crate::look::value_of;
 use effects::arms::Effect;
@@ -12,6 +11,7 @@ use inst::record::kind;
 use inst::record::word;
 use inst::table::arm;
 use inst::table::quiet;
+use regfacts::flags::is_small;
 ghost use mathlib.Core.Path.{_≡_};
 ghost use mathlib.Core.Bool.{_||_};
 ghost use mathlib.Core.List.{List};

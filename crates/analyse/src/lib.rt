@@ -1,5 +1,4 @@
-// 000's `analyse` (01, "A round" and "The legal set"): the facts on registers, once, and the facts along a chain.
-pub mod flags; // flags.rt: the facts on registers, before round 1
+// 000's `analyse` (01, "A round" and "The legal set"): the facts along a chain.
 pub mod look; // look.rt: what is known of a register at a position
 pub mod judge; // judge.rt: what the instruction at a position does
 pub mod marks; // marks.rt: the last writer of each register, and what it left

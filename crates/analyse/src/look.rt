@@ -2,7 +2,7 @@
 // in the chain, or else from the facts of before round 1. A register's word has all of it, from the lowest bits up: 4 flags of
 // before round 1; 10 bits for the last writer's position and 1, or 0; and where there is a writer, what it left: 11 bits for
 // where that points, as an origin's number, 1 bit if it is a length, 1 bit if it points to a block whose maker is a layout.
-use crate::flags::at;
+use regfacts::flags::at;
 ghost use mathlib.Core.Path.{_≡_};
 ghost use mathlib.Core.Bool.{cond};
 ghost use mathlib.Core.List.{List};
@@ -10,7 +10,7 @@ ghost use Prim.Native.Nat.{ℕ, _+_, _*_, _%_, _≤_, _<_};
 ghost use lib.ListN.{length};
 ghost use Rattle.model.specs.Analyse.{Facts, Fact, Known, Unknown, Ro, Frame, when-some, positive, known-of};
 ghost use Rattle.effects.specs.Origin.{org-at};
-ghost use Rattle.analyse.specs.Flags.{flags-of, Seen};
+ghost use Rattle.regfacts.specs.Flags.{flags-of, Seen};
 ghost use Rattle.analyse.specs.State.{Marked, Ranged, Reg?, Valued, left-in};
 
 // Where a register with these flags points.

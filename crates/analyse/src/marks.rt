@@ -1,8 +1,8 @@
 // The last writer of each register along a chain (01, "The legal set"; 000's `last`), and what it left there: in a register's
 // word, over its flags (see look.rt).
-use crate::flags::at;
 use inst::access::Firsts;
 use inst::access::write_at;
+use regfacts::flags::at;
 ghost use mathlib.Core.Path.{_≡_};
 ghost use mathlib.Core.Logic.{_⊎_};
 ghost use Prim.Native.Nat.{_≤_, _<_};
@@ -10,7 +10,7 @@ ghost use lib.ListN.{length, getD};
 ghost use Rattle.model.specs.Picture.{inst, absent, writes};
 ghost use Rattle.inst.specs.Record.{Used};
 ghost use Rattle.effects.specs.Origin.{num};
-ghost use Rattle.analyse.specs.Written.{put-in, Fits, Written};
+ghost use Rattle.regfacts.specs.Written.{put-in, Fits, Written};
 ghost use Rattle.analyse.specs.Step.{stamp, marked, Forgot};
 
 // No register has a writer yet.

@@ -41,6 +41,10 @@ sound-of Not B = Unit {0}
 
 -- ---- what it stands for
 
+-- the chain that c stands for
+abbrev pub chain-in : Chain → M.Chain
+chain-in c = record { blocks = blocks-of c; last = last-of c; t = c .t .0; f = c .f .0 }
+
 -- a chain of these blocks that goes to t or f
 unfoldable pub ended : Chain → ℕ → ℕ → Option M.Chain
 ended c t f = some (record { blocks = blocks-of c; last = last-of c; t = t; f = f })

@@ -23,17 +23,17 @@ use Rattle.laws.proofs.Accepted.{accepted}
 use Rattle.laws.proofs.Moving.{x-block, into-block}
 use Rattle.laws.proofs.Keeps.{moving, round-not-refused}
 use Rattle.laws.proofs.Rounds.{line-of, sink-done, sink-short, sink-more}
-use Rattle.picture.specs.Causes.{picture-of}
+use Rattle.checks.specs.Causes.{picture-of}
 use Rattle.apply.specs.Apply.{Holds}
 use Rattle.flow.specs.Live.{Live}
-use Rattle.trial.specs.declared.sizes.Sizes.{Sizes}
+use Rattle.chainwords.specs.declared.sizes.Sizes.{Sizes}
 use Rattle.trial.specs.declared.block.Move.{Move}
 use Rattle.trial.specs.declared.block.MaybeMove.{MaybeMove}
 use Rattle.trial.specs.declared.block.MaybeMove.the-variants as tries
-use Rattle.trial.specs.Work.{width, Shown, Begun, Held, chain-words}
-use Rattle.trial.specs.Along.{chain-in}
+use Rattle.chainwords.specs.Work.{width, Shown, Begun, Held, chain-words}
+use Rattle.chains.specs.Chain.{chain-in}
 use Rattle.trial.specs.Trial.{Found, tried, Following, Followed}
-use Rattle.trial.proofs.Trials.{worth-long}
+use Rattle.worth.proofs.Looks.{worth-long}
 use Rattle.search.specs.declared.find.Look.{Look}
 use Rattle.search.specs.declared.find.MaybeLook.{MaybeLook}
 use Rattle.search.specs.declared.find.MaybeLook.the-variants.{Is, Not}
@@ -42,15 +42,15 @@ use Rattle.search.specs.Search.{Looking, Sees, Seeking, sought, Sought}
 use Rattle.search.proofs.Start.{rooms-of}
 use Rattle.search.proofs.Looked.{first-at, none-more}
 use Rattle.search.proofs.Anew.{sees-of}
-use Rattle.driver.specs.declared.round.Step.{Step}
-use Rattle.driver.specs.declared.round.Step.the-variants.{Goes, Short}
-use Rattle.driver.specs.declared.round.Line.{Line}
+use Rattle.oneround.specs.declared.round.Step.{Step}
+use Rattle.oneround.specs.declared.round.Step.the-variants.{Goes, Short}
+use Rattle.oneround.specs.declared.round.Line.{Line}
 use Rattle.driver.specs.declared.rounds.At.{At}
 use Rattle.driver.specs.Ended.{Did}
-use Rattle.driver.specs.Round.{Sure, Ready, Says, next, Stepped}
+use Rattle.oneround.specs.Round.{Sure, Ready, Says, next, Stepped}
 use Rattle.driver.specs.Rounds.{line-words, Put, small, Advancing, gone, halted, advanced, taken-up}
 use Rattle.driver.specs.Going.{sizes-of, Leads, Between, Next, Reached, Going, Same, to-come, Opening, Opened, Passing, Passed, Onward, GoneOn}
-use Rattle.driver.proofs.Step.{holds-is}
+use Rattle.oneround.proofs.Step.{holds-is}
 
 -- each slice is as long as it was
 pub record Sized (P Q : Picture) : Type 0 where

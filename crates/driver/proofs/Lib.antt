@@ -1,8 +1,3 @@
-pub mod Asked
-pub mod Counted
-pub mod Prepared
-pub mod Renewal
-pub mod Step
 pub mod Going
 pub mod Start
 pub mod Lines

@@ -6,9 +6,9 @@ use native.Mathlib.Omega.{arith}
 use lib.ListN.{length, take, set, length-set}
 use lib.Seq.{take-suc-set}
 use Rattle.search.specs.declared.find.MaybeLook.{MaybeLook}
-use Rattle.driver.specs.declared.round.Step.{Step}
-use Rattle.driver.specs.declared.round.Step.the-variants.{Goes, Short}
-use Rattle.driver.specs.declared.round.Line.{Line}
+use Rattle.oneround.specs.declared.round.Step.{Step}
+use Rattle.oneround.specs.declared.round.Step.the-variants.{Goes, Short}
+use Rattle.oneround.specs.declared.round.Line.{Line}
 use Rattle.driver.specs.declared.rounds.At.{At}
 use Rattle.driver.specs.Rounds.{Small, Put, small, Advancing, gone, halted, advanced, taken-up}
 

@@ -17,9 +17,9 @@ use Rattle.model.specs.Pass.{Outcome, used, ends-in, gated, sink, sink-all, mos
 use Rattle.laws.proofs.Accepted.{accepted, needed-records}
 use Rattle.laws.proofs.Sizes.{few-blocks, recs-length}
 use Rattle.laws.proofs.Rounds.{sink-gated, sink-through}
-use Rattle.picture.specs.Causes.{picture-of}
+use Rattle.checks.specs.Causes.{picture-of}
 use Rattle.picture.proofs.Chain.{whatever-replay, whatever-rest}
-use Rattle.trial.specs.declared.sizes.Sizes.{Sizes}
+use Rattle.chainwords.specs.declared.sizes.Sizes.{Sizes}
 use Rattle.driver.specs.declared.judge.Verdict.{Verdict}
 use Rattle.driver.specs.declared.judge.Verdict.the-variants.{Ends, Opens}
 use Rattle.search.specs.Search.{Beginning, Began}

@@ -14,10 +14,11 @@ use Rattle.model.specs.Analyse.{facts}
 use Rattle.model.specs.Move.{try-block}
 use Rattle.model.specs.Pass.{Outcome, used, first-plan, sink-all, sink, most-rounds}
 use Rattle.flow.specs.Live.{Live}
-use Rattle.trial.specs.declared.sizes.Sizes.{Sizes}
+use Rattle.chainwords.specs.declared.sizes.Sizes.{Sizes}
 use Rattle.trial.specs.declared.block.MaybeMove.{MaybeMove}
-use Rattle.trial.specs.Work.{width, Begun, chain-words}
-use Rattle.trial.specs.Trial.{Chosen, tried}
+use Rattle.chainwords.specs.Work.{width, Begun, chain-words}
+use Rattle.trial.specs.Trial.{tried}
+use Rattle.worth.specs.Worth.{Chosen}
 use Rattle.driver.specs.declared.rounds.At.{At}
 use Rattle.driver.specs.Ended.{Did, Work}
 

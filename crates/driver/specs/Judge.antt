@@ -6,7 +6,7 @@ use Prim.Native.Nat.{ℕ}
 use Rattle.model.specs.Picture.{Picture}
 use Rattle.model.specs.Refusal.{refusal}
 use Rattle.model.specs.Pass.{rounds, ends-in, gated, sink}
-use Rattle.picture.specs.Causes.{picture-of}
+use Rattle.checks.specs.Causes.{picture-of}
 use Rattle.driver.specs.declared.judge.Verdict.{Verdict}
 use Rattle.driver.specs.declared.judge.Verdict.the-variants.{Ends, Opens}
 

@@ -9,13 +9,13 @@ use lib.ListN.{length, take, replicate}
 use Rattle.model.specs.declared.Answer.{Answer}
 use Rattle.model.specs.declared.Answer.the-variants as answer
 use Rattle.model.specs.Pass.{most-rounds}
-use Rattle.trial.specs.declared.sizes.Sizes.{Sizes}
+use Rattle.chainwords.specs.declared.sizes.Sizes.{Sizes}
 use Rattle.search.specs.declared.find.Look.{Look}
 use Rattle.search.specs.declared.find.MaybeLook.{MaybeLook}
 use Rattle.search.specs.declared.find.MaybeLook.the-variants.{Is, Not}
-use Rattle.driver.specs.declared.round.Line.{Line}
-use Rattle.driver.specs.declared.round.Step.{Step}
-use Rattle.driver.specs.declared.round.Step.the-variants.{Goes, Short}
+use Rattle.oneround.specs.declared.round.Line.{Line}
+use Rattle.oneround.specs.declared.round.Step.{Step}
+use Rattle.oneround.specs.declared.round.Step.the-variants.{Goes, Short}
 use Rattle.driver.specs.declared.rounds.At.{At}
 
 -- ---- lines

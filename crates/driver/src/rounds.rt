@@ -1,13 +1,13 @@
 // Where the search stands (01, "A round", "At most 8 rounds"), and what a move or a chain that was found makes of that.
-use crate::round::Line;
-use crate::round::Step;
+use chains::pass::Sink;
+use chainwords::sizes::Sizes;
 use model::Answer;
 use model::Used;
-use plan::set::Sink;
+use oneround::round::Line;
+use oneround::round::Step;
 use search::find::Look;
 use search::find::MaybeLook;
 use search::find::nowhere;
-use trial::sizes::Sizes;
 ghost use mathlib.Core.Path.{_≡_};
 ghost use lib.ListN.{length};
 ghost use Rattle.driver.specs.Rounds.{Small, Put, first-at, Advancing, advanced, taken-up};

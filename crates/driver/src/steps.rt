@@ -1,21 +1,21 @@
 // From one chain to the next (01, "A round"): where the search opens, and how it goes on after a chain was tried.
 use crate::judge::Verdict;
 use crate::judge::judge;
-use crate::round::round;
 use crate::rounds::At;
 use crate::rounds::advance;
 use crate::rounds::at_first;
 use crate::rounds::take_up;
+use chainwords::sizes::Sizes;
 use model::Answer;
 use model::Used;
+use oneround::round::round;
 use search::begin::begin;
 use search::find::first_look;
 use search::find::seek;
 use trial::block::MaybeMove;
-use trial::sizes::Sizes;
 ghost use mathlib.Core.Path.{_≡_};
 ghost use Rattle.inst.specs.Table.{rows};
-ghost use Rattle.picture.specs.Causes.{picture-of};
+ghost use Rattle.checks.specs.Causes.{picture-of};
 ghost use Rattle.driver.specs.Going.{Opening, Opened, Passing, Passed, Onward, GoneOn, Started};
 
 // The first chain of a round, if one is to be tried at all: live-in anew, and the search from block 0 on.

@@ -12,9 +12,9 @@ use Rattle.laws.proofs.Accepted as laws
 use Rattle.laws.proofs.Admitted.{kind-low, writes-low, list-in, reads-low, succs-low, pair-fits}
 use Rattle.laws.proofs.Sizes.{few-blocks, opers-lent, recs-length, block-within}
 use Rattle.inst.specs.Record.{Known}
-use Rattle.flow.specs.Drawn.{drawn}
-use Rattle.flow.specs.Graph.{Tables, Blocks, Graph}
-use Rattle.flow.specs.Sets.{Code, Below}
+use Rattle.cfg.specs.Drawn.{drawn}
+use Rattle.cfg.specs.Graph.{Tables, Blocks, Graph}
+use Rattle.defuse.specs.Sets.{Code, Below}
 use Rattle.flow.proofs.Whole.{succs-whole}
 
 module _ (P : Picture) (ok : laws.Accepted P) where

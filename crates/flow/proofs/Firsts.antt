@@ -15,9 +15,10 @@ use Rattle.words.proofs.Members.{in-map, range-in}
 use Rattle.words.proofs.Rows.{in-set, in-unset, length-set-bit, length-unset-bit, row-eqb}
 use Rattle.model.specs.Picture.{Inst, inst, reads, writes, code}
 use Rattle.model.specs.Live.{read-first, written}
-use Rattle.flow.specs.Drawn.{drawn}
-use Rattle.flow.specs.Graph.{Blocks}
-use Rattle.flow.specs.Sets.{steps, put, wrote, before, run, Below}
+use Rattle.cfg.specs.Drawn.{drawn}
+use Rattle.cfg.specs.Graph.{Blocks}
+use Rattle.defuse.specs.Sets.{put, wrote, before, run, Below}
+use Rattle.words.specs.Steps.{steps}
 
 -- number q of row y
 abbrev pub at : ℕ → ℕ → ℕ → ℕ

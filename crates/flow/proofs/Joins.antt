@@ -17,7 +17,7 @@ use Rattle.words.specs.Bits.{digit, room}
 use Rattle.words.proofs.Digits.{digit-or, digit-and-not, le-or}
 use Rattle.words.proofs.Rows.{room-set}
 use Rattle.words.proofs.Parts.{row-fits, cell-inj, below-split}
-use Rattle.flow.specs.Sets.{Room}
+use Rattle.defuse.specs.Sets.{Room}
 use Rattle.flow.specs.Progress.{cell, raised, Among, Edges, Progress}
 
 -- ---- one word

@@ -18,7 +18,7 @@ use Rattle.words.proofs.Rows.{hit-in, row-word, row-place}
 use Rattle.model.specs.Picture.{Picture, code, succs}
 use Rattle.model.specs.Live.{read-first, written, live-in}
 use Rattle.laws.proofs.Liveness.{live-solves, live-least}
-use Rattle.flow.specs.Drawn.{drawn}
+use Rattle.cfg.specs.Drawn.{drawn}
 use Rattle.flow.specs.Progress.{cell, Among, Solved}
 use Rattle.flow.specs.Live.{Live}
 use Rattle.flow.proofs.Whole.{succs-ops}

@@ -1,11 +1,8 @@
 pub mod Whole
-pub mod Successors
-pub mod Runs
 pub mod Joins
 pub mod Solving
 pub mod Firsts
 pub mod Least
-pub mod Noted
 pub mod Outs
 pub mod Standing
 pub mod Renewed

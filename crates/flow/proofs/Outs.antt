@@ -19,13 +19,13 @@ use Rattle.words.proofs.Parts.{row-fits}
 use Rattle.words.proofs.Rows.{hit-in}
 use Rattle.model.specs.Picture.{succs}
 use Rattle.model.specs.Live.{live-in, live-out}
-use Rattle.flow.specs.Drawn.{drawn}
-use Rattle.flow.specs.Graph.{Graph}
-use Rattle.flow.specs.Sets.{Room}
+use Rattle.cfg.specs.Drawn.{drawn}
+use Rattle.cfg.specs.Graph.{Graph}
+use Rattle.defuse.specs.Sets.{Room}
 use Rattle.flow.specs.Progress.{cell}
 use Rattle.flow.specs.Live.{Live, LiveOut, gathered}
 use Rattle.flow.proofs.Whole.{succs-ops}
-use Rattle.flow.proofs.Successors.{next-block}
+use Rattle.cfg.proofs.Successors.{next-block}
 use Rattle.flow.proofs.Firsts.{at}
 use Rattle.flow.proofs.Least.{cell-is}
 

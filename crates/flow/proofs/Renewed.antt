@@ -14,9 +14,10 @@ use Rattle.words.proofs.Copying.{set-behind, getD-sets-before, getD-sets-in, ge
 use Rattle.words.proofs.Parts.{below-split}
 use Rattle.words.proofs.Rows.{in-clear}
 use Rattle.model.specs.Picture.{Picture, Inst, inst, reads, writes, code}
-use Rattle.flow.specs.Drawn.{drawn}
-use Rattle.flow.specs.Graph.{Blocks}
-use Rattle.flow.specs.Sets.{steps, put, wrote, before, run, Below}
+use Rattle.cfg.specs.Drawn.{drawn}
+use Rattle.cfg.specs.Graph.{Blocks}
+use Rattle.defuse.specs.Sets.{put, wrote, before, run, Below}
+use Rattle.words.specs.Steps.{steps}
 use Rattle.flow.specs.Live.{RowRoom, Rows, OnlyRows}
 use Rattle.flow.proofs.Firsts.{at, Small, code-small, length-run, run-own, run-kill}
 use Rattle.flow.proofs.Standing.{apart-rows, within-rows, first-fits, wrote-fits, row-as, rows-else}

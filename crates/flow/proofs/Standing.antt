@@ -13,8 +13,8 @@ use Rattle.words.proofs.Bools.{lt?, hit-inj}
 use Rattle.words.proofs.Copying.{getD-sets-in, getD-sets-after, drop-sets, slide-more}
 use Rattle.words.proofs.Parts.{row-fits, getD-part}
 use Rattle.model.specs.Picture.{Picture, nblocks, succs}
-use Rattle.flow.specs.Drawn.{drawn}
-use Rattle.flow.specs.Sets.{Room}
+use Rattle.cfg.specs.Drawn.{drawn}
+use Rattle.defuse.specs.Sets.{Room}
 use Rattle.flow.specs.Progress.{cell, Solved}
 use Rattle.flow.specs.Live.{Live, RowRoom, Rows, OnlyRows}
 use Rattle.flow.proofs.Firsts.{at}

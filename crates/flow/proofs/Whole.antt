@@ -9,16 +9,9 @@ use Rattle.words.proofs.Lists.{map-ext}
 use Rattle.words.proofs.Members.{any-on, filter-on}
 use Rattle.model.specs.Picture.{Picture, End, goes, parts, cases, stops, nblocks, code, ending, end-succs, succs, preds}
 use Rattle.model.specs.Live.{Node, node, live-at, live-in, live-out, read-first, written}
-use Rattle.flow.specs.Drawn.{drawn}
+use Rattle.cfg.specs.Drawn.{drawn}
 use Rattle.flow.specs.Live.{Live, Wrote, Rows}
-
--- the end of a block, seen from two pictures with the same tables
-pub end-same : (bounds bounds′ recs recs′ ops ops′ pairs targets : List ℕ) (e : End)
-    → end-succs (drawn bounds recs ops pairs targets) e ≡ end-succs (drawn bounds′ recs′ ops′ pairs targets) e
-end-same bounds bounds′ recs recs′ ops ops′ pairs targets (goes t) = refl
-end-same bounds bounds′ recs recs′ ops ops′ pairs targets (parts t f) = refl
-end-same bounds bounds′ recs recs′ ops ops′ pairs targets (cases t) = refl
-end-same bounds bounds′ recs recs′ ops ops′ pairs targets stops = refl
+use Rattle.cfg.proofs.Successors.{end-same}
 
 pub succs-ops : (bounds recs ops ops′ pairs targets : List ℕ) (b : ℕ)
     → succs (drawn bounds recs ops pairs targets) b ≡ succs (drawn bounds recs ops′ pairs targets) b

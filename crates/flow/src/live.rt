@@ -2,7 +2,7 @@
 // not written"; in the Rust `liveness`, `live_out`). The row of a block begins as what it reads first, and takes over what is
 // live into each successor and not written, in sweeps from the last block to the first and from the first to the last by
 // turns, so that a chain of blocks settles in one sweep whichever way its numbers go, until nothing changes.
-use crate::graph::succs;
+use cfg::graph::succs;
 use inst::record::wide;
 use words::bits::bit_in;
 ghost use mathlib.Core.Path.{_≡_};
@@ -17,9 +17,9 @@ ghost use Rattle.words.specs.Lists.{upto, any};
 ghost use Rattle.model.specs.Picture.{succs};
 ghost use Rattle.model.specs.Live.{live-out};
 ghost use Rattle.inst.specs.Table.{rows};
-ghost use Rattle.flow.specs.Drawn.{drawn};
-ghost use Rattle.flow.specs.Graph.{Graph};
-ghost use Rattle.flow.specs.Sets.{Room};
+ghost use Rattle.cfg.specs.Drawn.{drawn};
+ghost use Rattle.cfg.specs.Graph.{Graph};
+ghost use Rattle.defuse.specs.Sets.{Room};
 ghost use Rattle.flow.specs.Progress.{raised, Among, Edges, Progress, Solved};
 ghost use Rattle.flow.specs.Live.{RowRoom, Rows, Live, LiveOut, gathered};
 

@@ -1,6 +1,6 @@
 // The rows of what each block reads before it writes it and of what it writes (01, "A round"), w words a row: of n blocks,
 // block b's are rows 2 n + 1 + b and n + b. They stand between rounds, and are made anew for a block whose code changed.
-use crate::sets::block_sets;
+use defuse::sets::block_sets;
 use inst::record::wide;
 ghost use mathlib.Core.Path.{_≡_};
 ghost use mathlib.Core.List.{[]};
@@ -8,9 +8,9 @@ ghost use Prim.Native.Nat.{ℕ, _+_, _*_, _/_, _≤_, _<_};
 ghost use lib.ListN.{length, getD, replicate};
 ghost use lib.Seq.{sets};
 ghost use Rattle.inst.specs.Table.{rows};
-ghost use Rattle.flow.specs.Drawn.{drawn};
-ghost use Rattle.flow.specs.Graph.{Blocks};
-ghost use Rattle.flow.specs.Sets.{Code, Below};
+ghost use Rattle.cfg.specs.Drawn.{drawn};
+ghost use Rattle.cfg.specs.Graph.{Blocks};
+ghost use Rattle.defuse.specs.Sets.{Code, Below};
 ghost use Rattle.flow.specs.Live.{RowRoom, Rows, OnlyRows};
 
 // n words from `at` on cleared.

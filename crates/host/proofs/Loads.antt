@@ -10,7 +10,7 @@ use Rattle.words.specs.Bytes.{words-of}
 use Rattle.model.specs.declared.Answer.{Answer}
 use Rattle.model.specs.Picture.{Picture}
 use Rattle.model.specs.Pass.{sink}
-use Rattle.picture.specs.Causes.{picture-of}
+use Rattle.checks.specs.Causes.{picture-of}
 use Rattle.layout.specs.declared.Counts.{Counts}
 use Rattle.layout.specs.Layout.{readable, held, room, picture-in}
 use Rattle.layout.proofs.Reading.{Sizes, sizes, whole}

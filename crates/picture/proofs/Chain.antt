@@ -8,8 +8,8 @@ use Rattle.words.specs.Lists.{any}
 use Rattle.model.specs.Picture.{Picture, inst, nblocks}
 use Rattle.model.specs.Refusal.{gaps, bad-kind, bad-list, bad-branch, lowest, refusal}
 use Rattle.model.specs.Pass.{gated}
-use Rattle.picture.specs.Causes.{picture-of, code, too-many, unlike, too-short, bad-regs, long-cat, two-writes, bad-lists, bad-targets, bad-types}
-use Rattle.picture.proofs.Insts.{code-at, code-all}
+use Rattle.checks.specs.Causes.{picture-of, code, too-many, unlike, too-short, bad-regs, long-cat, two-writes, bad-lists, bad-targets, bad-types}
+use Rattle.checks.proofs.Insts.{code-at, code-all}
 use Rattle.picture.proofs.Writes.{one-at-most}
 
 -- ---- the causes from each number on

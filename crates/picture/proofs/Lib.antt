@@ -1,9 +1,2 @@
-pub mod Insts
-pub mod Twos
-pub mod Slots
-pub mod Given
-pub mod Looked
 pub mod Writes
-pub mod Freed
-pub mod Seen
 pub mod Chain

@@ -16,7 +16,7 @@ use Rattle.model.specs.Kinds.{Kind, Stmt, Role, row, kinds, at-form, writing, C
 use Rattle.model.specs.Picture.{Inst, absent, kind, form, is-kind, roles, slots, chosen, writes}
 use Rattle.model.specs.Refusal.{bad-kind, may-move}
 use Rattle.model.proofs.Table.{one-write}
-use Rattle.picture.specs.Causes.{two-writes}
+use Rattle.checks.specs.Causes.{two-writes}
 
 chosen-few : (f : Role → Bool) (os : List Role) (rs : List ℕ) → length (chosen f os rs) ≤ length (filter f os)
 chosen-few f [] rs = omega arith

@@ -1,3 +1,0 @@
-pub mod Causes
-pub mod Found
-pub mod Plain

@@ -11,7 +11,7 @@ ghost use Rattle.words.specs.Lists.{any};
 ghost use Rattle.model.specs.Picture.{inst};
 ghost use Rattle.model.specs.Pass.{gated};
 ghost use Rattle.inst.specs.Record.{Within};
-ghost use Rattle.picture.specs.Causes.{code, plain-cat, picture-of};
+ghost use Rattle.checks.specs.Causes.{code, plain-cat, picture-of};
 
 // The kind named here, and registers times blocks above which nothing is tried.
 const CAT: u32 = 39;

@@ -1,27 +1,22 @@
 // Acceptance of a picture (01, "The call"): the lowest number whose cause is present, and the three gates. Nothing is
-// changed.
+// changed. Crate `checks` has causes 4 to 9.
 pub mod sizes; // sizes.rt: causes 1, 2 and 10
 pub mod blocks; // blocks.rt: cause 3
-pub mod records; // records.rt: causes 4, 5 and 8, of a record
-pub mod lists; // lists.rt: causes 6 and 9
-pub mod branches; // branches.rt: cause 7
-pub mod plain; // plain.rt: records in which nothing is found
-pub mod look; // look.rt: what causes 4 to 8 find in the records, in one pass
 pub mod gates; // gates.rt: the three gates
 
 use crate::blocks::gaps;
-use crate::branches::bad_targets;
-use crate::lists::bad_lists;
-use crate::lists::bad_types;
-use crate::look::look;
 use crate::sizes::too_many;
 use crate::sizes::too_short;
 use crate::sizes::unlike;
+use checks::branches::bad_targets;
+use checks::lists::bad_lists;
+use checks::lists::bad_types;
+use checks::look::look;
 ghost use mathlib.Core.Path.{_≡_};
 ghost use mathlib.Core.List.{[]};
 ghost use Rattle.model.specs.Refusal.{refusal};
 ghost use Rattle.inst.specs.Table.{rows};
-ghost use Rattle.picture.specs.Causes.{picture-of};
+ghost use Rattle.checks.specs.Causes.{picture-of};
 
 // The lowest number whose cause is present in the picture, or 0, given the lengths of the two work slices and the records
 // lent. Cause 11 needs no test: it is absent wherever cause 4 is (proofs/Writes).

@@ -3,7 +3,7 @@
 use inst::record::wide;
 ghost use mathlib.Core.Path.{_≡_};
 ghost use Prim.Native.Nat.{_/_, _≤_};
-ghost use Rattle.picture.specs.Causes.{too-many, unlike, too-short};
+ghost use Rattle.checks.specs.Causes.{too-many, unlike, too-short};
 
 // 1: of the lengths of bounds, locs, types, operands, pairs and targets, and of the counts in use.
 pub fn too_many(

@@ -15,10 +15,10 @@ use Rattle.legalset.specs.Rules.{begins, pass-ok}
 use Rattle.legalset.proofs.Settling.{Settling, settling-start, settling-more, settled}
 use Rattle.plan.specs.declared.sweep.Tally.{Tally}
 use Rattle.plan.specs.declared.settle.Cycle.{Cycle}
-use Rattle.plan.specs.Passes.{Summed, Greatest}
+use Rattle.summary.specs.Passes.{Summed, Greatest}
 use Rattle.plan.specs.Sweep.{part, marks}
 use Rattle.plan.specs.Cycle.{Next}
-use Rattle.plan.proofs.Chosen.{chosen}
+use Rattle.legality.proofs.Chosen.{chosen}
 
 -- after the start: S are the marks to begin with; bits has the row of registers needed elsewhere
 pub record Choosing (recs ops regs w bits : List ℕ) (c : Cycle) (work ls : List ℕ) (fs : List Fact) : Type 0 where

@@ -1,20 +1,14 @@
 -- Sweeps in turn: each drops something, or is one more that does not. Assumes nothing.
-use mathlib.Core.Path.{_≡_, refl, sym, ap, _∙_}
+use mathlib.Core.Path.{_≡_, refl}
 use mathlib.Core.Bool.{Bool, true, false, not, _&&_}
 use mathlib.Core.List.{List}
-use Prim.Native.Nat.{ℕ, _+_, _-_, _*_, _<_}
+use Prim.Native.Nat.{ℕ, _+_, _*_, _<_}
 use native.Mathlib.Omega.{arith}
 use borrow.Author.Tests.{eqb-true, eqb-false}
 use lib.Dec.{eqb}
-use lib.ListN.{length, replicate, length-replicate}
 use Rattle.words.specs.Lists.{hit}
 use Rattle.words.proofs.Bools.{clash}
 use Rattle.legalset.specs.Marks.{members}
-
-pub cleared : (st : List ℕ) {st′ : List ℕ} → st′ ≡ replicate (length st) 0 → (length st′ ≡ length st) × (st′ ≡ replicate (length st′) 0)
-cleared st e = let l = ap length e ∙ length-replicate (length st) 0 in (l, e ∙ ap (λ (n : ℕ). replicate n 0) (sym l))
-
--- ---- each pass drops something or is one more that does not
 
 abbrev pub to-go : List ℕ → Bool → Bool → ℕ
 to-go marks quiet done = 3 * members marks + hit (not quiet) + hit (not done)

@@ -10,7 +10,7 @@ use Rattle.words.proofs.Bools.{clash}
 use Rattle.plan.specs.declared.sweep.Sweep.{Sweep}
 use Rattle.plan.specs.declared.sweep.Tally.{Tally}
 use Rattle.plan.specs.declared.settle.Cycle.{Cycle}
-use Rattle.plan.specs.Passes.{Around}
+use Rattle.summary.specs.Passes.{Around}
 use Rattle.plan.specs.Sweep.{part}
 use Rattle.plan.specs.Cycle.{sweep-of, Readied, Next}
 use Rattle.plan.proofs.Visiting.{part-is, part-around, sized}

@@ -26,7 +26,7 @@ use Rattle.inst.proofs.Rest.{reads-by-place}
 use Rattle.effects.specs.Origin.{org-at, class-at, wrote-at, from-at}
 use Rattle.chains.specs.declared.chain.Chain.{Chain}
 use Rattle.chains.specs.Chain.{blocks-of}
-use Rattle.analyse.specs.Flags.{Seen, flags-of}
+use Rattle.regfacts.specs.Flags.{Seen, flags-of}
 use Rattle.analyse.specs.State as A
 use Rattle.analyse.specs.State.{opt-at, pack, plain, Words, State}
 use Rattle.analyse.specs.Step as S
@@ -37,7 +37,7 @@ use Rattle.analyse.proofs.Accepted as accepted
 use Rattle.legalset.specs.Chain.{cell, place-at, writer, defs-of, view, Good, Safe, Brief, Told, Says, Heard}
 use Rattle.legalset.proofs.Lasting.{writer-is}
 use Rattle.legalset.proofs.Telling as telling
-use Rattle.plan.specs.Passes.{Ended}
+use Rattle.summary.specs.Passes.{Ended}
 
 -- ---- one record
 

@@ -19,10 +19,10 @@ use Rattle.legalset.specs.Marks.{Passed}
 use Rattle.legalset.specs.Rules.{begins, pass-ok}
 use Rattle.plan.specs.declared.sweep.Tally.{Tally}
 use Rattle.plan.specs.declared.settle.Cycle.{Cycle}
-use Rattle.plan.specs.Passes.{Near, Around, Ended, Summed, Greatest}
+use Rattle.summary.specs.Passes.{Near, Around, Ended, Summed, Greatest}
 use Rattle.plan.specs.Sweep.{part, marks, Sweepable, Swept}
 use Rattle.plan.specs.Cycle.{sweep-of, Readied, Next, Choosable, Chose}
-use Rattle.plan.proofs.Marking.{members-low, past-marks}
+use Rattle.legality.proofs.Marking.{members-low, past-marks}
 use Rattle.plan.proofs.Cycling.{to-go, to-go-less}
 use Rattle.plan.proofs.Choosing.{Choosing, choosing-first, choosing-more, choosing-end}
 use Rattle.plan.proofs.Sweeping.{swept-cells, swept-long}

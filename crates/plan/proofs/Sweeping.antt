@@ -20,9 +20,9 @@ use Rattle.analyse.proofs.Cells.{told, cells-marked}
 use Rattle.legalset.specs.Chain.{cell, flag}
 use Rattle.plan.specs.declared.sweep.Sweep.{Sweep}
 use Rattle.plan.specs.declared.sweep.Tally.{Tally}
-use Rattle.plan.specs.Passes.{over, stamp, fact-word, Stamped, Near, Small, Shows}
+use Rattle.summary.specs.Passes.{over, stamp, fact-word, Stamped, Near, Small, Shows}
 use Rattle.plan.specs.Sweep.{part, place, Visitable, Sweepable, Swept, none, more}
-use Rattle.plan.proofs.Wording.{written, readable, small}
+use Rattle.summary.proofs.Wording.{written, readable, small}
 
 -- ---- the numbers of a fact
 

@@ -25,13 +25,13 @@ use Rattle.legalset.specs.Rules.{backward-ok, forward-ok, result-ok, begins, pa
 use Rattle.legalset.proofs.Settling.{ahead-passed, back-passed}
 use Rattle.plan.specs.declared.sweep.Sweep.{Sweep}
 use Rattle.plan.specs.declared.sweep.Tally.{Tally}
-use Rattle.plan.specs.Passes.{writer-word, begin-test, Summed, Ended, Shows, Near, Around}
+use Rattle.summary.specs.Passes.{writer-word, begin-test, Summed, Ended, Shows, Near, Around}
 use Rattle.plan.specs.Sweep.{part, place, Visit, Sweepable, Swept, none, more, marks}
-use Rattle.plan.proofs.Backing.{Backing, GoneBack, backing-none, backing-more, backing-end, gone-back}
-use Rattle.plan.proofs.Forwarding.{Going, GoneOn, going-none, going-more, going-end, gone-on, now-in}
-use Rattle.plan.proofs.Starting.{begins-in}
-use Rattle.plan.proofs.Summing.{safe-len}
-use Rattle.plan.proofs.Marking.{past-marks}
+use Rattle.summary.proofs.Backing.{Backing, GoneBack, backing-none, backing-more, backing-end, gone-back}
+use Rattle.summary.proofs.Forwarding.{Going, GoneOn, going-none, going-more, going-end, gone-on, now-in}
+use Rattle.legality.proofs.Starting.{begins-in}
+use Rattle.summary.proofs.Summing.{safe-len}
+use Rattle.legality.proofs.Marking.{past-marks}
 use Rattle.plan.proofs.Sweeping.{shown, swept-cells, swept-long}
 use Rattle.plan.proofs.Visiting.{place-on, place-back, part-len}
 

@@ -15,7 +15,7 @@ use Rattle.inst.specs.Table.{rows}
 use Rattle.facts.specs.declared.Fact.{Fact}
 use Rattle.plan.specs.declared.sweep.Sweep.{Sweep}
 use Rattle.plan.specs.declared.sweep.Tally.{Tally}
-use Rattle.plan.specs.Passes.{begin-test, Backed, Forwarded, Around, Near, Written, Readable, Small}
+use Rattle.summary.specs.Passes.{begin-test, Backed, Forwarded, Around, Near, Written, Readable, Small}
 use Rattle.plan.specs.Sweep.{part, place, Visitable, Visit}
 
 pub place-on : (g : Sweep) (i : ℕ) → g .ahead ≡ true → i ≡ place g i

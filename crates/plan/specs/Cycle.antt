@@ -11,7 +11,7 @@ use Rattle.legalset.specs.Chain.{Safe, Brief}
 use Rattle.plan.specs.declared.sweep.Sweep.{Sweep}
 use Rattle.plan.specs.declared.sweep.Tally.{Tally}
 use Rattle.plan.specs.declared.settle.Cycle.{Cycle}
-use Rattle.plan.specs.Passes.{Around, Ended, Greatest}
+use Rattle.summary.specs.Passes.{Around, Ended, Greatest}
 use Rattle.plan.specs.Sweep.{part, marks}
 
 -- which sweep comes next; the last suspension and barrier as the notes ls have them

@@ -1,4 +1,2 @@
-pub mod Passes
 pub mod Sweep
 pub mod Cycle
-pub mod Uses

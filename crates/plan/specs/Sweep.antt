@@ -13,7 +13,7 @@ use Rattle.analyse.specs.Cells.{cells, marks-of}
 use Rattle.legalset.specs.Chain.{Safe, Brief}
 use Rattle.plan.specs.declared.sweep.Sweep.{Sweep}
 use Rattle.plan.specs.declared.sweep.Tally.{Tally}
-use Rattle.plan.specs.Passes.{begin-test, Near, Written, Readable, Small, Backed, Forwarded, Around}
+use Rattle.summary.specs.Passes.{begin-test, Near, Written, Readable, Small, Backed, Forwarded, Around}
 
 -- the words of the R registers, from word s of the work on
 abbrev pub part : ℕ → ℕ → List ℕ → List ℕ

@@ -1,34 +1,10 @@
-// The greatest legal set of a chain for a target (01, "The legal set"; 000's `plan`), and the pass with its thresholds.
+// The greatest legal set of a chain for a target (01, "The legal set"; 000's `plan`).
 use crate::settle::Cycle;
 use crate::settle::settle;
 use facts::Fact;
 ghost use mathlib.Core.Path.{_≡_};
 ghost use Rattle.inst.specs.Table.{rows};
-ghost use Rattle.model.specs.Move.{minimum};
 ghost use Rattle.plan.specs.Cycle.{Choosable, Chose};
-
-// The pass (01: "The thresholds 8, 3, 800 and 8 rounds belong to the pass itself").
-pub struct Sink;
-
-impl Sink {
-    pub const MIN_SUNK: u32 = 8;
-
-    pub const MIN_REPLAY: u32 = 3;
-
-    pub const MAX_SEQ: u32 = 800;
-
-    pub const ROUNDS: u32 = 8;
-
-    // The fewest members that a move has.
-    pub fn minimum(replay: bool) -> u32
-        ensures { λ r. ⌜ r ≡ minimum replay ⌝ }
-    {
-        if replay {
-            return Sink::MIN_REPLAY;
-        }
-        Sink::MIN_SUNK
-    }
-}
 
 // The facts' marks become the greatest legal set, unless it has fewer members than `least`. Says how many are marked. The row of registers
 // needed elsewhere begins at word `o` of `work`; its words from `s` on, one a register, are written. The notes of the sweeps are its own.

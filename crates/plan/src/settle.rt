@@ -9,7 +9,7 @@ ghost use mathlib.Core.Bool.{true, false, cond};
 ghost use Prim.Native.Nat.{_+_, _-_, _≤_};
 ghost use lib.ListN.{length, replicate};
 ghost use Rattle.inst.specs.Table.{rows};
-ghost use Rattle.plan.specs.Passes.{Around};
+ghost use Rattle.summary.specs.Passes.{Around};
 ghost use Rattle.plan.specs.Sweep.{part};
 ghost use Rattle.plan.specs.Cycle.{sweep-of, Readied, Next, Choosable, Chose};
 

@@ -1,11 +1,11 @@
 // A sweep over a chain's facts (01, "The legal set"): the start, which marks the positions to begin with, that backward or that
 // forward, which drop members. Each fact is looked at once, by value, and its mark is written.
-use crate::backward::back;
-use crate::forward::forth;
-use crate::start::begins_in;
 use facts::Fact;
 use facts::fact_at;
 use facts::set_member;
+use legality::backward::back;
+use legality::forward::forth;
+use legality::start::begins_in;
 ghost use mathlib.Core.Path.{_≡_};
 ghost use mathlib.Core.Bool.{_&&_};
 ghost use Prim.Native.Nat.{_+_, _-_, _<_, _≤_};
@@ -13,7 +13,7 @@ ghost use lib.Dec.{ltb};
 ghost use lib.ListN.{length};
 ghost use Rattle.words.specs.Lists.{hit};
 ghost use Rattle.inst.specs.Table.{rows};
-ghost use Rattle.plan.specs.Passes.{begin-test, Backed, Forwarded, Around, Near, Written, Readable, Small};
+ghost use Rattle.summary.specs.Passes.{begin-test, Backed, Forwarded, Around, Near, Written, Readable, Small};
 ghost use Rattle.plan.specs.Sweep.{part, place, Visitable, Visit, Sweepable, Swept};
 
 // Which sweep it is: `first` the start, else `ahead` that forward. The row of registers needed elsewhere begins at word `o` of the work,

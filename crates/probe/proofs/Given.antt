@@ -6,9 +6,9 @@ use native.Mathlib.Omega.{arith}
 use Rattle.model.specs.Picture.{Picture, nblocks}
 use Rattle.model.specs.Refusal.{refusal}
 use Rattle.laws.proofs.Accepted.{work-room}
-use Rattle.flow.specs.Drawn.{drawn}
+use Rattle.cfg.specs.Drawn.{drawn}
 use Rattle.flow.specs.Live.{Live}
-use Rattle.flow.specs.Preds.{Told, Preds}
+use Rattle.cfg.specs.Preds.{Told, Preds}
 use Rattle.flow.proofs.Whole.{preds-whole, live-rows-whole}
 
 module _ (P : Picture) where

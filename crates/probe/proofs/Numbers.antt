@@ -12,7 +12,7 @@ use Rattle.model.specs.Refusal.{lowest, causes, refusal}
 use Rattle.model.specs.Analyse.{Facts, facts}
 use Rattle.model.specs.Move.{Plan, apply}
 use Rattle.model.specs.Pass.{Outcome, used, number, ends-in, sink-all, most-rounds, gated, sink}
-use Rattle.picture.specs.Causes.{picture-of}
+use Rattle.checks.specs.Causes.{picture-of}
 use Rattle.sink.specs.Sink.{outcome}
 use Rattle.laws.proofs.Rounds.{Next, no-move, no-room, goes-on, next, sink-done, sink-short, sink-more}
 

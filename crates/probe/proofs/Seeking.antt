@@ -6,11 +6,12 @@ use lib.ListN.{length}
 use Rattle.model.specs.Picture.{Picture, nblocks}
 use Rattle.model.specs.Refusal.{records, refusal}
 use Rattle.model.specs.Analyse.{facts}
-use Rattle.trial.specs.declared.sizes.Sizes.{Sizes}
+use Rattle.chainwords.specs.declared.sizes.Sizes.{Sizes}
 use Rattle.trial.specs.declared.block.MaybeMove.{MaybeMove}
 use Rattle.trial.specs.declared.block.MaybeMove.the-variants as tries
-use Rattle.trial.specs.Work.{width, Shown, Begun, Held, chain-words}
-use Rattle.trial.specs.Trial.{tried, Chosen, Following, Followed}
+use Rattle.chainwords.specs.Work.{width, Shown, Begun, Held, chain-words}
+use Rattle.trial.specs.Trial.{tried, Following, Followed}
+use Rattle.worth.specs.Worth.{Chosen}
 use Rattle.search.specs.declared.find.Look.{Look}
 use Rattle.search.specs.declared.find.MaybeLook.{MaybeLook}
 use Rattle.search.specs.declared.find.MaybeLook.the-variants.{Is, Not}

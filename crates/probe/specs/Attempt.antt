@@ -13,10 +13,10 @@ use Rattle.model.specs.Analyse.{facts}
 use Rattle.model.specs.Move.{Plan, try-block}
 use Rattle.apply.specs.Apply.{Stands}
 use Rattle.facts.specs.declared.Fact.{Fact}
-use Rattle.trial.specs.declared.sizes.Sizes.{Sizes}
+use Rattle.chainwords.specs.declared.sizes.Sizes.{Sizes}
 use Rattle.trial.specs.declared.block.MaybeMove.{MaybeMove}
 use Rattle.trial.specs.declared.block.MaybeMove.the-variants as tries
-use Rattle.trial.specs.Work.{chain-words}
+use Rattle.chainwords.specs.Work.{chain-words}
 use Rattle.trial.specs.Trial.{tried, Following, Followed}
 use Rattle.search.specs.declared.find.Look.{Look}
 use Rattle.search.specs.declared.find.MaybeLook.{MaybeLook}

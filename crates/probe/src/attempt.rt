@@ -1,5 +1,7 @@
 // The search from one block of a picture as lent (01, "A round"), with what it leaves: the facts along the chain in the lent list, and of
 // a move the chain's words.
+use chainwords::sizes::Sizes;
+use chainwords::sizes::width;
 use facts::Fact;
 use flow::live::live_in;
 use inst::index::BlockId;
@@ -14,15 +16,13 @@ use search::find::look_from;
 use search::find::nowhere;
 use trial::block::MaybeMove;
 use trial::block::try_chain;
-use trial::sizes::Sizes;
-use trial::sizes::width;
 ghost use mathlib.Core.Path.{_≡_};
 ghost use mathlib.Core.Bool.{true};
 ghost use Prim.Native.Nat.{_<_};
 ghost use lib.ListN.{length};
 ghost use Rattle.model.specs.Picture.{nblocks};
 ghost use Rattle.model.specs.Refusal.{records, refusal};
-ghost use Rattle.picture.specs.Causes.{picture-of};
+ghost use Rattle.checks.specs.Causes.{picture-of};
 ghost use Rattle.inst.specs.Table.{rows};
 ghost use Rattle.probe.specs.Heads.{with-four};
 ghost use Rattle.probe.specs.Attempt.{move-number, with-move, attempt, with-attempt, sizes-of, Seen, Taken, SetOut, Left, Listed};

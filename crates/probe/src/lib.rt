@@ -3,7 +3,7 @@
 pub mod whole; // whole.rt: the whole call
 pub mod attempt; // attempt.rt: the search from one block
 
-use flow::graph::find_preds;
+use cfg::graph::find_preds;
 use flow::live::live_in;
 use flow::rows::all_rows;
 use inst::table::table;
@@ -13,9 +13,9 @@ ghost use mathlib.Core.List.{[]};
 ghost use Prim.Native.Nat.{_+_, _/_};
 ghost use lib.ListN.{length};
 ghost use Rattle.model.specs.Refusal.{refusal};
-ghost use Rattle.picture.specs.Causes.{picture-of};
+ghost use Rattle.checks.specs.Causes.{picture-of};
 ghost use Rattle.flow.specs.Live.{Live};
-ghost use Rattle.flow.specs.Preds.{Preds};
+ghost use Rattle.cfg.specs.Preds.{Preds};
 
 // The lowest number whose cause is present, or 0: `picture::refusal`, the table of roles made for this one call.
 #[no_mangle]

@@ -10,13 +10,13 @@ use Rattle.model.specs.Refusal.{records}
 use Rattle.model.specs.Analyse.{Facts}
 use Rattle.laws.proofs.Accepted.{Accepted, accepted}
 use Rattle.laws.proofs.Sizes as S
-use Rattle.flow.specs.Drawn.{drawn}
-use Rattle.flow.specs.Graph.{Graph}
+use Rattle.cfg.specs.Drawn.{drawn}
+use Rattle.cfg.specs.Graph.{Graph}
 use Rattle.flow.specs.Live.{RowRoom, Rows, Live}
 use Rattle.flow.proofs.Whole.{live-rows-whole}
-use Rattle.trial.specs.declared.sizes.Sizes.{Sizes}
-use Rattle.trial.specs.Work.{width, Shown, Begun, Held}
-use Rattle.trial.proofs.Standing.{begun-kept, firm-back, rows-for}
+use Rattle.chainwords.specs.declared.sizes.Sizes.{Sizes}
+use Rattle.chainwords.specs.Work.{width, Shown, Begun, Held}
+use Rattle.chainwords.proofs.Standing.{begun-kept, firm-back, rows-for}
 use Rattle.search.specs.declared.find.MaybeLook.{MaybeLook}
 use Rattle.search.specs.Search.{Looking, Sees, Seeking, Sought, Opened}
 use Rattle.search.proofs.Start.{graph-at, rows-asked}

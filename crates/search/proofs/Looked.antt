@@ -29,12 +29,12 @@ use Rattle.chains.specs.Chain.{ended, chain-of, sound-of, Sound, Blocks}
 use Rattle.chains.specs.Places.{Pairs, end-past}
 use Rattle.analyse.proofs.Accepted.{pairs-given}
 use Rattle.worth.specs.Worth.{Worth}
-use Rattle.trial.specs.declared.sizes.Sizes.{Sizes}
-use Rattle.trial.specs.Work.{Lists, Shown}
-use Rattle.trial.specs.Along.{chain-in}
-use Rattle.trial.specs.Trial.{Chosen}
-use Rattle.trial.proofs.Rooms.{Room, room, preds-lent, preds-room}
-use Rattle.trial.proofs.Trials.{worth-long}
+use Rattle.chainwords.specs.declared.sizes.Sizes.{Sizes}
+use Rattle.chainwords.specs.Work.{Lists, Shown}
+use Rattle.chains.specs.Chain.{chain-in}
+use Rattle.worth.specs.Worth.{Chosen}
+use Rattle.chainwords.proofs.Rooms.{Room, room, preds-lent, preds-room}
+use Rattle.worth.proofs.Looks.{worth-long}
 use Rattle.search.specs.declared.find.Look.{Look}
 use Rattle.search.specs.declared.find.MaybeLook.{MaybeLook}
 use Rattle.search.specs.declared.find.MaybeLook.the-variants.{Is, Not}

@@ -17,21 +17,21 @@ use Rattle.model.specs.Refusal.{records, refusal}
 use Rattle.model.specs.Analyse.{facts}
 use Rattle.laws.proofs.Accepted.{Accepted, accepted, work-room}
 use Rattle.laws.proofs.Sizes as S
-use Rattle.flow.specs.Drawn.{drawn}
-use Rattle.flow.specs.Graph.{Blocks, Graph}
-use Rattle.flow.specs.Sets.{Code, Below}
+use Rattle.cfg.specs.Drawn.{drawn}
+use Rattle.cfg.specs.Graph.{Blocks, Graph}
+use Rattle.defuse.specs.Sets.{Code, Below}
 use Rattle.flow.specs.Live.{RowRoom, Rows}
-use Rattle.flow.specs.Preds as F
-use Rattle.flow.specs.Preds.{many, first}
+use Rattle.cfg.specs.Preds as F
+use Rattle.cfg.specs.Preds.{many, first}
 use Rattle.flow.proofs.Accepted.{blocks-given, graph-given, code-given, below-given}
 use Rattle.flow.proofs.Standing.{rows-same}
 use Rattle.flow.proofs.Whole.{preds-whole}
 use Rattle.chains.specs.Chain as C
-use Rattle.analyse.specs.Written.{Fits}
-use Rattle.analyse.specs.Flags.{Found, Seen}
+use Rattle.regfacts.specs.Written.{Fits}
+use Rattle.regfacts.specs.Flags.{Found, Seen}
 use Rattle.analyse.proofs.Accepted.{fits-given, seen-given}
-use Rattle.trial.specs.Work.{width, at-regs}
-use Rattle.trial.proofs.Standing.{front-same, SameRows, same-rows, firsts-before, rows-room, rows-of}
+use Rattle.chainwords.specs.Work.{width, at-regs}
+use Rattle.chainwords.proofs.Standing.{front-same, SameRows, same-rows, firsts-before, rows-room, rows-of}
 use Rattle.search.specs.Search.{Beginning, Began}
 
 -- a part that came back as ys

@@ -12,9 +12,9 @@ use Rattle.model.specs.Analyse.{Facts, facts}
 use Rattle.model.specs.Move.{try-block}
 use Rattle.model.specs.Pass.{first-plan}
 use Rattle.chains.specs.Chain.{Preds}
-use Rattle.trial.specs.declared.sizes.Sizes.{Sizes}
-use Rattle.trial.specs.Work.{Shown, Begun, Held, pred-words}
-use Rattle.trial.specs.Trial.{Chosen}
+use Rattle.chainwords.specs.declared.sizes.Sizes.{Sizes}
+use Rattle.chainwords.specs.Work.{Shown, Begun, Held, pred-words}
+use Rattle.worth.specs.Worth.{Chosen}
 use Rattle.search.specs.declared.find.MaybeLook.{MaybeLook}
 use Rattle.search.specs.declared.find.MaybeLook.the-variants.{Is, Not}
 

@@ -1,11 +1,11 @@
 // Before the first round (01, "A round"): facts on registers, of all that are lent, and the predecessors of each block. Both stand
 // for the whole call: a new register has no facts, and a round changes no block's successors. The rows of what each block reads
 // first and writes stand until a round changes its code.
-use analyse::flags::find_facts;
-use flow::graph::find_preds;
+use cfg::graph::find_preds;
+use chainwords::sizes::width;
 use flow::rows::all_rows;
 use inst::record::wide;
-use trial::sizes::width;
+use regfacts::flags::find_facts;
 ghost use mathlib.Core.Path.{_≡_};
 ghost use Rattle.inst.specs.Table.{rows};
 ghost use Rattle.search.specs.Search.{Beginning, Began};

@@ -3,13 +3,13 @@
 use chains::chain::Chain;
 use chains::chain::MaybeChain;
 use chains::chain::find_chain;
+use chains::pass::Sink;
+use chainwords::sizes::Sizes;
+use chainwords::sizes::width;
 use flow::live::live_in;
 use inst::index::BlockId;
 use inst::index::MaybeBlock;
 use inst::record::wide;
-use plan::set::Sink;
-use trial::sizes::Sizes;
-use trial::sizes::width;
 use worth::look::worth_a_look;
 ghost use mathlib.Core.Path.{_≡_};
 ghost use Prim.Native.Nat.{_≤_, _<_};

@@ -17,7 +17,7 @@ use Rattle.model.specs.Pass.{Outcome, used, rounds, ends-in, gated, sink, sink-
 use Rattle.laws.proofs.Accepted.{work-room}
 use Rattle.laws.proofs.Rounds.{Next as NextRound, no-move, no-room, goes-on, sink-done, sink-short, sink-more, sink-gated, sink-through}
 use Rattle.laws.proofs.Rounds as Rounds
-use Rattle.picture.specs.Causes.{picture-of}
+use Rattle.checks.specs.Causes.{picture-of}
 use Rattle.kept.specs.Walk as Walk
 use Rattle.kept.proofs.Answer.{left-after}
 use Rattle.facts.specs.declared.Fact.{Fact}
@@ -27,8 +27,8 @@ use Rattle.driver.specs.declared.rounds.At.{At}
 use Rattle.sink.specs.Sink.{outcome, cause, Lent, Coming, Finished, registers, operands}
 use Rattle.driver.specs.Ended.{Did, Work}
 use Rattle.driver.specs.Going.{Next, Going, GoneOn, Started}
-use Rattle.driver.specs.Kept.{Kept}
-use Rattle.driver.proofs.Step.{holds-is, kept-of}
+use Rattle.oneround.specs.Kept.{Kept}
+use Rattle.oneround.proofs.Step.{holds-is, kept-of}
 use Rattle.driver.proofs.Going.{Sized, next-still, was-tried}
 
 -- ---- the answer's counts are those of the picture left, and what a round does not touch is as it was

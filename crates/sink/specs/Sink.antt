@@ -10,7 +10,7 @@ use Rattle.model.specs.Picture.{Picture}
 use Rattle.model.specs.Refusal.{refusal}
 use Rattle.model.specs.Pass as Pass
 use Rattle.model.specs.Pass.{Outcome, sink}
-use Rattle.picture.specs.Causes.{picture-of}
+use Rattle.checks.specs.Causes.{picture-of}
 use Rattle.driver.specs.declared.rounds.At.{At}
 use Rattle.driver.specs.Ended.{Did, Work}
 use Rattle.driver.specs.Going.{Going}

@@ -14,10 +14,10 @@ ghost use mathlib.Core.Path.{_≡_};
 ghost use lib.ListN.{length};
 ghost use Rattle.inst.specs.Table.{rows};
 ghost use Rattle.model.specs.Pass.{rounds};
-ghost use Rattle.picture.specs.Causes.{picture-of};
+ghost use Rattle.checks.specs.Causes.{picture-of};
 ghost use Rattle.sink.specs.Sink.{outcome, cause, Lent, Coming, Finished, registers, operands};
 ghost use Rattle.driver.specs.Ended.{Did, Work};
-ghost use Rattle.driver.specs.Kept.{Kept};
+ghost use Rattle.oneround.specs.Kept.{Kept};
 
 // Chain after chain is tried, and each move made, until the search is at its end.
 fn run(

@@ -18,20 +18,20 @@ use Rattle.model.specs.Refusal.{records}
 use Rattle.model.specs.Analyse.{Facts}
 use Rattle.model.specs.Move.{needed, needed-of}
 use Rattle.laws.proofs.Accepted.{accepted}
-use Rattle.flow.specs.Graph.{Graph}
+use Rattle.cfg.specs.Graph.{Graph}
 use Rattle.flow.specs.Live.{Live, Wrote}
 use Rattle.flow.proofs.Accepted.{graph-given}
 use Rattle.chains.specs.declared.chain.Chain.{Chain}
 use Rattle.chains.specs.Chain.{blocks-of, last-of, Preds}
-use Rattle.plan.specs.Passes.{Row}
+use Rattle.summary.specs.Passes.{Row}
 use Rattle.plan.specs.declared.settle.Cycle.{Cycle}
 use Rattle.worth.specs.Needed.{Shows, Needed}
-use Rattle.trial.specs.declared.sizes.Sizes.{Sizes}
+use Rattle.chainwords.specs.declared.sizes.Sizes.{Sizes}
 use Rattle.trial.specs.declared.target.Sunk.{Sunk}
-use Rattle.trial.specs.Work.{width, at-needed, at-regs, Held, Lists, Tabled}
+use Rattle.chainwords.specs.Work.{width, at-needed, at-regs, Held, Lists, Tabled}
 use Rattle.trial.specs.Target.{from-start, row-at, stamps-at, taken, Aiming, Aimed}
-use Rattle.trial.proofs.Standing.{front-same, back-same, wrote-held}
-use Rattle.trial.proofs.Rooms.{room-of, row-before, Same, held-same, preds-lent}
+use Rattle.chainwords.proofs.Standing.{front-same, back-same, wrote-held}
+use Rattle.chainwords.proofs.Rooms.{room-of, row-before, Same, held-same, preds-lent}
 
 -- ---- the graph
 

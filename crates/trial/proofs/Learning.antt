@@ -14,7 +14,7 @@ use Rattle.laws.proofs.Sizes.{few-insts, regs-lent}
 use Rattle.inst.specs.Table.{rows}
 use Rattle.chains.specs.declared.chain.Chain.{Chain}
 use Rattle.chains.specs.Chain.{blocks-of}
-use Rattle.analyse.specs.Flags.{Seen}
+use Rattle.regfacts.specs.Flags.{Seen}
 use Rattle.analyse.specs.State as A
 use Rattle.analyse.specs.State.{plain}
 use Rattle.analyse.specs.Step.{Ready, Analysed}
@@ -23,14 +23,15 @@ use Rattle.facts.specs.declared.Fact as F
 use Rattle.analyse.proofs.Accepted.{good-given, pairs-given, ends-given}
 use Rattle.legalset.specs.Chain.{cell, Told}
 use Rattle.plan.proofs.Heard as heard
-use Rattle.trial.specs.declared.sizes.Sizes.{Sizes}
-use Rattle.trial.specs.Work.{width, at-regs, reg-words, copied-words, Lists, Held}
-use Rattle.trial.specs.Puts.{Copying, Copied}
-use Rattle.trial.specs.Along.{chain-in, Along, Learning, Learnt}
-use Rattle.trial.proofs.Standing.{drop-more}
-use Rattle.trial.proofs.Kept.{part-put, ok, at-is, held-kept}
-use Rattle.trial.proofs.Rooms.{Room, room}
-use Rattle.trial.proofs.Using.{places-same}
+use Rattle.chainwords.specs.declared.sizes.Sizes.{Sizes}
+use Rattle.chainwords.specs.Work.{width, at-regs, reg-words, copied-words, Lists, Held}
+use Rattle.chainwords.specs.Puts.{Copying, Copied}
+use Rattle.chainwords.specs.Along.{Along, Learning, Learnt}
+use Rattle.chains.specs.Chain.{chain-in}
+use Rattle.chainwords.proofs.Standing.{drop-more}
+use Rattle.chainwords.proofs.Kept.{part-put, ok, at-is, held-kept}
+use Rattle.chainwords.proofs.Rooms.{Room, room}
+use Rattle.chainwords.proofs.Using.{places-same}
 
 cell-is : (w : List ℕ) (p j : ℕ) → cell w p j ≡ A.cell w p j
 unfolding cell A.cell

@@ -1,10 +1,3 @@
-pub mod Standing
-pub mod Kept
-pub mod Rooms
-pub mod Copying
-pub mod Telling
-pub mod Putting
-pub mod Using
 pub mod Learning
 pub mod Aiming
 pub mod Wording

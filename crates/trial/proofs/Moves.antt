@@ -17,12 +17,13 @@ use Rattle.laws.proofs.Planned as laws
 use Rattle.chains.specs.declared.chain.Chain.{Chain}
 use Rattle.chains.specs.Chain.{blocks-of}
 use Rattle.legalset.specs.Chain.{cell}
-use Rattle.trial.specs.declared.sizes.Sizes.{Sizes}
+use Rattle.chainwords.specs.declared.sizes.Sizes.{Sizes}
 use Rattle.trial.specs.declared.block.Move.{Move}
 use Rattle.trial.specs.declared.block.MaybeMove.{MaybeMove}
 use Rattle.trial.specs.declared.block.MaybeMove.the-variants.{Is, Not}
-use Rattle.trial.specs.Work.{chain-words, Lists, Tabled, Held}
-use Rattle.trial.specs.Along.{chain-in, Along, FromX, Marked}
+use Rattle.chainwords.specs.Work.{chain-words, Lists, Tabled, Held}
+use Rattle.chainwords.specs.Along.{Along, FromX, Marked}
+use Rattle.chains.specs.Chain.{chain-in}
 use Rattle.trial.specs.Target.{PlanTried}
 use Rattle.trial.specs.Trial.{else-least, found}
 use Rattle.trial.proofs.Planned.{along-behind, lists-of, some-or}

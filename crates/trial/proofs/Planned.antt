@@ -28,20 +28,21 @@ use Rattle.chains.specs.Chain.{blocks-of}
 use Rattle.legalset.specs.Chain.{cell, Safe, Told}
 use Rattle.legalset.specs.Marks.{in-set}
 use Rattle.plan.specs.declared.settle.Cycle.{Cycle}
-use Rattle.plan.specs.Passes.{Ended, Row, Around, Greatest}
+use Rattle.summary.specs.Passes.{Ended, Row, Around, Greatest}
 use Rattle.plan.specs.Sweep.{marks}
 use Rattle.plan.specs.Cycle.{Choosable, Chose}
-use Rattle.trial.specs.declared.sizes.Sizes.{Sizes}
+use Rattle.chainwords.specs.declared.sizes.Sizes.{Sizes}
 use Rattle.trial.specs.declared.target.Aim.{Aim}
 use Rattle.trial.specs.declared.target.Sunk.{Sunk}
-use Rattle.trial.specs.Work.{width, at-regs, at-stamps, chain-words, copied-words, Held, Lists, Tabled}
-use Rattle.trial.specs.Puts as U
-use Rattle.trial.specs.Along.{chain-in, Along, Marked, FromX, Numbered, Using, Lasts, Used}
+use Rattle.chainwords.specs.Work.{width, at-regs, at-stamps, chain-words, copied-words, Held, Lists, Tabled}
+use Rattle.chainwords.specs.Puts as U
+use Rattle.chainwords.specs.Along.{Along, Marked, FromX, Numbered, Using, Lasts, Used}
+use Rattle.chains.specs.Chain.{chain-in}
 use Rattle.trial.specs.Target.{from-start, row-at, stamps-at, taken, Aiming, Aimed, Trying, PlanTried}
-use Rattle.trial.proofs.Standing.{front-same, drop-more}
-use Rattle.trial.proofs.Kept.{held-kept}
-use Rattle.trial.proofs.Rooms.{room, room-of, Same, held-same}
-use Rattle.trial.proofs.Telling.{facts-behind, facts-still}
+use Rattle.chainwords.proofs.Standing.{front-same, drop-more}
+use Rattle.chainwords.proofs.Kept.{held-kept}
+use Rattle.chainwords.proofs.Rooms.{room, room-of, Same, held-same}
+use Rattle.chainwords.proofs.Telling.{facts-behind, facts-still}
 use Rattle.trial.proofs.Wording.{numbered, number-cell, marked-after}
 use Rattle.trial.proofs.Aiming.{Share, none-move, all-move, shares}
 

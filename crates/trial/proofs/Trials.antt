@@ -25,34 +25,20 @@ use Rattle.facts.specs.declared.Fact as F
 use Rattle.analyse.specs.Cells.{cells}
 use Rattle.apply.specs.Apply.{Stands}
 use Rattle.legalset.specs.Chain.{cell}
-use Rattle.trial.specs.declared.sizes.Sizes.{Sizes}
+use Rattle.chainwords.specs.declared.sizes.Sizes.{Sizes}
 use Rattle.trial.specs.declared.block.Ask.{Ask}
 use Rattle.trial.specs.declared.block.MaybeMove.{MaybeMove}
 use Rattle.trial.specs.declared.block.MaybeMove.the-variants.{Is, Not}
-use Rattle.trial.specs.Work.{chain-words, Lists}
-use Rattle.trial.specs.Along.{chain-in, Along, Chained, Learning, Learnt}
+use Rattle.chainwords.specs.Work.{chain-words, Lists}
+use Rattle.chainwords.specs.Along.{Along, Chained, Learning, Learnt}
+use Rattle.chains.specs.Chain.{chain-in}
 use Rattle.trial.specs.Target.{Trying, PlanTried}
-use Rattle.trial.specs.Trial.{tried, else-least, found, Chosen, Following, Followed}
-use Rattle.trial.proofs.Rooms.{room}
+use Rattle.trial.specs.Trial.{tried, else-least, found, Following, Followed}
+use Rattle.worth.specs.Worth.{Chosen}
+use Rattle.chainwords.proofs.Rooms.{room}
+use Rattle.worth.proofs.Looks.{worth-facts, worth-long, minimum-some}
 use Rattle.trial.proofs.Planned.{along-behind, lists-of}
 use Rattle.trial.proofs.Moves.{plan-in, moves, held-both, first-plan}
-
--- ---- worth a look
-
-worth-facts : (P : Picture) (x : ℕ) (c : M.Chain) → worth-a-look P x c ≡ true → (minimum (replays P c) ≤ size P x - 1) × (length (chain-places P (c .blocks)) ≤ 800)
-worth-facts P x c e =
-    let a = leb (minimum (replays P c)) (size P x - 1) in
-    let b = leb (length (chain-places P (c .blocks))) 800 in
-    let f = left-true (a && b) _ e in
-    (leb-true (minimum (replays P c)) (size P x - 1) (left-true a b f), leb-true (length (chain-places P (c .blocks))) 800 (right-true a b f))
-
-pub minimum-some : (b : Bool) → 3 ≤ minimum b
-minimum-some true = omega arith
-minimum-some false = omega arith
-
--- such a block has more than 3 instructions
-pub worth-long : (P : Picture) (x : ℕ) (c : M.Chain) → worth-a-look P x c ≡ true → 3 < size P x
-worth-long P x c e = let a = worth-facts P x c e .0 in let b = minimum-some (replays P c) in omega arith
 
 -- ---- the chain from x
 

@@ -31,16 +31,17 @@ use Rattle.chains.proofs.Struct.{blocks-long}
 use Rattle.legalset.specs.Chain.{cell, Told}
 use Rattle.legalset.specs.Marks.{in-set}
 use Rattle.plan.specs.Sweep.{marks}
-use Rattle.plan.proofs.Backing.{writes-low}
+use Rattle.summary.proofs.Backing.{writes-low}
 use Rattle.plan.proofs.Sweeping.{shown}
 use Rattle.pool.specs.Pool.{wrote-at, regs-of}
 use Rattle.pool.specs.Plan.{read-there}
-use Rattle.trial.specs.declared.sizes.Sizes.{Sizes}
-use Rattle.trial.specs.Work.{chain-words, copied-words, Lists}
-use Rattle.trial.specs.Puts as U
-use Rattle.trial.specs.Along.{chain-in, Along, Marked, FromX, Numbered, Lasts}
-use Rattle.trial.proofs.Kept.{ok}
-use Rattle.trial.proofs.Rooms.{room}
+use Rattle.chainwords.specs.declared.sizes.Sizes.{Sizes}
+use Rattle.chainwords.specs.Work.{chain-words, copied-words, Lists}
+use Rattle.chainwords.specs.Puts as U
+use Rattle.chainwords.specs.Along.{Along, Marked, FromX, Numbered, Lasts}
+use Rattle.chains.specs.Chain.{chain-in}
+use Rattle.chainwords.proofs.Kept.{ok}
+use Rattle.chainwords.proofs.Rooms.{room}
 
 -- ---- small facts
 

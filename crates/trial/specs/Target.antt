@@ -13,13 +13,14 @@ use Rattle.model.specs.Move.{Plan, chain-places, plan, run-of, needed-of, is-ta
 use Rattle.chains.specs.declared.chain.Chain.{Chain}
 use Rattle.chains.specs.Chain.{blocks-of, Few}
 use Rattle.legalset.specs.Chain.{cell}
-use Rattle.plan.specs.Passes.{Row}
-use Rattle.trial.specs.declared.sizes.Sizes.{Sizes}
+use Rattle.summary.specs.Passes.{Row}
+use Rattle.chainwords.specs.declared.sizes.Sizes.{Sizes}
 use Rattle.plan.specs.declared.settle.Cycle.{Cycle}
 use Rattle.trial.specs.declared.target.Aim.{Aim}
 use Rattle.trial.specs.declared.target.Sunk.{Sunk}
-use Rattle.trial.specs.Work.{width, chain-words, Lists, Tabled, Held}
-use Rattle.trial.specs.Along.{chain-in, Along, Planning, FromX, Marked}
+use Rattle.chainwords.specs.Work.{width, chain-words, Lists, Tabled, Held}
+use Rattle.chainwords.specs.Along.{Along, Planning, FromX, Marked}
+use Rattle.chains.specs.Chain.{chain-in}
 
 -- ---- `take_aim`
 

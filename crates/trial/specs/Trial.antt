@@ -16,11 +16,11 @@ use Rattle.apply.specs.Apply.{Stands}
 use Rattle.trial.specs.declared.block.Move.{Move}
 use Rattle.trial.specs.declared.block.MaybeMove.{MaybeMove}
 use Rattle.trial.specs.declared.block.MaybeMove.the-variants.{Is, Not}
-use Rattle.trial.specs.Work.{Shown, Given, Held, chain-words}
-use Rattle.trial.specs.Along.{chain-in}
+use Rattle.chainwords.specs.Work.{Shown, Given, Held, chain-words}
+use Rattle.worth.specs.Worth.{Chosen}
 use Rattle.chains.specs.declared.chain.Chain as C
 use Rattle.chains.specs.Chain.{Sound}
-use Rattle.trial.specs.declared.sizes.Sizes.{Sizes}
+use Rattle.chainwords.specs.declared.sizes.Sizes.{Sizes}
 
 -- the move mv is the plan from block x, and w, ten words a position, say so
 pub record Found (P : Picture) (G : Facts) (x : ℕ) (mv : Move) (w : List ℕ) : Type 0 where
@@ -53,13 +53,6 @@ found x c m n k l =
     cond (ltb 0 k) (Is (record { from = x; into = c .t .0; inside = m; places = n; moved = k })) (cond (ltb 0 l) (Is (record { from = x; into = c .f .0; inside = m; places = n; moved = l })) Not)
 
 -- ---- `try_chain`
-
--- c is the chain from block x, and worth a look
-pub record Chosen (P : Picture) (x : ℕ) (c : C.Chain) : Type 0 where
-  pub x-block : x < nblocks P
-  pub sound : Sound c (nblocks P)
-  pub is-chain : chain P x ≡ some (chain-in c)
-  pub worth : worth-a-look P x (chain-in c) ≡ true
 
 pub record Following (bounds recs ops pairs targets replay : List ℕ) (s : Sizes) (x : ℕ) (c : C.Chain) (work64 work32 : List ℕ) : Type 0 where
   pub given : Given bounds recs ops pairs targets replay s work64 work32

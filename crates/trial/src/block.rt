@@ -1,11 +1,11 @@
 // The move from a block along its chain (01, "A round"; 000's `try_block`): the facts, then the targets t, then f.
 use crate::learn::learn;
-use crate::sizes::Sizes;
 use crate::target::plan;
 use chains::chain::Chain;
+use chains::pass::Sink;
+use chainwords::sizes::Sizes;
 use facts::Fact;
 use inst::record::wide;
-use plan::set::Sink;
 use worth::look::replays;
 ghost use mathlib.Core.Path.{_≡_};
 ghost use mathlib.Core.Bool.{_||_};

@@ -1,16 +1,16 @@
 // The facts along the chain (01, "The legal set"), a record a position in the lent list, and a copy of the words of the registers in
 // use, last writers and flags, which the set is found by while the 64-bit slice takes its stamps.
-use crate::sizes::Sizes;
-use crate::sizes::at_regs;
 use analyse::along::analyse;
 use chains::chain::Chain;
+use chainwords::sizes::Sizes;
+use chainwords::sizes::at_regs;
 use facts::Fact;
 ghost use mathlib.Core.Path.{_≡_};
 ghost use Prim.Native.Nat.{_+_, _*_, _≤_, _<_};
 ghost use lib.ListN.{length};
 ghost use Rattle.inst.specs.Table.{rows};
-ghost use Rattle.trial.specs.Puts.{Copying, Copied};
-ghost use Rattle.trial.specs.Along.{Learning, Learnt};
+ghost use Rattle.chainwords.specs.Puts.{Copying, Copied};
+ghost use Rattle.chainwords.specs.Along.{Learning, Learnt};
 
 // The last writers and flags of the first r words from word a on, from word 8,000 on.
 fn copy_regs(work64: &[u64], work32: &mut [u32], a: usize, r: usize)

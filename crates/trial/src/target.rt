@@ -1,11 +1,11 @@
 // The plan for one target (01, "A round" and "The legal set"; 000's `plan`): is it a target, and has the greatest legal set enough
 // members?
-use crate::marks::put_facts;
-use crate::marks::put_uses;
-use crate::sizes::Sizes;
-use crate::sizes::at_regs;
-use crate::sizes::width;
 use chains::chain::Chain;
+use chainwords::marks::put_facts;
+use chainwords::marks::put_uses;
+use chainwords::sizes::Sizes;
+use chainwords::sizes::at_regs;
+use chainwords::sizes::width;
 use facts::Fact;
 use inst::index::BlockId;
 use inst::record::wide;

@@ -10,4 +10,5 @@ pub mod Members
 pub mod Parts
 pub mod Rows
 pub mod Sets
+pub mod Steps
 pub mod Sums

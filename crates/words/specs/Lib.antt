@@ -2,3 +2,4 @@ pub mod Lists
 pub mod Last
 pub mod Bits
 pub mod Bytes
+pub mod Steps

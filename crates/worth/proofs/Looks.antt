@@ -7,14 +7,16 @@ use native.Mathlib.Nat.{le-of-suc-le-suc, not-suc-le-zero, le-antisymm, add-zero
 use native.Mathlib.Omega.{arith}
 use lib.Dec.{leb}
 use lib.ListN.{getD, length, take}
-use borrow.Author.Tests.{le-leb, lt-leb}
+use borrow.Author.Tests.{le-leb, lt-leb, leb-true}
 use Rattle.words.specs.Lists.{range, upto, any, mem}
 use Rattle.words.proofs.Lists.{map-map, shift-range}
 use Rattle.words.proofs.Alls.{any-map, find-yes, find-on}
-use Rattle.model.specs.Picture.{Picture, inst}
-use Rattle.model.specs.Move.{chain-places, minimum}
+use Rattle.words.proofs.Bools.{left-true, right-true}
+use Rattle.model.specs.Picture.{Picture, inst, size}
+use Rattle.model.specs.Move as M
+use Rattle.model.specs.Move.{chain-places, minimum, replays, worth-a-look}
 use Rattle.inst.specs.Record.{Within}
-use Rattle.picture.specs.Causes.{plain-cat}
+use Rattle.checks.specs.Causes.{plain-cat}
 use Rattle.chains.specs.declared.chain.Chain.{Chain}
 use Rattle.chains.specs.Chain.{blocks-of}
 use Rattle.worth.specs.Worth.{Worth}
@@ -110,3 +112,20 @@ module _ {bounds recs replay : List ℕ} (c : Chain) (x : ℕ) {a e : ℕ} {agai
   pub worth-is : {n : ℕ} → ((P : Picture) → P .bounds ≡ bounds → n ≡ length (chain-places P (blocks-of c))) → r ≡ asked recs a e n again → Worth bounds recs replay c x r
   unfolding asked
   worth-is en k = record { is = λ P eb es ep. k ∙ rw (en P eb, ea, ee, er, eb, es, ep) }
+
+-- ---- what a chain that is worth a look has
+
+pub worth-facts : (P : Picture) (x : ℕ) (c : M.Chain) → worth-a-look P x c ≡ true → (minimum (replays P c) ≤ size P x - 1) × (length (chain-places P (c .blocks)) ≤ 800)
+worth-facts P x c e =
+    let a = leb (minimum (replays P c)) (size P x - 1) in
+    let b = leb (length (chain-places P (c .blocks))) 800 in
+    let f = left-true (a && b) _ e in
+    (leb-true (minimum (replays P c)) (size P x - 1) (left-true a b f), leb-true (length (chain-places P (c .blocks))) 800 (right-true a b f))
+
+pub minimum-some : (b : Bool) → 3 ≤ minimum b
+minimum-some true = omega arith
+minimum-some false = omega arith
+
+-- such a block has more than 3 instructions
+pub worth-long : (P : Picture) (x : ℕ) (c : M.Chain) → worth-a-look P x c ≡ true → 3 < size P x
+worth-long P x c e = let a = worth-facts P x c e .0 in let b = minimum-some (replays P c) in omega arith

@@ -19,12 +19,12 @@ use Rattle.words.proofs.Rows.{hit-in, row-word, row-place}
 use Rattle.model.specs.Picture.{Picture, nblocks, succs}
 use Rattle.model.specs.Live.{live-in}
 use Rattle.model.specs.Move.{needed}
-use Rattle.flow.specs.Drawn.{drawn}
-use Rattle.flow.specs.Graph.{Graph}
+use Rattle.cfg.specs.Drawn.{drawn}
+use Rattle.cfg.specs.Graph.{Graph}
 use Rattle.flow.specs.Progress.{cell}
 use Rattle.flow.specs.Live.{Live, Wrote, gathered}
 use Rattle.flow.proofs.Whole.{succs-whole}
-use Rattle.flow.proofs.Successors.{next-block}
+use Rattle.cfg.proofs.Successors.{next-block}
 use Rattle.flow.proofs.Least.{cell-is}
 use Rattle.flow.proofs.Outs.{gathered-bit}
 use Rattle.worth.specs.Needed.{Fits, wanted, Word, Put, Shows, Needed}

@@ -1,10 +1,10 @@
 // What a chain must have to be looked at (01, "A round": "x without its terminator needs 8 instructions (3 if t or f is in replay);
 // the chain, inner Brs dropped, may have 800; without replay x needs a Cat of form 0").
 use chains::chain::Chain;
+use chains::pass::Sink;
 use chains::places::chain_len;
 use inst::record::wide;
 use picture::gates::plain_cat;
-use plan::set::Sink;
 ghost use mathlib.Core.Path.{_≡_};
 ghost use mathlib.Core.Bool.{_||_};
 ghost use mathlib.Core.List.{map};
@@ -12,7 +12,7 @@ ghost use Prim.Native.Nat.{_-_, _*_, _≤_, _<_};
 ghost use lib.ListN.{length};
 ghost use Rattle.words.specs.Lists.{range, any, mem};
 ghost use Rattle.model.specs.Picture.{inst};
-ghost use Rattle.picture.specs.Causes.{plain-cat};
+ghost use Rattle.checks.specs.Causes.{plain-cat};
 ghost use Rattle.chains.specs.Chain.{Sound};
 ghost use Rattle.chains.specs.Places.{Pairs, end-past};
 ghost use Rattle.worth.specs.Worth.{Worth};

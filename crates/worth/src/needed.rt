@@ -1,12 +1,12 @@
 // The registers needed elsewhere than in the target (01, "The legal set", rule 2: "live into the other branch, nor live out of the
 // target unless written there"), as a row of bits behind the rows of live-in and of what each block writes.
-use flow::graph::succs;
+use cfg::graph::succs;
 use flow::live::gather;
 ghost use mathlib.Core.Path.{_≡_};
 ghost use Prim.Native.Nat.{_+_, _*_, _/_, _≤_, _<_};
 ghost use lib.ListN.{length};
 ghost use Rattle.inst.specs.Table.{rows};
-ghost use Rattle.flow.specs.Graph.{Graph};
+ghost use Rattle.cfg.specs.Graph.{Graph};
 ghost use Rattle.worth.specs.Needed.{Fits, Word, Put, Needed};
 
 // Word i of the row. The list is the target's successors.

@@ -8,11 +8,11 @@ use lib.ListN.{length}
 use Rattle.words.specs.Lists.{any}
 use Rattle.model.specs.Picture.{Picture}
 use Rattle.model.specs.Refusal.{bad-kind, bad-list, bad-branch, lowest, refusal}
-use Rattle.picture.specs.declared.look.Found.{Found}
-use Rattle.picture.specs.Causes.{picture-of, code, bad-regs, bad-lists, bad-targets, long-cat}
-use Rattle.picture.specs.Found.{others}
-use Rattle.picture.proofs.Given.{Few, few, whole}
-use Rattle.picture.proofs.Seen.{kinds-of, others-of}
+use Rattle.checks.specs.declared.look.Found.{Found}
+use Rattle.checks.specs.Causes.{picture-of, code, bad-regs, bad-lists, bad-targets, long-cat}
+use Rattle.checks.specs.Found.{others}
+use Rattle.checks.proofs.Given.{Few, few, whole}
+use Rattle.checks.proofs.Seen.{kinds-of, others-of}
 use Rattle.picture.proofs.Chain.{from1, from2, from3, from4, from5, from6, from7, from8, from9, from10, from11, whole-chain, end, stop, on}
 use Rattle.picture.proofs.refusal.Statement.{statement}
 use Rattle.picture.proofs.refusal.Tie as tie

@@ -4,7 +4,7 @@ use mathlib.Core.List.{[]}
 use Prim.Native.Nat.{_+_, _/_}
 use native.Mathlib.Omega.{arith}
 use lib.ListN.{length}
-use Rattle.picture.specs.Causes.{picture-of}
+use Rattle.checks.specs.Causes.{picture-of}
 use Rattle.laws.proofs.Accepted.{accepted, needed-records}
 use Rattle.flow.proofs.Accepted.{graph-given}
 use Rattle.flow.proofs.Whole.{rows-tables}

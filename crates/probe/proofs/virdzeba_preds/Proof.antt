@@ -2,7 +2,7 @@
 use mathlib.Core.Path.{refl, sym}
 use mathlib.Core.List.{[]}
 use lib.ListN.{length}
-use Rattle.picture.specs.Causes.{picture-of}
+use Rattle.checks.specs.Causes.{picture-of}
 use Rattle.laws.proofs.Accepted.{accepted}
 use Rattle.flow.proofs.Accepted.{graph-given}
 use Rattle.probe.proofs.Given.{none, preds-of, words-room}

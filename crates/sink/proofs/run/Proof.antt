@@ -47,13 +47,13 @@ use Rattle.facts.proofs.Cells.{Cell, room, has, filled, cells, Homes, home, env
 use Rattle.facts.proofs.Turns as loop-of
 use Rattle.facts.proofs.Fact as T
 use Rattle.inst.specs.Table.{rows}
-use Rattle.picture.specs.Causes.{picture-of}
+use Rattle.checks.specs.Causes.{picture-of}
 use Rattle.chains.proofs.chain.Chain as K
 use Rattle.chains.proofs.chain.Chain.Laws as K′
 use Rattle.search.proofs.find.Look as S
 use Rattle.search.proofs.find.Look.Laws as S′
-use Rattle.trial.proofs.sizes.Sizes as Z
-use Rattle.trial.proofs.sizes.Sizes.Laws as Z′
+use Rattle.chainwords.proofs.sizes.Sizes as Z
+use Rattle.chainwords.proofs.sizes.Sizes.Laws as Z′
 use Rattle.trial.proofs.block.MaybeMove as Y
 use Rattle.trial.proofs.block.MaybeMove.Laws as Y′
 use Rattle.trial.specs.declared.block.MaybeMove.{MaybeMove}

@@ -41,7 +41,7 @@ use Rattle.facts.proofs.Params as Q
 use Rattle.facts.proofs.Params.{Par, ref, val, opened, closed}
 use Rattle.facts.proofs.Cells.{Cell, room, has, filled, cells, Homes, home, envOf, TypedIn, enters-all, frees-all}
 use Rattle.facts.proofs.Fact as T
-use Rattle.picture.specs.Causes.{picture-of}
+use Rattle.checks.specs.Causes.{picture-of}
 use Rattle.model.specs.Picture.{Picture}
 use Rattle.facts.proofs.Spots.{Spot, spot, at-spot, value}
 use Rattle.driver.proofs.rounds.Ran as R
@@ -57,7 +57,7 @@ use Rattle.model.proofs.Answer as N
 use Rattle.model.proofs.Answer.Laws as N′
 use Rattle.model.specs.declared.Answer.{Answer}
 use Rattle.model.specs.Pass.{rounds}
-use Rattle.driver.specs.Kept.{Kept}
+use Rattle.oneround.specs.Kept.{Kept}
 use Rattle.sink.proofs.Call.{call-kept}
 use Rattle.sink.proofs.sink_all.Key.{name as #self}
 use Rattle.sink.proofs.sink_all as f

@@ -44,7 +44,7 @@ use Rattle.facts.proofs.Params.{Par, ref, val, opened, closed}
 use Rattle.facts.proofs.Cells.{Cell, room, has, filled, cells, Homes, home, envOf, TypedIn, enters-all, frees-all}
 use Rattle.facts.proofs.Fact as T
 use Rattle.inst.specs.Table.{rows}
-use Rattle.picture.specs.Causes.{picture-of}
+use Rattle.checks.specs.Causes.{picture-of}
 use Rattle.model.specs.Picture.{Picture}
 use Rattle.driver.proofs.rounds.At as B
 use Rattle.driver.proofs.rounds.At.Laws as B′

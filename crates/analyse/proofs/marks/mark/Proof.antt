@@ -2,7 +2,7 @@
 use mathlib.Core.Logic.{⊎-elim}
 use native.Mathlib.Omega.{arith}
 use borrow.Author.Tests.{ne-eqb}
-use Rattle.analyse.specs.Written.{put-in}
+use Rattle.regfacts.specs.Written.{put-in}
 use Rattle.analyse.specs.Step.{marked}
 use borrow.Author.Needs.{needs}
 use Rattle.analyse.proofs.marks.mark.Statement.{statement}

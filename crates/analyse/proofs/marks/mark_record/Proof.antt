@@ -2,7 +2,7 @@
 use Rattle.model.specs.Picture.{inst}
 use Rattle.inst.proofs.Firsts.{all-written}
 use Rattle.analyse.proofs.Marking.{marked-twice}
-use Rattle.analyse.proofs.Writing.{writing-one, first-low}
+use Rattle.regfacts.proofs.Writing.{writing-one, first-low}
 use borrow.Author.Needs.{needs}
 use Rattle.analyse.proofs.marks.mark_record.Statement.{statement}
 use Rattle.analyse.proofs.marks.mark_record.Tie as tie

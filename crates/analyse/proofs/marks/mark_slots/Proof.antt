@@ -2,7 +2,7 @@
 use Prim.Native.Nat.{_-_}
 use Rattle.analyse.specs.Step.{marked}
 use Rattle.analyse.proofs.Marking.{marked-twice}
-use Rattle.analyse.proofs.Writing.{Writing, writing-none, writing-more, writing-end}
+use Rattle.regfacts.proofs.Writing.{Writing, writing-none, writing-more, writing-end}
 use borrow.Author.Needs.{needs}
 use Rattle.analyse.proofs.marks.mark_slots.Statement.{statement}
 use Rattle.analyse.proofs.marks.mark_slots.Tie as tie

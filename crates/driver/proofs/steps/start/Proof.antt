@@ -1,7 +1,7 @@
 -- `driver::steps::start` meets its contract. Assumes nothing.
 use mathlib.Core.Path.{_∙_}
 use native.Mathlib.Omega.{arith}
-use Rattle.picture.specs.Causes.{picture-of}
+use Rattle.checks.specs.Causes.{picture-of}
 use Rattle.driver.proofs.Start.{started-ends, blocks-small, beginning, first-opening, started-opens}
 use borrow.Author.Needs.{needs}
 use Rattle.driver.proofs.steps.start.Statement.{statement}

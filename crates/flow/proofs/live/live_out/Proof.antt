@@ -1,5 +1,5 @@
 -- `flow::live::live_out` meets its contract. Assumes nothing.
-use Rattle.flow.proofs.Successors.{next-block}
+use Rattle.cfg.proofs.Successors.{next-block}
 use Rattle.flow.proofs.Outs.{rows-within, row-live-out}
 use lib.ListN.{length}
 use borrow.Author.Needs.{needs}

@@ -1,6 +1,6 @@
 -- `flow::live::lives_out` meets its contract. Assumes nothing.
 use mathlib.Core.Path.{_∙_}
-use Rattle.flow.proofs.Successors.{next-block}
+use Rattle.cfg.proofs.Successors.{next-block}
 use Rattle.flow.proofs.Outs.{rows-within, any-live-out}
 use borrow.Author.Needs.{needs}
 use Rattle.flow.proofs.live.lives_out.Statement.{statement}

@@ -6,7 +6,7 @@ use lib.ListN.{length}
 use Rattle.words.specs.Bits.{room}
 use Rattle.words.specs.Lists.{hit}
 use Rattle.model.specs.Picture.{succs}
-use Rattle.flow.specs.Drawn.{drawn}
+use Rattle.cfg.specs.Drawn.{drawn}
 use Rattle.flow.proofs.Joins.{room-kept}
 use Rattle.flow.proofs.Solving.{Between, at-first, after-sweep, at-last, turn-less}
 use Rattle.flow.proofs.live.solve.Statement.{statement}

@@ -6,10 +6,10 @@ use mathlib.Core.Path.{_≡_, refl}
 use mathlib.Core.List.{[]}
 use lib.ListN.{length, drop}
 use Rattle.model.specs.Picture.{succs}
-use Rattle.flow.specs.Drawn.{drawn}
+use Rattle.cfg.specs.Drawn.{drawn}
 use Rattle.flow.specs.Progress.{Edges, Progress}
 use Rattle.flow.proofs.Joins.{nothing, onto, room-kept, block-up, recast}
-use Rattle.flow.proofs.Successors.{next-block}
+use Rattle.cfg.proofs.Successors.{next-block}
 use Rattle.flow.proofs.live.sweep_up.Statement.{statement}
 use Rattle.flow.proofs.live.sweep_up.Tie as tie
 

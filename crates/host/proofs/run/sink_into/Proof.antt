@@ -1,7 +1,7 @@
 -- `run::sink_into` meets its contract: what the call leaves fits, and is written. Assumes nothing.
 use lib.ListN.{length}
 use Rattle.model.specs.Refusal.{records}
-use Rattle.picture.specs.Causes.{picture-of}
+use Rattle.checks.specs.Causes.{picture-of}
 use Rattle.host.proofs.Left.{came, fitting, ran-of}
 use Rattle.host.proofs.Loads.{roomy-same}
 use Rattle.sink.specs.Sink.{outcome}

@@ -6,7 +6,7 @@ use Prim.Native.Nat.{ℕ, _-_, _≤_}
 use lib.ListN.{length, drop}
 use lib.Dec.{eqb, ltb}
 use Rattle.model.specs.Refusal.{gaps}
-use Rattle.picture.proofs.Twos.{gaps-yes, gaps-on, gaps-end}
+use Rattle.checks.proofs.Twos.{gaps-yes, gaps-on, gaps-end}
 use Rattle.picture.proofs.blocks.gaps.Statement.{statement}
 use Rattle.picture.proofs.blocks.gaps.Tie as tie
 

@@ -1,5 +1,5 @@
 -- `picture::gates::gated` meets its contract. Assumes nothing.
-use Rattle.picture.specs.Causes.{code}
+use Rattle.checks.specs.Causes.{code}
 use native.Mathlib.Omega.{arith}
 use Prim.Native.Nat.{_*_, _/_, _≤_}
 use lib.ListN.{length}

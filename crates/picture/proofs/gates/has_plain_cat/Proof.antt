@@ -4,9 +4,9 @@ use mathlib.Core.Path.{_≡_}
 use mathlib.Core.Bool.{false}
 use Prim.Native.Nat.{_-_, _≤_}
 use Rattle.words.specs.Lists.{any}
-use Rattle.picture.specs.Causes.{code, plain-cat}
-use Rattle.picture.proofs.Insts.{code-none, code-yes, code-on, code-no}
-use Rattle.picture.proofs.Given.{within}
+use Rattle.checks.specs.Causes.{code, plain-cat}
+use Rattle.checks.proofs.Insts.{code-none, code-yes, code-on, code-no}
+use Rattle.checks.proofs.Given.{within}
 use Rattle.picture.proofs.gates.has_plain_cat.Statement.{statement}
 use Rattle.picture.proofs.gates.has_plain_cat.Tie as tie
 

@@ -1,5 +1,5 @@
 -- `picture::sizes::too_many` meets its contract. Assumes nothing.
-use Rattle.picture.specs.Causes.{too-many}
+use Rattle.checks.specs.Causes.{too-many}
 use borrow.Author.Needs.{needs}
 use Rattle.picture.proofs.sizes.too_many.Statement.{statement}
 use Rattle.picture.proofs.sizes.too_many.Tie as tie

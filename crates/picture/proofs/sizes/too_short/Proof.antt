@@ -1,8 +1,8 @@
 -- `picture::sizes::too_short` meets its contract. Assumes nothing.
-use Rattle.picture.specs.Causes.{too-short}
+use Rattle.checks.specs.Causes.{too-short}
 use mathlib.Core.Path.{refl}
 use native.Mathlib.Omega.{arith}
-use Rattle.picture.proofs.Given.{rows-fit}
+use Rattle.checks.proofs.Given.{rows-fit}
 use Prim.Native.Nat.{_+_, _/_}
 use borrow.Author.Needs.{needs}
 use Rattle.picture.proofs.sizes.too_short.Statement.{statement}

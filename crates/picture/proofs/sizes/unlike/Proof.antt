@@ -1,5 +1,5 @@
 -- `picture::sizes::unlike` meets its contract. Assumes nothing.
-use Rattle.picture.specs.Causes.{unlike}
+use Rattle.checks.specs.Causes.{unlike}
 use mathlib.Core.Path.{refl}
 use borrow.Author.Needs.{needs}
 use Rattle.picture.proofs.sizes.unlike.Statement.{statement}

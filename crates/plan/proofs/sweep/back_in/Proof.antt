@@ -5,7 +5,7 @@ use Rattle.plan.proofs.sweep.back_in.Statement.{statement}
 use Rattle.plan.proofs.sweep.back_in.Tie as tie
 use Rattle.plan.proofs.sweep.back_in.Reads as reads
 use Rattle.plan.proofs.sweep.back_in.Lts as lts
-use Rattle.plan.proofs.backward.back.Reads as back-reads
+use Rattle.legality.proofs.backward.back.Reads as back-reads
 
 mul-back : tie.Need-mul-back
 mul-back c = search needs

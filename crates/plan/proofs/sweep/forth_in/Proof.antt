@@ -7,7 +7,7 @@ use Rattle.plan.proofs.sweep.forth_in.Statement.{statement}
 use Rattle.plan.proofs.sweep.forth_in.Tie as tie
 use Rattle.plan.proofs.sweep.forth_in.Reads as reads
 use Rattle.plan.proofs.sweep.forth_in.Lts as lts
-use Rattle.plan.proofs.forward.forth.Reads as forth-reads
+use Rattle.legality.proofs.forward.forth.Reads as forth-reads
 
 mul-forth : tie.Need-mul-forth
 mul-forth c = search needs

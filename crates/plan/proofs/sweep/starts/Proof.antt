@@ -1,12 +1,12 @@
 -- `plan::sweep::starts` meets its contract. Assumes nothing.
-use Rattle.plan.specs.Passes.{begin-test}
+use Rattle.summary.specs.Passes.{begin-test}
 use Rattle.plan.proofs.Visiting.{starts-in, starts-out}
 use borrow.Author.Needs.{needs}
 use Rattle.plan.proofs.sweep.starts.Statement.{statement}
 use Rattle.plan.proofs.sweep.starts.Tie as tie
 use Rattle.plan.proofs.sweep.starts.Reads as reads
 use Rattle.plan.proofs.sweep.starts.Lts as lts
-use Rattle.plan.proofs.start.begins_in.Reads as begins-in-reads
+use Rattle.legality.proofs.start.begins_in.Reads as begins-in-reads
 
 begins-in-requires : tie.Need-begins-in-requires
 begins-in-requires c κs = search needs

@@ -2,7 +2,7 @@
 use mathlib.Core.Path.{_∙_}
 use native.Mathlib.Omega.{arith}
 use lib.ListN.{length}
-use Rattle.picture.specs.Causes.{picture-of}
+use Rattle.checks.specs.Causes.{picture-of}
 use Rattle.search.proofs.Anew.{regs-few, live-ask}
 use Rattle.probe.proofs.Seeking.{beginning, looking, sees, seen}
 use borrow.Author.Needs.{needs}
@@ -14,7 +14,7 @@ use Rattle.flow.proofs.live.live_in.Reads as live-in-reads
 use Rattle.inst.proofs.record.wide.Reads as wide-reads
 use Rattle.search.proofs.begin.begin.Reads as begin-reads
 use Rattle.search.proofs.find.look_from.Reads as look-from-reads
-use Rattle.trial.proofs.sizes.width.Reads as width-reads
+use Rattle.chainwords.proofs.sizes.width.Reads as width-reads
 
 begin-requires : tie.Need-begin-requires
 begin-requires c κs = let a = c .before .before .before .before .before .before .before .before .before .before .before .before .before .args in (c .before .before .before .before .before .before .before .before .before .before .before .before .before .pre .0, beginning (picture-of (a .bounds .now) (a .recs .now) (a .locs .now) (a .vias .now) (a .types .now) (a .registers) (a .ops .now) (a .operands) (a .pairs .now) (a .targets .now) (a .replay .now)) (a .work64 .now) (a .work32 .now) (c .before .before .before .before .before .before .before .before .before .before .before .before .before .pre .1))

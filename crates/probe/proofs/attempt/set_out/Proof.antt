@@ -4,7 +4,7 @@ use Prim.Native.Nat.{ℕ, _<_}
 use native.Mathlib.Omega.{arith}
 use lib.ListN.{length}
 use Rattle.model.specs.Picture.{nblocks}
-use Rattle.picture.specs.Causes.{picture-of}
+use Rattle.checks.specs.Causes.{picture-of}
 use Rattle.laws.proofs.Accepted.{needed-records}
 use Rattle.inst.proofs.Indices.{is-block, not-block}
 use Rattle.probe.proofs.Given.{none}

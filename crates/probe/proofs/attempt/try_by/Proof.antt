@@ -47,7 +47,7 @@ use Rattle.facts.proofs.Cells.{Cell, room, has, filled, cells, Homes, home, env
 use Rattle.facts.proofs.Fact as T
 use Rattle.facts.proofs.Spots.{Spot, spot, at-spot, value}
 use Rattle.model.specs.Picture.{Picture}
-use Rattle.picture.specs.Causes.{picture-of}
+use Rattle.checks.specs.Causes.{picture-of}
 use Rattle.inst.specs.Table.{rows}
 use Rattle.chains.proofs.chain.Chain as K
 use Rattle.chains.proofs.chain.Chain.Laws as K′
@@ -55,8 +55,8 @@ use Rattle.search.proofs.find.Look as S
 use Rattle.search.proofs.find.Look.Laws as S′
 use Rattle.trial.specs.declared.block.MaybeMove.{MaybeMove}
 use Rattle.trial.specs.Trial.{Followed}
-use Rattle.trial.proofs.sizes.Sizes as Z
-use Rattle.trial.proofs.sizes.Sizes.Laws as Z′
+use Rattle.chainwords.proofs.sizes.Sizes as Z
+use Rattle.chainwords.proofs.sizes.Sizes.Laws as Z′
 use Rattle.trial.proofs.block.MaybeMove as Y
 use Rattle.trial.proofs.block.MaybeMove.Laws as Y′
 use Rattle.trial.proofs.block.try_chain as try-fn

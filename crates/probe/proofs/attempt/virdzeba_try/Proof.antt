@@ -44,7 +44,7 @@ use Rattle.facts.proofs.Fact as T
 use Rattle.facts.proofs.Spots.{Spot, spot, at-spot, value}
 use Rattle.facts.proofs.Walks.{pick-at, others, pull-back}
 use Rattle.model.specs.Picture.{Picture}
-use Rattle.picture.specs.Causes.{picture-of}
+use Rattle.checks.specs.Causes.{picture-of}
 use Rattle.inst.specs.Table.{rows}
 use Rattle.inst.proofs.table.table as table-fn
 use Rattle.inst.proofs.table.table.Symbol as table-fn-def

@@ -45,9 +45,9 @@ use Rattle.model.specs.declared.Answer.{Answer}
 use Rattle.model.specs.Pass.{number, rounds}
 use Rattle.model.proofs.Answer as N
 use Rattle.model.proofs.Answer.Laws as N′
-use Rattle.picture.specs.Causes.{picture-of}
+use Rattle.checks.specs.Causes.{picture-of}
 use Rattle.driver.specs.Ended.{Work}
-use Rattle.driver.specs.Kept.{Kept}
+use Rattle.oneround.specs.Kept.{Kept}
 use Rattle.sink.specs.Sink.{outcome, cause, registers, operands, Lent}
 use Rattle.sink.proofs.sink_all as all-fn
 use Rattle.sink.proofs.sink_all.Symbol as all-fn-def

@@ -48,17 +48,17 @@ use Rattle.chains.specs.declared.chain.Chain.{Chain}
 use Rattle.chains.proofs.chain.Chain as K
 use Rattle.chains.proofs.chain.Chain.Laws as K′
 use Rattle.analyse.specs.Cells.{cells as numbers}
-use Rattle.trial.specs.declared.sizes.Sizes.{Sizes}
+use Rattle.chainwords.specs.declared.sizes.Sizes.{Sizes}
 use Rattle.trial.specs.declared.block.Ask.{Ask}
 use Rattle.trial.specs.declared.block.MaybeMove.{MaybeMove}
-use Rattle.trial.specs.Along.{Learnt}
+use Rattle.chainwords.specs.Along.{Learnt}
 use Rattle.trial.specs.Target.{PlanTried}
 use Rattle.trial.specs.Trial.{else-least, found, Following, Followed}
 use Rattle.trial.proofs.Trials as law
 use Rattle.facts.proofs.Spots.{Spot, spot, at-spot, points, value}
 use Rattle.trial.proofs.Spots.{Tab, par-table, par-words, par-words-at, par-list, par-number, par-struct, see-table, see, see-at, lend, number, struct}
-use Rattle.trial.proofs.sizes.Sizes as S
-use Rattle.trial.proofs.sizes.Sizes.Laws as S′
+use Rattle.chainwords.proofs.sizes.Sizes as S
+use Rattle.chainwords.proofs.sizes.Sizes.Laws as S′
 use Rattle.trial.proofs.block.Ask as O
 use Rattle.trial.proofs.block.Ask.Laws as O′
 use Rattle.trial.proofs.block.MaybeMove as Y

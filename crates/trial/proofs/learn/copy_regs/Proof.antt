@@ -3,8 +3,8 @@ use borrow.Author.Needs.{needs}
 use mathlib.Core.Path.{_≡_, subst}
 use Prim.Native.Nat.{ℕ, _≤_, _-_}
 use native.Mathlib.Omega.{arith}
-use Rattle.trial.specs.Puts.{Copied}
-use Rattle.trial.proofs.Copying.{copied-none, copied-more}
+use Rattle.chainwords.specs.Puts.{Copied}
+use Rattle.chainwords.proofs.Copying.{copied-none, copied-more}
 use Rattle.trial.proofs.learn.copy_regs.Statement.{statement}
 use Rattle.trial.proofs.learn.copy_regs.Tie as tie
 

@@ -53,17 +53,17 @@ use Rattle.chains.proofs.chain.Chain.Laws as K′
 use Rattle.inst.specs.Table.{rows}
 use Rattle.analyse.specs.Step.{Analysed}
 use Rattle.analyse.specs.Cells.{cells as numbers}
-use Rattle.trial.specs.declared.sizes.Sizes.{Sizes}
-use Rattle.trial.specs.Work.{width}
-use Rattle.trial.specs.Puts.{Copied}
-use Rattle.trial.specs.Along.{Learning, Learnt}
+use Rattle.chainwords.specs.declared.sizes.Sizes.{Sizes}
+use Rattle.chainwords.specs.Work.{width}
+use Rattle.chainwords.specs.Puts.{Copied}
+use Rattle.chainwords.specs.Along.{Learning, Learnt}
 use Rattle.trial.proofs.Learning as law
-use Rattle.trial.proofs.sizes.Sizes as S
-use Rattle.trial.proofs.sizes.Sizes.Laws as S′
-use Rattle.trial.proofs.sizes.at_regs as at-regs
-use Rattle.trial.proofs.sizes.at_regs.Symbol as at-def
-use Rattle.trial.proofs.sizes.at_regs.Symbol.{name as #trial·sizes·at-regs}
-use Rattle.trial.proofs.sizes.at_regs.Met as at-thm
+use Rattle.chainwords.proofs.sizes.Sizes as S
+use Rattle.chainwords.proofs.sizes.Sizes.Laws as S′
+use Rattle.chainwords.proofs.sizes.at_regs as at-regs
+use Rattle.chainwords.proofs.sizes.at_regs.Symbol as at-def
+use Rattle.chainwords.proofs.sizes.at_regs.Symbol.{name as #chainwords·sizes·at-regs}
+use Rattle.chainwords.proofs.sizes.at_regs.Met as at-thm
 use Rattle.analyse.proofs.along.analyse as analyse
 use Rattle.analyse.proofs.along.analyse.Symbol as analyse-def
 use Rattle.analyse.proofs.along.analyse.Symbol.{name as #analyse·along·analyse}
@@ -127,7 +127,7 @@ module _ {M : Type 1} (𝓤 : URA M) (H : Heap 𝓤) (A : Atoms 𝓤) (W : Given
       suffices ! _ (ends-at 𝓤 H A f.ended stayed (f.clauses 𝓤 H A mem run) W (((st .κ, (sb .κ, (sr .κ, (so .κ, (sx .κ, (sw .κ, (sf .κ, tt))))))), (st .q, (sb .q, (sr .q, (so .q, (sx .q, (sw .q, (sf .q, tt))))))), tt, x, at), tt) (vint w64 n) n (tt, (tt, (tt, (tt, (xs′, (ws′, (fs′, (tt, (tt, tt))))))))) (tt, (tt, (tt, (tt, (e0, (e1, (e2, (tt, (tt, tt)))))))))) $ says ! ran $
       cut (Held xs′ ws′ fs′) (raw (Q.tokens 𝓤 H A (params xs′ ws′ fs′)) ∷ ‵ (Q.owned 𝓤 H A (params xs′ ws′ fs′)) ∷ []) _ (closed 𝓤 H A W (params xs′ ws′ fs′)) $ frame ! $ frame ! $ owned ! usize (Is usize) (uint-makes 𝓤 H A W w64) n _ (refl, fits) $ done !
 
-  module _ (𝓣 : Tables 𝓤 H) (known-at : Triple 𝓤 (𝓣 .C #trial·sizes·at-regs) (AtRegs 𝓤 H A mem run)) (known-analyse : Triple 𝓤 (𝓣 .C #analyse·along·analyse) (Analyse 𝓤 H A mem run)) (known-copy : Triple 𝓤 (𝓣 .C #trial·learn·copy-regs) (Copy 𝓤 H A mem run)) (ready : (ts ≡ rows) × Learning bs rs os z c xs ws fs) where
+  module _ (𝓣 : Tables 𝓤 H) (known-at : Triple 𝓤 (𝓣 .C #chainwords·sizes·at-regs) (AtRegs 𝓤 H A mem run)) (known-analyse : Triple 𝓤 (𝓣 .C #analyse·along·analyse) (Analyse 𝓤 H A mem run)) (known-copy : Triple 𝓤 (𝓣 .C #trial·learn·copy-regs) (Copy 𝓤 H A mem run)) (ready : (ts ≡ rows) × Learning bs rs os z c xs ws fs) where
     abbrev C : Calls 𝓤 H
     C = 𝓣 .C
 
@@ -147,8 +147,8 @@ module _ {M : Type 1} (𝓤 : URA M) (H : Heap 𝓤) (A : Atoms 𝓤) (W : Given
     abbrev At-says : ℕ → Lasts 𝓤 H A at-args → Type 0
     At-says r y = (r ≡ 4 * z .blocks * width (z .lent)) × (r ≤ 16777216)
 
-    at-call : ent 𝓤 (⋆ 𝓤 H A (G.hads 𝓤 H A at-args)) (H .⇛ (C #trial·sizes·at-regs (G.flat 𝓤 H A at-args) (G.Then 𝓤 H A W at-args usize At-says)))
-    at-call = calls-of 𝓤 H A W C fm #trial·sizes·at-regs (AtRegs 𝓤 H A mem run) known-at at-args (λ g. ((G.lfts 𝓤 H A at-args g, G.shares 𝓤 H A at-args, tt, G.values 𝓤 H A at-args g, G.machs 𝓤 H A at-args), tt)) (λ g. refl)
+    at-call : ent 𝓤 (⋆ 𝓤 H A (G.hads 𝓤 H A at-args)) (H .⇛ (C #chainwords·sizes·at-regs (G.flat 𝓤 H A at-args) (G.Then 𝓤 H A W at-args usize At-says)))
+    at-call = calls-of 𝓤 H A W C fm #chainwords·sizes·at-regs (AtRegs 𝓤 H A mem run) known-at at-args (λ g. ((G.lfts 𝓤 H A at-args g, G.shares 𝓤 H A at-args, tt, G.values 𝓤 H A at-args g, G.machs 𝓤 H A at-args), tt)) (λ g. refl)
         (λ g. qed W (raw (G.tokens 𝓤 H A at-args g) ∷ ‵ (G.owns 𝓤 H A at-args g) ∷ []) ∵ says ! (small) $ done !) usize At-says (λ g w. id⊢ 𝓤 _)
 
     blocks-fits : z .blocks < 2 ^ 32
@@ -266,7 +266,7 @@ module _ {M : Type 1} (𝓤 : URA M) (H : Heap 𝓤) (A : Atoms 𝓤) (W : Given
     from-entry = via 𝓤 (⋆ 𝓤 H A (Held xs ws fs)) (opened 𝓤 H A W (params xs ws fs)) (enters-all 𝓤 H A W C Λ code.function given (Held xs ws fs) Post typed begins)
 
 module _ {M : Type 1} (𝓤 : URA M) (H : Heap 𝓤) (A : Atoms 𝓤) (W : Given 𝓤 H A) (mem : Memory → SProp 𝓤) (run : Routine → Fun 𝓤) where
-  learn-walks : (𝓣 : Tables 𝓤 H) → Triple 𝓤 (𝓣 .C #trial·sizes·at-regs) (AtRegs 𝓤 H A mem run) → Triple 𝓤 (𝓣 .C #analyse·along·analyse) (Analyse 𝓤 H A mem run) → Triple 𝓤 (𝓣 .C #trial·learn·copy-regs) (Copy 𝓤 H A mem run) → Walks 𝓤 H A f.ended stayed (WpFn 𝓤 H (𝓣 .C) (𝓣 .Λ) code.function) (f.clauses 𝓤 H A mem run)
+  learn-walks : (𝓣 : Tables 𝓤 H) → Triple 𝓤 (𝓣 .C #chainwords·sizes·at-regs) (AtRegs 𝓤 H A mem run) → Triple 𝓤 (𝓣 .C #analyse·along·analyse) (Analyse 𝓤 H A mem run) → Triple 𝓤 (𝓣 .C #trial·learn·copy-regs) (Copy 𝓤 H A mem run) → Walks 𝓤 H A f.ended stayed (WpFn 𝓤 H (𝓣 .C) (𝓣 .Λ) code.function) (f.clauses 𝓤 H A mem run)
   learn-walks 𝓣 known-at known-analyse known-copy = walked 𝓤 H A f.ended stayed (f.clauses 𝓤 H A mem run) (WpFn 𝓤 H (𝓣 .C) (𝓣 .Λ) code.function) (λ κs. (ptr-vals, (slice-vals, (slice-vals, (slice-vals, (slice-vals, (slice-vals, (slice-vals, (LL.vals S.the-type S′.the-laws, (LL.vals K.the-type K′.the-laws, tt))))))))))
       (λ κs. (shr-tells (named 0) (κs .0) Tab, (shr-slice-tells (named 1) (κs .1 .0) u32, (shr-slice-tells (named 2) (κs .1 .1 .0) u32, (shr-slice-tells (named 3) (κs .1 .1 .1 .0) u32, (mut-slice-tells (named 4) (κs .1 .1 .1 .1 .0) u64, (mut-slice-tells (named 5) (κs .1 .1 .1 .1 .1 .0) u32, (mut-slice-tells (named 6) (κs .1 .1 .1 .1 .1 .1 .0) T.the-row, (LL.tells S.the-type S′.the-laws, (LL.tells K.the-type K′.the-laws, tt))))))))))
       (λ κs qs bounds a g are. needs 𝓤 (((a .0 .now) ≡ rows) × Learning (a .1 .0 .now) (a .1 .1 .0 .now) (a .1 .1 .1 .0 .now) (a .1 .1 .1 .1 .1 .1 .1 .0) (a .1 .1 .1 .1 .1 .1 .1 .1 .0) (a .1 .1 .1 .1 .0 .now) (a .1 .1 .1 .1 .1 .0 .now) (a .1 .1 .1 .1 .1 .1 .0 .now)) _ (λ ready.
@@ -276,7 +276,7 @@ module _ {M : Type 1} (𝓤 : URA M) (H : Heap 𝓤) (A : Atoms 𝓤) (W : Given
   goes : AllGo 𝓤 H A W 7 (f.signature .params) (f.ended .kept) stayed
   goes = (goes-none-ref 𝓤 H A W 7 (0 ∷ []) tt (ArrayOf (plain (λ _. u32)) (λ _. tt) 202) yes, (goes-none-slice 𝓤 H A W 7 (1 ∷ []) tt (plain (λ _. u32)) yes, (goes-none-slice 𝓤 H A W 7 (2 ∷ []) tt (plain (λ _. u32)) yes, (goes-none-slice 𝓤 H A W 7 (3 ∷ []) tt (plain (λ _. u32)) yes, (goes-slice 𝓤 H A W 7 4 tt (plain (λ _. u64)), (goes-slice 𝓤 H A W 7 5 tt (plain (λ _. u32)), (goes-slice 𝓤 H A W 7 6 tt (plain (λ _. T.the-row)), (goes-none 𝓤 H A W 7 (λ _. S.the-row) yes (λ κs x f. refl), (goes-none 𝓤 H A W 7 (λ _. K.the-row) yes (λ κs x f. refl), tt)))))))))
 
-learn-meets : {M : Type 1} (𝓤 : URA M) (H : Heap 𝓤) (A : Atoms 𝓤) → Given 𝓤 H A → (mem : Memory → SProp 𝓤) (run : Routine → Fun 𝓤) (𝓣 : Tables 𝓤 H) → Triple 𝓤 (𝓣 .C #trial·sizes·at-regs) (AtRegs 𝓤 H A mem run) → Triple 𝓤 (𝓣 .C #analyse·along·analyse) (Analyse 𝓤 H A mem run) → Triple 𝓤 (𝓣 .C #trial·learn·copy-regs) (Copy 𝓤 H A mem run)
+learn-meets : {M : Type 1} (𝓤 : URA M) (H : Heap 𝓤) (A : Atoms 𝓤) → Given 𝓤 H A → (mem : Memory → SProp 𝓤) (run : Routine → Fun 𝓤) (𝓣 : Tables 𝓤 H) → Triple 𝓤 (𝓣 .C #chainwords·sizes·at-regs) (AtRegs 𝓤 H A mem run) → Triple 𝓤 (𝓣 .C #analyse·along·analyse) (Analyse 𝓤 H A mem run) → Triple 𝓤 (𝓣 .C #trial·learn·copy-regs) (Copy 𝓤 H A mem run)
     → Meets 𝓤 H A f.signature (WpFn 𝓤 H (𝓣 .C) (𝓣 .Λ) code.function) (f.spec 𝓤 H A mem run)
 learn-meets 𝓤 H A W mem run 𝓣 known-at known-analyse known-copy = walk-meets 𝓤 H A f.ended stayed W (goes 𝓤 H A W mem run) (f.clauses 𝓤 H A mem run) (WpFn 𝓤 H (𝓣 .C) (𝓣 .Λ) code.function) (WpFn-mono 𝓤 H (W .laws) 𝓣 code.function) (learn-walks 𝓤 H A W mem run 𝓣 known-at known-analyse known-copy)
 
@@ -286,6 +286,6 @@ learn-spec 𝓤 H 𝓜 𝓖 𝓡 =
     entered 𝓤 H (tripleOf 𝓤 H (𝓖 .A) f.signature (f.spec 𝓤 H (𝓖 .A) (𝓜 .mem) (𝓡 .run)))
     (tables 𝓤 H 𝓜 𝓡 code.env .C) (tables 𝓤 H 𝓜 𝓡 code.env .Λ) #trial·learn·learn code.function (code.unfolded 𝓤 H 𝓜 𝓡)
     (learn-meets 𝓤 H (𝓖 .A) (givenOf 𝓤 H 𝓜 𝓖) (𝓜 .mem) (𝓡 .run) (tablesOf 𝓤 H 𝓜 (tables 𝓤 H 𝓜 𝓡 code.env))
-    (cited 𝓤 H (AtRegs 𝓤 H (𝓖 .A) (𝓜 .mem) (𝓡 .run)) 𝓜 𝓡 code.env #trial·sizes·at-regs at-def.routine code.calls-trial·sizes·at-regs (at-thm.met 𝓤 H 𝓜 𝓖 𝓡))
+    (cited 𝓤 H (AtRegs 𝓤 H (𝓖 .A) (𝓜 .mem) (𝓡 .run)) 𝓜 𝓡 code.env #chainwords·sizes·at-regs at-def.routine code.calls-chainwords·sizes·at-regs (at-thm.met 𝓤 H 𝓜 𝓖 𝓡))
     (cited 𝓤 H (Analyse 𝓤 H (𝓖 .A) (𝓜 .mem) (𝓡 .run)) 𝓜 𝓡 code.env #analyse·along·analyse analyse-def.routine code.calls-analyse·along·analyse (analyse-thm.met 𝓤 H 𝓜 𝓖 𝓡))
     (cited 𝓤 H (Copy 𝓤 H (𝓖 .A) (𝓜 .mem) (𝓡 .run)) 𝓜 𝓡 code.env #trial·learn·copy-regs copy-def.routine code.calls-trial·learn·copy-regs (copy-thm.met 𝓤 H 𝓜 𝓖 𝓡)))

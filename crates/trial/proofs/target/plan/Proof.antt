@@ -55,17 +55,17 @@ use Rattle.analyse.specs.Cells.{cells as numbers}
 use Rattle.plan.specs.Cycle.{Chose}
 use Rattle.plan.proofs.settle.Cycle as Y
 use Rattle.plan.proofs.settle.Cycle.Laws as Y′
-use Rattle.trial.specs.declared.sizes.Sizes.{Sizes}
+use Rattle.chainwords.specs.declared.sizes.Sizes.{Sizes}
 use Rattle.trial.specs.declared.target.Aim.{Aim}
 use Rattle.trial.specs.declared.target.Sunk.{Sunk}
-use Rattle.trial.specs.Puts.{Facts}
-use Rattle.trial.specs.Along.{Used}
+use Rattle.chainwords.specs.Puts.{Facts}
+use Rattle.chainwords.specs.Along.{Used}
 use Rattle.trial.specs.Target.{taken, Aimed, Trying, PlanTried}
 use Rattle.trial.proofs.Planned as law
 use Rattle.facts.proofs.Spots.{Spot, spot, at-spot, points, value}
 use Rattle.trial.proofs.Spots.{Tab, par-table, par-words, par-words-at, par-list, par-number, par-struct, see-table, see, see-at, lend, lend-as, number, struct, big}
-use Rattle.trial.proofs.sizes.Sizes as S
-use Rattle.trial.proofs.sizes.Sizes.Laws as S′
+use Rattle.chainwords.proofs.sizes.Sizes as S
+use Rattle.chainwords.proofs.sizes.Sizes.Laws as S′
 use Rattle.trial.proofs.target.Aim as E
 use Rattle.trial.proofs.target.Aim.Laws as E′
 use Rattle.trial.proofs.target.Sunk as D
@@ -82,14 +82,14 @@ use Rattle.trial.proofs.target.taken as taken
 use Rattle.trial.proofs.target.taken.Symbol as take-def
 use Rattle.trial.proofs.target.taken.Symbol.{name as #trial·target·taken}
 use Rattle.trial.proofs.target.taken.Met as take-thm
-use Rattle.trial.proofs.marks.put_facts as put-facts
-use Rattle.trial.proofs.marks.put_facts.Symbol as put-def
-use Rattle.trial.proofs.marks.put_facts.Symbol.{name as #trial·marks·put-facts}
-use Rattle.trial.proofs.marks.put_facts.Met as put-thm
-use Rattle.trial.proofs.marks.put_uses as put-uses
-use Rattle.trial.proofs.marks.put_uses.Symbol as use-def
-use Rattle.trial.proofs.marks.put_uses.Symbol.{name as #trial·marks·put-uses}
-use Rattle.trial.proofs.marks.put_uses.Met as use-thm
+use Rattle.chainwords.proofs.marks.put_facts as put-facts
+use Rattle.chainwords.proofs.marks.put_facts.Symbol as put-def
+use Rattle.chainwords.proofs.marks.put_facts.Symbol.{name as #chainwords·marks·put-facts}
+use Rattle.chainwords.proofs.marks.put_facts.Met as put-thm
+use Rattle.chainwords.proofs.marks.put_uses as put-uses
+use Rattle.chainwords.proofs.marks.put_uses.Symbol as use-def
+use Rattle.chainwords.proofs.marks.put_uses.Symbol.{name as #chainwords·marks·put-uses}
+use Rattle.chainwords.proofs.marks.put_uses.Met as use-thm
 use Rattle.trial.proofs.target.plan.Key.{name as #trial·target·plan}
 use Rattle.trial.proofs.target.plan as f
 use Rattle.trial.proofs.target.plan.Statement as stated
@@ -180,7 +180,7 @@ module _ {M : Type 1} (𝓤 : URA M) (H : Heap 𝓤) (A : Atoms 𝓤) (W : Given
       suffices ! _ (ends-at 𝓤 H A f.ended stayed (f.clauses 𝓤 H A mem run) W ((κs₀, qs₀, tt, x, at), tt) (vint w32 r) r (tt, (tt, (tt, (tt, (tt, (tt, (xs′, (ws′, (fs′, (tt, (tt, (tt, (tt, (tt, (tt, (tt, tt)))))))))))))))) (tt, (tt, (tt, (tt, (tt, (tt, (e, (e′, (e″, (tt, (tt, (tt, (tt, (tt, (tt, (tt, tt))))))))))))))))) $ says ! said $
       cut (Held xs′ ws′ fs′) (raw (Q.tokens 𝓤 H A (params xs′ ws′ fs′)) ∷ ‵ (Q.owned 𝓤 H A (params xs′ ws′ fs′)) ∷ []) _ (closed 𝓤 H A W (params xs′ ws′ fs′)) $ frame ! $ frame ! $ owned ! u32 (Is u32) (uint-makes 𝓤 H A W w32) r _ (refl, fits) $ done !
 
-  module _ (𝓣 : Tables 𝓤 H) (known-aim : Triple 𝓤 (𝓣 .C #trial·target·take-aim) (TakeAim 𝓤 H A mem run)) (known-choose : Triple 𝓤 (𝓣 .C #plan·set·legal-set) (LegalSet 𝓤 H A mem run)) (known-take : Triple 𝓤 (𝓣 .C #trial·target·taken) (Taken 𝓤 H A mem run)) (known-put : Triple 𝓤 (𝓣 .C #trial·marks·put-facts) (PutFacts 𝓤 H A mem run)) (known-use : Triple 𝓤 (𝓣 .C #trial·marks·put-uses) (PutUses 𝓤 H A mem run))
+  module _ (𝓣 : Tables 𝓤 H) (known-aim : Triple 𝓤 (𝓣 .C #trial·target·take-aim) (TakeAim 𝓤 H A mem run)) (known-choose : Triple 𝓤 (𝓣 .C #plan·set·legal-set) (LegalSet 𝓤 H A mem run)) (known-take : Triple 𝓤 (𝓣 .C #trial·target·taken) (Taken 𝓤 H A mem run)) (known-put : Triple 𝓤 (𝓣 .C #chainwords·marks·put-facts) (PutFacts 𝓤 H A mem run)) (known-use : Triple 𝓤 (𝓣 .C #chainwords·marks·put-uses) (PutUses 𝓤 H A mem run))
       (ready : (ts ≡ rows) × Trying bs rs os ps gs z c (numbers fs) xs ws (into .0) (other .0) m n × (n ≤ length fs)) where
     abbrev C : Calls 𝓤 H
     C = 𝓣 .C
@@ -268,8 +268,8 @@ module _ {M : Type 1} (𝓤 : URA M) (H : Heap 𝓤) (A : Atoms 𝓤) (W : Given
             abbrev Put-says : Unit {0} → Lasts 𝓤 H A put-args → Type 0
             Put-says r y = Facts hs ws (y .1 .0) (b .places)
 
-            put-call : ent 𝓤 (⋆ 𝓤 H A (G.hads 𝓤 H A put-args)) (H .⇛ (C #trial·marks·put-facts (G.flat 𝓤 H A put-args) (G.Then 𝓤 H A W put-args unit Put-says)))
-            put-call = calls-of 𝓤 H A W C fm #trial·marks·put-facts (PutFacts 𝓤 H A mem run) known-put put-args (λ g. ((G.lfts 𝓤 H A put-args g, G.shares 𝓤 H A put-args, tt, G.values 𝓤 H A put-args g, G.machs 𝓤 H A put-args), tt)) (λ g. refl)
+            put-call : ent 𝓤 (⋆ 𝓤 H A (G.hads 𝓤 H A put-args)) (H .⇛ (C #chainwords·marks·put-facts (G.flat 𝓤 H A put-args) (G.Then 𝓤 H A W put-args unit Put-says)))
+            put-call = calls-of 𝓤 H A W C fm #chainwords·marks·put-facts (PutFacts 𝓤 H A mem run) known-put put-args (λ g. ((G.lfts 𝓤 H A put-args g, G.shares 𝓤 H A put-args, tt, G.values 𝓤 H A put-args g, G.machs 𝓤 H A put-args), tt)) (λ g. refl)
                 (λ g. qed W (raw (G.tokens 𝓤 H A put-args g) ∷ ‵ (G.owns 𝓤 H A put-args g) ∷ []) ∵ says ! (law.putting (ready .1) (ready .2) aimed chose sunk) $ done !) unit Put-says (λ g w. id⊢ 𝓤 _)
 
             -- ---- their words are put into ws₁
@@ -281,8 +281,8 @@ module _ {M : Type 1} (𝓤 : URA M) (H : Heap 𝓤) (A : Atoms 𝓤) (W : Given
               abbrev Use-says : Unit {0} → Lasts 𝓤 H A use-args → Type 0
               Use-says r y = Used bs rs os z c xs₂ ws₁ (b .moved) (a .into) m n (y .1 .1 .1 .1 .0) (y .1 .1 .1 .1 .1 .0)
 
-              use-call : ent 𝓤 (⋆ 𝓤 H A (G.hads 𝓤 H A use-args)) (H .⇛ (C #trial·marks·put-uses (G.flat 𝓤 H A use-args) (G.Then 𝓤 H A W use-args unit Use-says)))
-              use-call = calls-of 𝓤 H A W C fm #trial·marks·put-uses (PutUses 𝓤 H A mem run) known-use use-args (λ g. ((G.lfts 𝓤 H A use-args g, G.shares 𝓤 H A use-args, tt, G.values 𝓤 H A use-args g, G.machs 𝓤 H A use-args), tt)) (λ g. refl)
+              use-call : ent 𝓤 (⋆ 𝓤 H A (G.hads 𝓤 H A use-args)) (H .⇛ (C #chainwords·marks·put-uses (G.flat 𝓤 H A use-args) (G.Then 𝓤 H A W use-args unit Use-says)))
+              use-call = calls-of 𝓤 H A W C fm #chainwords·marks·put-uses (PutUses 𝓤 H A mem run) known-use use-args (λ g. ((G.lfts 𝓤 H A use-args g, G.shares 𝓤 H A use-args, tt, G.values 𝓤 H A use-args g, G.machs 𝓤 H A use-args), tt)) (λ g. refl)
                   (λ g. qed W (raw (G.tokens 𝓤 H A use-args g) ∷ ‵ (G.owns 𝓤 H A use-args g) ∷ []) ∵ says ! (ready .0, law.uses-asked (ready .1) (ready .2) aimed chose sunk wrote) $ done !) unit Use-says (λ g w. id⊢ 𝓤 _)
 
               -- the last uses, and the answer
@@ -372,7 +372,7 @@ module _ {M : Type 1} (𝓤 : URA M) (H : Heap 𝓤) (A : Atoms 𝓤) (W : Given
     from-entry = via 𝓤 (⋆ 𝓤 H A (Held xs ws fs)) (opened 𝓤 H A W (params xs ws fs)) (enters-all 𝓤 H A W C Λ code.function given (Held xs ws fs) Post typed begins)
 
 module _ {M : Type 1} (𝓤 : URA M) (H : Heap 𝓤) (A : Atoms 𝓤) (W : Given 𝓤 H A) (mem : Memory → SProp 𝓤) (run : Routine → Fun 𝓤) where
-  plan-walks : (𝓣 : Tables 𝓤 H) → Triple 𝓤 (𝓣 .C #trial·target·take-aim) (TakeAim 𝓤 H A mem run) → Triple 𝓤 (𝓣 .C #plan·set·legal-set) (LegalSet 𝓤 H A mem run) → Triple 𝓤 (𝓣 .C #trial·target·taken) (Taken 𝓤 H A mem run) → Triple 𝓤 (𝓣 .C #trial·marks·put-facts) (PutFacts 𝓤 H A mem run) → Triple 𝓤 (𝓣 .C #trial·marks·put-uses) (PutUses 𝓤 H A mem run) → Walks 𝓤 H A f.ended stayed (WpFn 𝓤 H (𝓣 .C) (𝓣 .Λ) code.function) (f.clauses 𝓤 H A mem run)
+  plan-walks : (𝓣 : Tables 𝓤 H) → Triple 𝓤 (𝓣 .C #trial·target·take-aim) (TakeAim 𝓤 H A mem run) → Triple 𝓤 (𝓣 .C #plan·set·legal-set) (LegalSet 𝓤 H A mem run) → Triple 𝓤 (𝓣 .C #trial·target·taken) (Taken 𝓤 H A mem run) → Triple 𝓤 (𝓣 .C #chainwords·marks·put-facts) (PutFacts 𝓤 H A mem run) → Triple 𝓤 (𝓣 .C #chainwords·marks·put-uses) (PutUses 𝓤 H A mem run) → Walks 𝓤 H A f.ended stayed (WpFn 𝓤 H (𝓣 .C) (𝓣 .Λ) code.function) (f.clauses 𝓤 H A mem run)
   plan-walks 𝓣 known-aim known-choose known-take known-put known-use = walked 𝓤 H A f.ended stayed (f.clauses 𝓤 H A mem run) (WpFn 𝓤 H (𝓣 .C) (𝓣 .Λ) code.function) (λ κs. (ptr-vals, (slice-vals, (slice-vals, (slice-vals, (slice-vals, (slice-vals, (slice-vals, (slice-vals, (slice-vals, ((λ d. S′.lowered d ∷ []), ((λ d. K′.lowered d ∷ []), (uint-vals w32, ((λ d. B′.lowered d ∷ []), ((λ d. B′.lowered d ∷ []), (uint-vals w64, (uint-vals w64, tt)))))))))))))))))
       (λ κs. (shr-tells (named 0) (κs .0) Tab, (shr-slice-tells (named 1) (κs .1 .0) u32, (shr-slice-tells (named 2) (κs .1 .1 .0) u32, (shr-slice-tells (named 3) (κs .1 .1 .1 .0) u32, (shr-slice-tells (named 4) (κs .1 .1 .1 .1 .0) u32, (shr-slice-tells (named 2) (κs .1 .1 .0) u32, (mut-slice-tells (named 5) (κs .1 .1 .1 .1 .1 .0) u64, (mut-slice-tells (named 6) (κs .1 .1 .1 .1 .1 .1 .0) u32, (mut-slice-tells (named 7) (κs .1 .1 .1 .1 .1 .1 .1 .0) T.the-row, (S′.lowers .val-is, (K′.lowers .val-is, (uint-tells w32, (B′.lowers .val-is, (B′.lowers .val-is, (uint-tells w64, (uint-tells w64, tt)))))))))))))))))
       (λ κs qs bounds a g are. needs 𝓤 (((a .0 .now) ≡ rows) × Trying (a .1 .0 .now) (a .1 .1 .0 .now) (a .1 .1 .1 .0 .now) (a .1 .1 .1 .1 .0 .now) (a .1 .1 .1 .1 .1 .0 .now) (a .1 .1 .1 .1 .1 .1 .1 .1 .1 .0) (a .1 .1 .1 .1 .1 .1 .1 .1 .1 .1 .0) (numbers (a .1 .1 .1 .1 .1 .1 .1 .1 .0 .now)) (a .1 .1 .1 .1 .1 .1 .0 .now) (a .1 .1 .1 .1 .1 .1 .1 .0 .now) (a .1 .1 .1 .1 .1 .1 .1 .1 .1 .1 .1 .1 .0 .0) (a .1 .1 .1 .1 .1 .1 .1 .1 .1 .1 .1 .1 .1 .0 .0) (a .1 .1 .1 .1 .1 .1 .1 .1 .1 .1 .1 .1 .1 .1 .0) (a .1 .1 .1 .1 .1 .1 .1 .1 .1 .1 .1 .1 .1 .1 .1 .0) × (a .1 .1 .1 .1 .1 .1 .1 .1 .1 .1 .1 .1 .1 .1 .1 .0 ≤ length (a .1 .1 .1 .1 .1 .1 .1 .1 .0 .now))) _ (λ ready.
@@ -382,7 +382,7 @@ module _ {M : Type 1} (𝓤 : URA M) (H : Heap 𝓤) (A : Atoms 𝓤) (W : Given
   goes : AllGo 𝓤 H A W 8 (f.signature .params) (f.ended .kept) stayed
   goes = (goes-none-ref 𝓤 H A W 8 (0 ∷ []) tt (ArrayOf (plain (λ _. u32)) (λ _. tt) 202) yes, (goes-none-slice 𝓤 H A W 8 (1 ∷ []) tt (plain (λ _. u32)) yes, (goes-none-slice 𝓤 H A W 8 (2 ∷ []) tt (plain (λ _. u32)) yes, (goes-none-slice 𝓤 H A W 8 (3 ∷ []) tt (plain (λ _. u32)) yes, (goes-none-slice 𝓤 H A W 8 (4 ∷ []) tt (plain (λ _. u32)) yes, (goes-none-slice 𝓤 H A W 8 (2 ∷ []) tt (plain (λ _. u32)) yes, (goes-slice 𝓤 H A W 8 5 tt (plain (λ _. u64)), (goes-slice 𝓤 H A W 8 6 tt (plain (λ _. u32)), (goes-slice 𝓤 H A W 8 7 tt (plain (λ _. T.the-row)), (goes-none 𝓤 H A W 8 (λ _. S.the-row) yes (λ κs x f. refl), (goes-none 𝓤 H A W 8 (λ _. K.the-row) yes (λ κs x f. refl), (goes-none 𝓤 H A W 8 (λ _. u32) yes (λ κs x f. refl), (goes-none 𝓤 H A W 8 (λ _. B.the-row) yes (λ κs x f. refl), (goes-none 𝓤 H A W 8 (λ _. B.the-row) yes (λ κs x f. refl), (goes-none 𝓤 H A W 8 (λ _. usize) yes (λ κs x f. refl), (goes-none 𝓤 H A W 8 (λ _. usize) yes (λ κs x f. refl), tt))))))))))))))))
 
-plan-meets : {M : Type 1} (𝓤 : URA M) (H : Heap 𝓤) (A : Atoms 𝓤) → Given 𝓤 H A → (mem : Memory → SProp 𝓤) (run : Routine → Fun 𝓤) (𝓣 : Tables 𝓤 H) → Triple 𝓤 (𝓣 .C #trial·target·take-aim) (TakeAim 𝓤 H A mem run) → Triple 𝓤 (𝓣 .C #plan·set·legal-set) (LegalSet 𝓤 H A mem run) → Triple 𝓤 (𝓣 .C #trial·target·taken) (Taken 𝓤 H A mem run) → Triple 𝓤 (𝓣 .C #trial·marks·put-facts) (PutFacts 𝓤 H A mem run) → Triple 𝓤 (𝓣 .C #trial·marks·put-uses) (PutUses 𝓤 H A mem run)
+plan-meets : {M : Type 1} (𝓤 : URA M) (H : Heap 𝓤) (A : Atoms 𝓤) → Given 𝓤 H A → (mem : Memory → SProp 𝓤) (run : Routine → Fun 𝓤) (𝓣 : Tables 𝓤 H) → Triple 𝓤 (𝓣 .C #trial·target·take-aim) (TakeAim 𝓤 H A mem run) → Triple 𝓤 (𝓣 .C #plan·set·legal-set) (LegalSet 𝓤 H A mem run) → Triple 𝓤 (𝓣 .C #trial·target·taken) (Taken 𝓤 H A mem run) → Triple 𝓤 (𝓣 .C #chainwords·marks·put-facts) (PutFacts 𝓤 H A mem run) → Triple 𝓤 (𝓣 .C #chainwords·marks·put-uses) (PutUses 𝓤 H A mem run)
     → Meets 𝓤 H A f.signature (WpFn 𝓤 H (𝓣 .C) (𝓣 .Λ) code.function) (f.spec 𝓤 H A mem run)
 plan-meets 𝓤 H A W mem run 𝓣 known-aim known-choose known-take known-put known-use = walk-meets 𝓤 H A f.ended stayed W (goes 𝓤 H A W mem run) (f.clauses 𝓤 H A mem run) (WpFn 𝓤 H (𝓣 .C) (𝓣 .Λ) code.function) (WpFn-mono 𝓤 H (W .laws) 𝓣 code.function) (plan-walks 𝓤 H A W mem run 𝓣 known-aim known-choose known-take known-put known-use)
 
@@ -395,5 +395,5 @@ plan-spec 𝓤 H 𝓜 𝓖 𝓡 =
     (cited 𝓤 H (TakeAim 𝓤 H (𝓖 .A) (𝓜 .mem) (𝓡 .run)) 𝓜 𝓡 code.env #trial·target·take-aim aim-def.routine code.calls-trial·target·take-aim (aim-thm.met 𝓤 H 𝓜 𝓖 𝓡))
     (cited 𝓤 H (LegalSet 𝓤 H (𝓖 .A) (𝓜 .mem) (𝓡 .run)) 𝓜 𝓡 code.env #plan·set·legal-set choose-def.routine code.calls-plan·set·legal-set (choose-thm.met 𝓤 H 𝓜 𝓖 𝓡))
     (cited 𝓤 H (Taken 𝓤 H (𝓖 .A) (𝓜 .mem) (𝓡 .run)) 𝓜 𝓡 code.env #trial·target·taken take-def.routine code.calls-trial·target·taken (take-thm.met 𝓤 H 𝓜 𝓖 𝓡))
-    (cited 𝓤 H (PutFacts 𝓤 H (𝓖 .A) (𝓜 .mem) (𝓡 .run)) 𝓜 𝓡 code.env #trial·marks·put-facts put-def.routine code.calls-trial·marks·put-facts (put-thm.met 𝓤 H 𝓜 𝓖 𝓡))
-    (cited 𝓤 H (PutUses 𝓤 H (𝓖 .A) (𝓜 .mem) (𝓡 .run)) 𝓜 𝓡 code.env #trial·marks·put-uses use-def.routine code.calls-trial·marks·put-uses (use-thm.met 𝓤 H 𝓜 𝓖 𝓡)))
+    (cited 𝓤 H (PutFacts 𝓤 H (𝓖 .A) (𝓜 .mem) (𝓡 .run)) 𝓜 𝓡 code.env #chainwords·marks·put-facts put-def.routine code.calls-chainwords·marks·put-facts (put-thm.met 𝓤 H 𝓜 𝓖 𝓡))
+    (cited 𝓤 H (PutUses 𝓤 H (𝓖 .A) (𝓜 .mem) (𝓡 .run)) 𝓜 𝓡 code.env #chainwords·marks·put-uses use-def.routine code.calls-chainwords·marks·put-uses (use-thm.met 𝓤 H 𝓜 𝓖 𝓡)))

@@ -3,8 +3,8 @@ use mathlib.Core.Path.{sym, ap, ap₂, _∙_, subst}
 use Prim.Native.Nat.{ℕ, _+_, _*_, _<_}
 use native.Mathlib.Omega.{arith}
 use borrow.Author.Tests.{not-true, not-false}
-use Rattle.trial.specs.Work.{width}
-use Rattle.trial.proofs.Rooms.{room, rows-small, preds-room}
+use Rattle.chainwords.specs.Work.{width}
+use Rattle.chainwords.proofs.Rooms.{room, rows-small, preds-room}
 use Rattle.trial.proofs.Aiming.{graph-lent, block-lent, row-lent, aim-off, aim-on}
 use borrow.Author.Needs.{needs}
 use Rattle.trial.proofs.target.take_aim.Statement.{statement}

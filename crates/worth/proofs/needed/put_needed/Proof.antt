@@ -1,6 +1,6 @@
 -- `worth::needed::put_needed` meets its contract. Assumes nothing.
 use native.Mathlib.Omega.{arith}
-use Rattle.flow.proofs.Successors.{next-block}
+use Rattle.cfg.proofs.Successors.{next-block}
 use Rattle.worth.proofs.Rows.{needed-is}
 use borrow.Author.Needs.{needs}
 use Rattle.worth.proofs.needed.put_needed.Statement.{statement}

@@ -1,0 +1,56 @@
+-- `chainwords::marks::put_uses` meets its contract. Assumes nothing.
+use mathlib.Core.Path.{refl}
+use native.Mathlib.Omega.{arith}
+use Rattle.chainwords.proofs.Using.{used-none, plan-room, legible, readers-room, row-inside, use-asked, used}
+use borrow.Author.Needs.{needs}
+use Rattle.chainwords.proofs.marks.put_uses.Statement.{statement}
+use Rattle.chainwords.proofs.marks.put_uses.Tie as tie
+
+returns : tie.Need-returns
+returns c = used-none (c .if1 .taken)
+
+wide-requires : tie.Need-wide-requires
+wide-requires c κs = search needs
+
+at-regs-requires : tie.Need-at-regs-requires
+at-regs-requires c κs = let f = plan-room (c .before .before .before .before .before .before .before .pre .1 .planning) in (f .blocks, f .few)
+
+add-st : tie.Need-add-st
+add-st c = let f = plan-room (c .before .before .before .before .before .before .before .before .before .pre .1 .planning) in omega (arith, f .few, c .before .at-regs .ensures .1)
+
+find-readers-requires : tie.Need-find-readers-requires
+find-readers-requires c κs = let p = c .before .before .before .before .before .before .before .before .before .before .before .pre in (p .0, legible (p .1 .planning) (c .before .before .before .at-regs .ensures .0) (c .before .before .before .before .wide .ensures), readers-room (p .1 .planning) (c .before .before .before .at-regs .ensures .0) (c .before .before .before .before .wide .ensures), refl)
+
+width-requires : tie.Need-width-requires
+width-requires c κs = let f = plan-room (c .before .before .before .before .before .before .before .before .before .before .before .before .before .before .pre .1 .planning) in omega (arith, f .few, f .lent, c .before .before .before .before .before .before .before .wide .ensures)
+
+mul-o : tie.Need-mul-o
+mul-o c = omega (arith, row-inside (c .before .before .before .before .before .before .before .before .before .before .before .before .before .before .before .pre .1 .planning) (c .before .before .before .before .before .before .before .at-regs .ensures .0) (c .before .before .before .before .before .before .before .before .wide .ensures) (c .width .ensures), c .before .before .before .before .before .before .before .at-regs .ensures .1)
+
+put-lasts-requires : tie.Need-put-lasts-requires
+put-lasts-requires c κs = let p = c .before .before .before .before .before .before .before .before .before .before .before .before .before .before .before .before .before .before .pre in (p .0, use-asked (p .1 .planning) (c .before .before .before .before .before .before .before .before .before .before .at-regs .ensures .0) (c .before .before .before .before .before .before .before .before .before .before .before .wide .ensures) (c .before .before .before .width .ensures) (c .before .before .before .before .before .before .find-readers .ensures .1) (p .1 .numbered (c .before .before .before .before .before .before .before .before .before .before .before .before .if1 .left)), p .1 .planning .in-x)
+
+same-length : tie.Need-same-length
+same-length c = search needs
+
+same-length-2 : tie.Need-same-length-2
+same-length-2 c = search needs
+
+returns-2 : tie.Need-returns-2
+returns-2 c = let p = c .before .before .before .before .before .before .before .before .before .before .before .before .before .before .before .before .before .before .before .before .before .pre in used (p .1 .planning) (c .before .before .before .before .before .before .before .before .before .before .before .before .before .at-regs .ensures .0) (c .before .before .before .before .before .before .before .before .before .before .before .before .before .before .wide .ensures) (c .before .before .before .before .before .before .width .ensures) (c .before .before .before .before .before .before .before .before .before .find-readers .ensures .1) (c .before .before .before .before .before .before .before .before .before .find-readers .ensures .0) (c .before .before .put-lasts .ensures) (c .before .before .before .before .before .before .before .before .before .before .before .before .before .before .before .if1 .left)
+
+pub put-uses-spec : {M : Type 1} → statement M
+put-uses-spec =
+    tie.close
+    (tie.spec
+    returns
+    wide-requires
+    at-regs-requires
+    add-st
+    find-readers-requires
+    width-requires
+    mul-o
+    put-lasts-requires
+    same-length
+    same-length-2
+    returns-2)

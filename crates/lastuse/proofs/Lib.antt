@@ -1,0 +1,3 @@
+pub mod Going
+pub mod LastUse
+pub mod Using

@@ -1,0 +1,56 @@
+-- `lastuse::uses::note_places` meets its contract. Assumes nothing.
+use borrow.Author.Needs.{needs}
+use mathlib.Core.Path.{refl}
+use Prim.Native.Nat.{_≤_, _-_}
+use native.Mathlib.Omega.{arith}
+use Rattle.model.specs.Picture.{inst}
+use Rattle.summary.specs.Passes.{read-place}
+use Rattle.summary.proofs.Places.{reads-placed, place-low}
+use Rattle.lastuse.proofs.Using.{Noticing, noticing-none, noticing-more, noticing-end}
+use Rattle.lastuse.proofs.uses.note_places.Statement.{statement}
+use Rattle.lastuse.proofs.uses.note_places.Tie as tie
+
+abbrev Inv-loop : tie.InvT-loop
+Inv-loop ops recs g uses st lasts₀ q n k₀ lasts k = (k ≤ n) × Noticing (read-place ops (inst recs g)) st q k lasts₀ lasts
+
+abbrev μ-loop : tie.MeasureT-loop
+μ-loop ops recs g uses st lasts₀ q n k₀ lasts k = n - k
+
+places-requires : tie.Need-places-requires Inv-loop μ-loop
+places-requires c κs = search needs
+
+loop-holds : tie.Need-loop-holds Inv-loop μ-loop
+loop-holds c = (omega arith, noticing-none _ _ _ _ (c .before .before .before .before .pre .3))
+
+read-place-requires : tie.Need-read-place-requires Inv-loop μ-loop
+read-place-requires c κs = (c .before .before .before .before .before .before .pre .0, c .before .before .before .before .before .before .pre .1 .listed, omega (arith, c .before .before .places .ensures))
+
+note-requires : tie.Need-note-requires Inv-loop μ-loop
+note-requires c κs = (place-low (c .before .before .before .before .before .before .before .before .args .st .now) (c .before .before .before .before .before .before .before .before .pre .1) refl (c .before .before .before .before .places .ensures) (c .before .before .loop-test .taken) (c .before .read-place .ensures), c .before .before .before .before .before .before .before .before .pre .2)
+
+add-k : tie.Need-add-k Inv-loop μ-loop
+add-k c = search needs
+
+loop-less : tie.Need-loop-less Inv-loop μ-loop
+loop-less c = search needs
+
+loop-again : tie.Need-loop-again Inv-loop μ-loop
+loop-again c = (omega arith, noticing-more (c .before .before .before .before .loop .inv .1) (c .before .before .read-place .ensures) (c .note .ensures))
+
+returns : tie.Need-returns Inv-loop μ-loop
+returns c = noticing-end (c .before .loop .inv .1) (reads-placed _ _ _ _ (c .before .before .before .before .before .before .pre .1)) (omega (arith, c .before .before .places .ensures, c .before .loop .inv .0)) (omega (arith, c .before .before .places .ensures, c .loop-test .left))
+
+pub note-places-spec : {M : Type 1} → statement M
+note-places-spec =
+    tie.close
+    (tie.spec
+    Inv-loop
+    μ-loop
+    places-requires
+    loop-holds
+    read-place-requires
+    note-requires
+    add-k
+    loop-less
+    loop-again
+    returns)

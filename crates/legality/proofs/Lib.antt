@@ -1,0 +1,5 @@
+pub mod Chosen
+pub mod Marking
+pub mod Six
+pub mod Starting
+pub mod Testing

@@ -1,0 +1,47 @@
+-- `legality::rules::rule3` meets its contract. Assumes nothing.
+use native.Mathlib.Omega.{arith}
+use Rattle.summary.specs.Passes.{read-test}
+use Rattle.legality.proofs.Testing.{place-is}
+use Rattle.summary.proofs.Wording.{good-at, places-at, places-tested, words-low, words-tested}
+use borrow.Author.Needs.{needs}
+use Rattle.legality.proofs.rules.rule3.Statement.{statement}
+use Rattle.legality.proofs.rules.rule3.Tie as tie
+use Rattle.legality.proofs.rules.rule3.Reads as reads
+use Rattle.legality.proofs.rules.rule3.Lts as lts
+use Rattle.inst.proofs.access.uses.Reads as uses-reads
+use Rattle.inst.proofs.record.wide.Reads as wide-reads
+use Rattle.legality.proofs.rules.places_ok.Reads as places-ok-reads
+use Rattle.legality.proofs.rules.read_ok.Reads as read-ok-reads
+
+read-ok-requires : tie.Need-read-ok-requires
+read-ok-requires c κs = (words-low (c .before .before .before .before .before .pre .1) (c .if1 .taken) 0 (omega arith), c .before .before .before .before .before .pre .2)
+
+read-ok-requires-2 : tie.Need-read-ok-requires-2
+read-ok-requires-2 c κs = (words-low (c .before .before .before .before .before .before .pre .1) (c .before .if1 .taken) 1 (omega arith), c .before .before .before .before .before .before .pre .2)
+
+returns : tie.Need-returns
+returns c = let a = c .before .before .before .before .before .before .before .args in words-tested (c .before .before .before .before .before .before .before .pre .1) (c .before .before .if1 .taken) (read-test (a .st .now) (a .p)) (place-is _ _ _ (c .before .read-ok .ensures)) (place-is _ _ _ (c .read-ok2 .ensures))
+
+wide-requires : tie.Need-wide-requires
+wide-requires c κs = search needs
+
+uses-requires : tie.Need-uses-requires
+uses-requires c κs = (c .before .before .before .before .before .before .pre .0, good-at (c .before .before .before .before .before .before .pre .1) (c .wide .ensures) .known)
+
+places-ok-requires : tie.Need-places-ok-requires
+places-ok-requires c κs = let k = places-at (c .before .before .before .before .before .before .before .pre .1) (c .before .wide .ensures) (c .uses .ensures) in (k .0, k .1, c .before .before .before .before .before .before .before .pre .2)
+
+returns-2 : tie.Need-returns-2
+returns-2 c = let a = c .before .before .before .before .before .before .before .before .args in places-tested (c .before .before .before .before .before .before .before .before .pre .1) (read-test (a .st .now) (a .p)) (c .before .before .wide .ensures) (c .places-ok .ensures)
+
+pub rule3-spec : {M : Type 1} → statement M
+rule3-spec =
+    tie.close
+    (tie.spec
+    read-ok-requires
+    read-ok-requires-2
+    returns
+    wide-requires
+    uses-requires
+    places-ok-requires
+    returns-2)

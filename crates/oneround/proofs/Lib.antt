@@ -1,0 +1,5 @@
+pub mod Asked
+pub mod Counted
+pub mod Prepared
+pub mod Renewal
+pub mod Step

@@ -1,0 +1,126 @@
+-- What the move of a round comes to (01, "A round" and "Answers"): it is counted, against the room that is lent. Assumes nothing.
+use mathlib.Core.Path.{_≡_, refl, sym, ap, _∙_, subst}
+use mathlib.Core.Logic.{⊎-elim}
+use mathlib.Core.Bool.{Bool, true, false, _&&_}
+use mathlib.Core.List.{List}
+use mathlib.Core.Option.{some}
+use Prim.Native.Nat.{ℕ, _+_, _*_, _≤_, _<_}
+use native.Mathlib.Nat.{le-refl}
+use native.Mathlib.Omega.{arith}
+use borrow.Author.Tests.{le-leb, lt-leb}
+use lib.Dec.{leb}
+use lib.ListN.{length, take}
+use lib.Seq.{length-take-le}
+use Rattle.words.proofs.Bools.{both-true, lt?}
+use Rattle.model.specs.Refusal.{records}
+use Rattle.model.specs.Picture.{Picture, nblocks}
+use Rattle.model.specs.Analyse.{Facts}
+use Rattle.model.specs.Move.{apply}
+use Rattle.model.specs.Pass as Pass
+use Rattle.model.specs.Pass.{fits}
+use Rattle.laws.proofs.Accepted.{Accepted, accepted}
+use Rattle.laws.proofs.Sizes as S
+use Rattle.apply.specs.declared.needs.Counts.{Counts}
+use Rattle.apply.specs.Apply.{Asks, Counted, Stands, Given}
+use Rattle.apply.proofs.Done.{asks-kept}
+use Rattle.trial.specs.declared.block.Move.{Move}
+use Rattle.chainwords.specs.Work.{at-stamps, chain-words}
+use Rattle.trial.specs.Trial.{Found}
+use Rattle.oneround.specs.declared.round.Line.{Line}
+use Rattle.oneround.specs.declared.round.Step.{Step}
+use Rattle.oneround.specs.declared.round.Step.the-variants.{Goes, Short}
+use Rattle.oneround.specs.Round.{Ready, Needing, Needed, stepped, prepared, Decided}
+use Rattle.search.proofs.Start.{rooms-of}
+use Rattle.chainwords.proofs.Standing.{drop-more, begun-kept, firm-front}
+use Rattle.oneround.proofs.Asked.{x-is, asked}
+
+-- ---- a move that was counted
+
+module _ {P : Picture} (ok : Accepted P) {G : Facts} {x : ℕ} {mv : Move} {w v : List ℕ} (c : Counts) (f : Found P G x mv w) (long : length w ≡ 8000)
+    (n : Counted (mv .from) (mv .into) (mv .inside) (mv .places) (P .regs) (P .opers) (P .bounds) (P .recs) (P .locs) (P .vias) (P .types) (P .ops) w v (c .regs) (c .opers))
+    (q : Pass.round P G ≡ some (f .a)) where
+  from-is : mv .from ≡ f .a .x
+  from-is = f .from-is ∙ sym (x-is ok f long)
+
+  counted : Counted (f .a .x) (f .a .into) (mv .inside) (mv .places) (P .regs) (P .opers) (P .bounds) (P .recs) (P .locs) (P .vias) (P .types) (P .ops) w v (c .regs) (c .opers)
+  counted =
+      subst (λ (z : ℕ). Counted (f .a .x) z (mv .inside) (mv .places) (P .regs) (P .opers) (P .bounds) (P .recs) (P .locs) (P .vias) (P .types) (P .ops) w v (c .regs) (c .opers)) (f .into-is)
+      (subst (λ (z : ℕ). Counted z (mv .into) (mv .inside) (mv .places) (P .regs) (P .opers) (P .bounds) (P .recs) (P .locs) (P .vias) (P .types) (P .ops) w v (c .regs) (c .opers)) from-is n)
+
+  after : Stands P (f .a) (mv .inside) (mv .places) v × Given P (f .a) (mv .inside) v × (c .regs ≡ apply P (f .a) .regs) × (c .opers ≡ apply P (f .a) .opers)
+  after = counted .counts (record { pairs = P .pairs; targets = P .targets; replay = P .replay }) (f .a .run) (f .a .set) (f .stands)
+
+  asks-after : Asks (f .a .x) (f .a .into) (mv .inside) (mv .places) (P .regs) (P .opers) (length (P .types)) (length (P .locs)) (P .bounds) (P .recs) (P .types) (P .ops) v
+  asks-after =
+      subst (λ (z : ℕ). Asks z (f .a .into) (mv .inside) (mv .places) (P .regs) (P .opers) (length (P .types)) (length (P .locs)) (P .bounds) (P .recs) (P .types) (P .ops) v) (sym (x-is ok f long))
+      (asks-kept w v (counted .keeps) (counted .size) (asked ok f long))
+
+  goes : c .regs ≤ length (P .types) → c .opers ≤ length (P .ops) → prepared P G (Goes (record { moved = mv; registers = c .regs; operands = c .opers })) v
+  goes a b = (
+    f .a,
+    q,
+    both-true (leb (apply P (f .a) .regs) (length (P .types))) (leb (apply P (f .a) .opers) (length (P .ops)))
+        (subst (λ (z : ℕ). leb z (length (P .types)) ≡ true) (after .2) (le-leb (c .regs) (length (P .types)) a))
+        (subst (λ (z : ℕ). leb z (length (P .ops)) ≡ true) (after .3) (le-leb (c .opers) (length (P .ops)) b)),
+    record { from-is = from-is; into-is = f .into-is; moved-is = f .moved-is; registers-are = after .2; operands-are = after .3 },
+    asks-after,
+    record { none-new = counted .none-new; regs = let e = counted .regs-is in omega arith; opers = let e = counted .opers-is in omega arith },
+    after .0,
+    after .1,
+  )
+
+  no-room : (c .regs ≤ length (P .types) → length (P .ops) < c .opers) → fits P (apply P (f .a)) ≡ false
+  no-room h = ⊎-elim (λ (l : length (P .types) < c .regs). ap (λ (b : Bool). b && leb (apply P (f .a) .opers) (length (P .ops))) (regs-false l))
+      (λ (l : c .regs ≤ length (P .types)). ap (λ (b : Bool). leb (apply P (f .a) .regs) (length (P .types)) && b) (opers-false (h l)) ∙ and-false (leb (apply P (f .a) .regs) (length (P .types)))) (lt? (length (P .types)) (c .regs))
+    where
+      regs-false : length (P .types) < c .regs → leb (apply P (f .a) .regs) (length (P .types)) ≡ false
+      regs-false l = subst (λ (z : ℕ). leb z (length (P .types)) ≡ false) (after .2) (lt-leb (c .regs) (length (P .types)) l)
+
+      opers-false : length (P .ops) < c .opers → leb (apply P (f .a) .opers) (length (P .ops)) ≡ false
+      opers-false l = subst (λ (z : ℕ). leb z (length (P .ops)) ≡ false) (after .3) (lt-leb (c .opers) (length (P .ops)) l)
+
+      and-false : (b : Bool) → (b && false) ≡ false
+      and-false true = refl
+      and-false false = refl
+
+  comes-to : (r : Step) → stepped mv c (length (P .types)) (length (P .ops)) r → prepared P G r v
+  comes-to (Goes l) h = subst (λ (z : Line). prepared P G (Goes z) v) (sym (h .2)) (goes (h .0) (h .1))
+  comes-to Short h = (f .a, q, no-room h)
+
+-- ---- `weigh`
+
+module _ {P : Picture} {work64 work32 : List ℕ} {mv : Move} (k : Ready P work64 work32 mv) where
+  good : Accepted P
+  good = accepted P (length work64) (length work32) records (k .accepted)
+
+  pub ops-few : length (P .ops) ≤ 131072
+  ops-few = S.few-ops P good
+
+  words-there : 8000 ≤ length work32
+  words-there = let r = rooms-of P (length work64) (length work32) (k .accepted) .room32 in omega arith
+
+  words-long : length (chain-words work32) ≡ 8000
+  words-long = length-take-le 8000 work32 words-there
+
+  pub needing : Needing (P .bounds) (P .recs) (P .types) (P .ops) work64 work32 (P .regs) (P .opers) (length (P .locs)) mv
+  needing =
+      let f = k .sure .found in
+      record {
+        asks = subst (λ (z : ℕ). Asks z (mv .into) (mv .inside) (mv .places) (P .regs) (P .opers) (length (P .types)) (length (P .locs)) (P .bounds) (P .recs) (P .types) (P .ops) (chain-words work32)) (sym (f .from-is))
+            (subst (λ (z : ℕ). Asks (k .sure .x) z (mv .inside) (mv .places) (P .regs) (P .opers) (length (P .types)) (length (P .locs)) (P .bounds) (P .recs) (P .types) (P .ops) (chain-words work32)) (sym (f .into-is)) (asked good f words-long));
+        few-blocks = rooms-of P (length work64) (length work32) (k .accepted) .few-blocks;
+        room64 = let r = rooms-of P (length work64) (length work32) (k .accepted) .room64 in omega arith;
+        room32 = words-there;
+      }
+
+  pub decided : {work64′ work32′ : List ℕ} {c : Counts} {r : Step}
+      → Needed (P .bounds) (P .recs) (P .locs) (P .vias) (P .types) (P .ops) work64 work32 (P .regs) (P .opers) mv work64′ work32′ c
+      → stepped mv c (length (P .types)) (length (P .ops)) r → Decided P work64 work32 mv r work64′ work32′
+  decided {work64′} {work32′} {c} {r} n h = record {
+    size64 = n .size64;
+    size32 = n .size32;
+    begun = λ G b.
+        begun-kept (firm-front P good (at-stamps P) work64 work64′ (le-refl (at-stamps P)) (n .before))
+        (ap (take (2 * nblocks P)) (drop-more 8000 (8000 + length (P .types)) work32′ work32 (omega arith) (n .behind))) b;
+    is = λ G b. comes-to good c (b .found) words-long (n .counted) (b .first) r h;
+  }

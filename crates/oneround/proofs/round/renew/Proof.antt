@@ -1,0 +1,62 @@
+-- `oneround::round::renew` meets its contract. Assumes nothing.
+use mathlib.Core.Path.{refl, ap, _∙_}
+use native.Mathlib.Omega.{arith}
+use Rattle.chainwords.specs.Work.{width}
+use Rattle.oneround.proofs.Renewal.{regs-few, renew-ask, renewed-all, renewed-two, renewed-at}
+use borrow.Author.Needs.{needs}
+use Rattle.oneround.proofs.round.renew.Statement.{statement}
+use Rattle.oneround.proofs.round.renew.Tie as tie
+
+wide-requires : tie.Need-wide-requires
+wide-requires c κs = search needs
+
+width-requires : tie.Need-width-requires
+width-requires c κs = omega (arith, c .wide .ensures, regs-few (c .before .before .before .before .before .pre .1))
+
+wide-requires-2 : tie.Need-wide-requires-2
+wide-requires-2 c κs = search needs
+
+width-requires-2 : tie.Need-width-requires-2
+width-requires-2 c κs = omega (arith, c .wide2 .ensures, c .before .before .before .before .before .before .before .pre .1 .was-few)
+
+all-rows-requires : tie.Need-all-rows-requires
+all-rows-requires c κs = let z = renew-ask (c .before .before .before .before .before .before .before .before .before .before .pre .1) _ refl (c .before .before .before .before .before .wide .ensures) (c .before .before .before .before .width .ensures) in (c .before .before .before .before .before .before .before .before .before .before .pre .0, z .0, z .1, z .2, z .3)
+
+same-length : tie.Need-same-length
+same-length c = c .before .work64 .given
+
+returns : tie.Need-returns
+returns c = let a = c .before .before .all-rows .ensures in renewed-at refl (c .before .before .before .before .before .before .before .width .ensures ∙ ap width (c .before .before .before .before .before .before .before .before .wide .ensures)) (renewed-all (a .0) (a .1 .0) (a .1 .1))
+
+block-rows-requires : tie.Need-block-rows-requires
+block-rows-requires c κs = let k = c .before .before .before .before .before .before .before .before .before .before .pre .1 in let z = renew-ask k _ refl (c .before .before .before .before .before .wide .ensures) (c .before .before .before .before .width .ensures) in (c .before .before .before .before .before .before .before .before .before .before .pre .0, z .0, z .1, z .2, z .3, k .from-block)
+
+block-rows-requires-2 : tie.Need-block-rows-requires-2
+block-rows-requires-2 c κs = let k = c .before .before .before .before .before .before .before .before .before .before .before .before .before .before .pre .1 in let z = renew-ask k _ (c .before .before .work642 .given) (c .before .before .before .before .before .before .before .before .before .wide .ensures) (c .before .before .before .before .before .before .before .before .width .ensures) in (c .before .before .before .before .before .before .before .before .before .before .before .before .before .before .pre .0, z .0, z .1, z .2, z .3, k .into-block)
+
+same-length-2 : tie.Need-same-length-2
+same-length-2 c = c .before .work643 .given ∙ c .before .before .before .before .before .work642 .given
+
+returns-2 : tie.Need-returns-2
+returns-2 c =
+    let k = c .before .before .before .before .before .before .before .before .before .before .before .before .before .before .before .before .before .pre .1 in
+    let f = c .before .before .before .before .before .before .block-rows .ensures in
+    let i = c .before .before .block-rows2 .ensures in
+    renewed-at (c .before .before .before .before .before .before .before .before .before .width2 .ensures ∙ ap width (c .before .before .before .before .before .before .before .before .before .before .wide2 .ensures)) (c .before .before .before .before .before .before .before .before .before .before .before .width .ensures ∙ ap width (c .before .before .before .before .before .before .before .before .before .before .before .before .wide .ensures))
+    (renewed-two (c .before .before .before .before .before .before .before .before .if1 .left) (k .from-block) (k .into-block) (f .0) (f .1) (i .0) (i .1))
+
+pub renew-spec : {M : Type 1} → statement M
+renew-spec =
+    tie.close
+    (tie.spec
+    wide-requires
+    width-requires
+    wide-requires-2
+    width-requires-2
+    all-rows-requires
+    same-length
+    returns
+    block-rows-requires
+    block-rows-requires-2
+    same-length-2
+    returns-2)

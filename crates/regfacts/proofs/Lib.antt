@@ -1,0 +1,4 @@
+pub mod First
+pub mod Soles
+pub mod Turned
+pub mod Writing

@@ -1,0 +1,58 @@
+-- `regfacts::flags::note_all` meets its contract. Assumes nothing.
+use borrow.Author.Needs.{needs}
+use native.Mathlib.Omega.{arith}
+use Prim.Native.Nat.{_-_}
+use Rattle.regfacts.specs.Flags.{noted}
+use Rattle.regfacts.proofs.Soles.{noted-twice}
+use Rattle.regfacts.proofs.Writing.{Writing, writing-none, writing-more, writing-end}
+use Rattle.regfacts.proofs.flags.note_all.Statement.{statement}
+use Rattle.regfacts.proofs.flags.note_all.Tie as tie
+
+abbrev Inv-loop : tie.InvT-loop
+Inv-loop recs regs₀ p uses n s₀ regs s = Writing (noted p) recs p s regs₀ regs
+
+abbrev μ-loop : tie.MeasureT-loop
+μ-loop recs regs₀ p uses n s₀ regs s = 5 - s
+
+long-requires : tie.Need-long-requires Inv-loop μ-loop
+long-requires c κs = search needs
+
+loop-holds : tie.Need-loop-holds Inv-loop μ-loop
+loop-holds c = writing-none _ _ _ _
+
+write-at-requires : tie.Need-write-at-requires Inv-loop μ-loop
+write-at-requires c κs = (c .before .before .before .before .before .before .pre .0, c .before .loop-test .taken)
+
+note-requires : tie.Need-note-requires Inv-loop μ-loop
+note-requires c κs = (omega (arith, c .before .before .before .before .long .ensures, c .before .before .before .before .before .before .before .pre .1), rw (c .write-at .ensures, c .before .before .before .loop .inv .size) (c .before .before .before .before .before .before .before .pre .2 .slot _ (c .before .before .loop-test .taken)))
+
+add-s : tie.Need-add-s Inv-loop μ-loop
+add-s c = search needs
+
+loop-less : tie.Need-loop-less Inv-loop μ-loop
+loop-less c = search needs
+
+loop-again : tie.Need-loop-again Inv-loop μ-loop
+loop-again c = writing-more _ (λ v. noted-twice _ v (c .before .before .before .before .before .before .before .before .before .before .pre .1)) _ _ _ _ _ (c .before .before .before .before .before .loop-test .taken) (c .before .before .before .before .before .before .before .before .before .before .pre .2) (c .before .before .before .before .before .before .loop .inv) _ (c .before .before .before .write-at .ensures) (rw (c .before .before .before .before .before .before .before .long .ensures) at (c .before .before .note .ensures))
+
+same-length : tie.Need-same-length Inv-loop μ-loop
+same-length c = c .before .loop .inv .size
+
+returns : tie.Need-returns Inv-loop μ-loop
+returns c = writing-end (c .before .before .before .before .before .pre .0 .within) (c .before .loop .inv) (c .loop-test .left)
+
+pub note-all-spec : {M : Type 1} → statement M
+note-all-spec =
+    tie.close
+    (tie.spec
+    Inv-loop
+    μ-loop
+    long-requires
+    loop-holds
+    write-at-requires
+    note-requires
+    add-s
+    loop-less
+    loop-again
+    same-length
+    returns)

@@ -1,0 +1,59 @@
+-- `regfacts::flags::note_record` meets its contract. Assumes nothing.
+use borrow.Author.Needs.{needs}
+use native.Mathlib.Omega.{arith}
+use mathlib.Core.Path.{sym, _∙_}
+use Rattle.inst.proofs.Firsts.{one-write}
+use Rattle.regfacts.proofs.Soles.{noted-twice}
+use Rattle.regfacts.proofs.Writing.{writing-one}
+use Rattle.regfacts.proofs.flags.note_record.Statement.{statement}
+use Rattle.regfacts.proofs.flags.note_record.Tie as tie
+
+uses-requires : tie.Need-uses-requires
+uses-requires c κs = (c .before .before .pre .0, c .before .before .pre .2 .whole)
+
+later-requires : tie.Need-later-requires
+later-requires c κs = search needs
+
+note-all-requires : tie.Need-note-all-requires
+note-all-requires c κs = (record { within = c .before .before .before .before .before .before .pre .2 .whole .within; uses = c .before .before .before .uses .ensures }, c .before .before .before .before .before .before .pre .1, c .before .before .before .before .before .before .pre .2)
+
+same-length : tie.Need-same-length
+same-length c = c .before .before .note-all .ensures .size
+
+returns : tie.Need-returns
+returns c = c .before .before .note-all .ensures
+
+write-at-requires : tie.Need-write-at-requires
+write-at-requires c κs = (record { within = c .before .before .before .before .before .before .pre .2 .whole .within; uses = c .before .before .before .uses .ensures }, omega arith)
+
+long-requires : tie.Need-long-requires
+long-requires c κs = search needs
+
+note-requires : tie.Need-note-requires
+note-requires c κs = (omega (arith, c .long .ensures, c .before .before .before .before .before .before .before .before .pre .1), rw (c .before .write-at .ensures) (c .before .before .before .before .before .before .before .before .pre .2 .slot 0 (omega arith)))
+
+same-length-2 : tie.Need-same-length-2
+same-length-2 c = c .before .before .note .kept .0
+
+returns-2 : tie.Need-returns-2
+returns-2 c =
+    writing-one _ (λ v. noted-twice _ v (c .before .before .before .before .before .before .before .before .before .before .before .pre .1)) _ _
+    (one-write _ _ _ (record { within = c .before .before .before .before .before .before .before .before .before .before .before .pre .2 .whole .within; uses = c .before .before .before .before .before .before .before .before .uses .ensures }) (sym (c .before .before .before .before .before .before .before .later .ensures) ∙ c .before .before .before .before .before .before .if1 .left) _ (c .before .before .before .before .write-at .ensures))
+    (rw (c .before .before .before .before .write-at .ensures) (c .before .before .before .before .before .before .before .before .before .before .before .pre .2 .slot 0 (omega arith)))
+    (c .before .before .before .before .before .before .before .before .before .before .before .pre .2 .room)
+    (rw (c .before .before .before .long .ensures) at (c .before .before .note .ensures))
+
+pub note-record-spec : {M : Type 1} → statement M
+note-record-spec =
+    tie.close
+    (tie.spec
+    uses-requires
+    later-requires
+    note-all-requires
+    same-length
+    returns
+    write-at-requires
+    long-requires
+    note-requires
+    same-length-2
+    returns-2)

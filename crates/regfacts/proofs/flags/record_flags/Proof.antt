@@ -1,0 +1,54 @@
+-- `regfacts::flags::record_flags` meets its contract. Assumes nothing.
+use mathlib.Core.Path.{_∙_, ap}
+use denote.Ref.{now}
+use Rattle.model.specs.Picture.{inst}
+use Rattle.regfacts.specs.Flags.{flags-in}
+use Rattle.regfacts.proofs.Turned.{address-flags, constant-flags}
+use borrow.Author.Needs.{needs}
+use Rattle.regfacts.proofs.flags.record_flags.Statement.{statement}
+use Rattle.regfacts.proofs.flags.record_flags.Tie as tie
+
+kind-requires : tie.Need-kind-requires
+kind-requires c κs = search needs
+
+form-requires : tie.Need-form-requires
+form-requires c κs = search needs
+
+one-requires : tie.Need-one-requires
+one-requires c κs = search needs
+
+one-requires-2 : tie.Need-one-requires-2
+one-requires-2 c κs = search needs
+
+mul-result : tie.Need-mul-result
+mul-result c = search needs
+
+add-result : tie.Need-add-result
+add-result c = search needs
+
+returns : tie.Need-returns
+returns c = address-flags (inst (now (c .before .before .before .before .before .before .args .recs)) (c .before .before .before .before .before .before .args .q)) (c .before .before .before .before .kind .ensures) (c .before .before .before .if1 .taken) (c .before .before .form .ensures) (c .before .one .ensures .0) (c .one2 .ensures .0)
+
+decode-requires : tie.Need-decode-requires
+decode-requires c κs = search needs
+
+constant-flags-requires : tie.Need-constant-flags-requires
+constant-flags-requires c κs = search needs
+
+returns-2 : tie.Need-returns-2
+returns-2 c = c .constant-flags .ensures ∙ ap flags-in (c .before .decode .ensures) ∙ constant-flags (inst (now (c .before .before .before .before .before .args .recs)) (c .before .before .before .before .before .args .q)) (c .before .before .before .kind .ensures) (c .before .before .if1 .left)
+
+pub record-flags-spec : {M : Type 1} → statement M
+record-flags-spec =
+    tie.close
+    (tie.spec
+    kind-requires
+    form-requires
+    one-requires
+    one-requires-2
+    mul-result
+    add-result
+    returns
+    decode-requires
+    constant-flags-requires
+    returns-2)

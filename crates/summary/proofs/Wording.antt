@@ -1,0 +1,136 @@
+-- A position's fact for what it writes and reads, where it has all, else its record. Assumes nothing.
+use mathlib.Core.Path.{_≡_, refl, sym, ap, ap₂, _∙_, subst}
+use mathlib.Core.Logic.{_⊎_, inl, inr, ⊎-elim}
+use mathlib.Core.Bool.{Bool, true, false, not, _&&_, _||_, cond}
+use mathlib.Core.List.{List, _++_, append-nil}
+use Prim.Native.Nat.{ℕ, _≤_, _<_}
+use native.Mathlib.Omega.{arith}
+use borrow.Author.Tests.{not-true}
+use lib.Dec.{eqb}
+use lib.ListN.{length}
+use Rattle.words.specs.Lists.{In, all}
+use Rattle.model.specs.Picture.{inst, absent, reads, writes}
+use Rattle.inst.specs.Record.{Known, Used, uses-of, present}
+use Rattle.facts.specs.declared.Fact.{Fact}
+use Rattle.legalset.specs.Chain.{Fits, Good, Safe, Brief}
+use Rattle.summary.specs.Passes.{put-in, Stamped, Beside, Written, Readable, Small, Shows}
+use Rattle.summary.proofs.Places.{Placed, all-placed, made}
+use Rattle.summary.proofs.Stamping.{Stamping, stamping-none, stamping-more, stamping-end}
+use Rattle.summary.proofs.Summing.{used-at}
+use Rattle.summary.proofs.Backing.{writes-low}
+use Rattle.summary.proofs.Forwarding.{reads-low}
+
+-- ---- each position of a chain is such
+
+module _ {recs ops w : List ℕ} {n R p : ℕ} (s : Safe recs ops w n R) (h : p < n) {f : Fact} (t : Shows w p f) where
+  pub written : Brief recs ops w n → Written recs R (f .rec) (f .def) (f .more)
+  written b = record {
+    known = subst (Known recs) (t .rec) (s .good p h .known);
+    fits = subst (Fits recs R) (t .rec) (s .good p h .fits);
+    brief = λ e. ap (λ (g : ℕ). writes (inst recs g)) (sym (t .rec)) ∙ b .defs p h (t .more e) ∙ ap present (t .def);
+  }
+
+  pub readable : Brief recs ops w n → Readable recs ops R f
+  readable b = record {
+    good = subst (Good recs ops R) (t .rec) (s .good p h);
+    brief = λ e. ap (λ (g : ℕ). reads ops (inst recs g)) (sym (t .rec)) ∙ b .reads p h (t .more e) ∙ ap₂ (λ (a b : ℕ). present a ++ present b) (t .use0) (t .use1);
+  }
+
+  pub small : Small f
+  small = record {
+    org = subst (λ (x : ℕ). x < 2004) (t .org) (s .org p h);
+    wrote = subst (λ (x : ℕ). x ≤ 2004) (t .wrote) (s .wrote p h);
+    from = subst (λ (x : ℕ). (x ≤ 2004) ⊎ (x ≡ 4294967295)) (t .from) (s .from p h);
+  }
+
+-- ---- what stands in a place is absent or a register
+
+low-at : {l : List ℕ} {g : ℕ → ℕ} {K R k y : ℕ} → Placed l g K → ((r : ℕ) → In r l → r < R) → k < K → y ≡ g k → (y ≡ absent) ⊎ (y < R)
+low-at {g = g} {R = R} {k = k} a f h e = subst (λ (x : ℕ). (x ≡ absent) ⊎ (x < R)) (sym e) (⊎-elim (λ u. inl u) (λ u. inr (f (g k) u)) (a .from k h))
+
+and-end : (b : Bool) → b ≡ (b && true)
+and-end true = refl
+and-end false = refl
+
+-- ---- what record n writes, d where there is not more
+
+module _ {recs : List ℕ} {R n d : ℕ} {more : Bool} (a : Written recs R n d more) where
+  -- by the record, number g
+  pub known-at : {g : ℕ} → g ≡ n → Known recs g
+  known-at e = subst (Known recs) (sym e) (a .known)
+
+  pub slots-at : {g u : ℕ} → g ≡ n → u ≡ uses-of (inst recs g) → Used recs g u × Fits recs R g
+  slots-at e k = (record { within = known-at e .within; uses = k }, subst (Fits recs R) (sym e) (a .fits))
+
+  pub slots-tested : (h : ℕ → Bool) {g : ℕ} {b : Bool} → g ≡ n → b ≡ all h (writes (inst recs g)) → b ≡ all h (writes (inst recs n))
+  slots-tested h e k = k ∙ ap (λ (j : ℕ). all h (writes (inst recs j))) e
+
+  pub slots-stamped : {g keep lo v : ℕ} {st st′ : List ℕ} → g ≡ n → Stamped (writes (inst recs g)) keep lo v st st′ → Stamped (writes (inst recs n)) keep lo v st st′
+  slots-stamped {keep = keep} {lo = lo} {v = v} {st = st} {st′ = st′} e k = subst (λ (j : ℕ). Stamped (writes (inst recs j)) keep lo v st st′) e k
+
+  -- by the fact
+  module _ (t : not more ≡ true) where
+    word-placed : Placed (writes (inst recs n)) (λ k. d) 1
+    word-placed = subst (λ (l : List ℕ). Placed l (λ k. d) 1) (append-nil (present d) ∙ sym (a .brief (not-true more t))) (made (λ k. d) 1)
+
+    pub word-low : (d ≡ absent) ⊎ (d < R)
+    word-low = low-at {k = 0} word-placed (writes-low recs R n (a .fits)) (omega arith) refl
+
+    pub word-tested : (h : ℕ → Bool) {b : Bool} → b ≡ (eqb d absent || h d) → b ≡ all h (writes (inst recs n))
+    word-tested h k = k ∙ and-end (eqb d absent || h d) ∙ sym (all-placed word-placed h)
+
+    pub word-stamped : {keep lo v : ℕ} (st : List ℕ) {st′ : List ℕ} → Beside keep lo v → length st ≡ R → st′ ≡ put-in keep lo v d st → Stamped (writes (inst recs n)) keep lo v st st′
+    word-stamped {keep} {lo} {v} st b s k =
+        let few = subst (λ (m : ℕ). m ≤ 65536) (sym s) (a .fits .few) in
+        let low = subst (λ (m : ℕ). (d ≡ absent) ⊎ (d < m)) (sym s) word-low in
+        stamping-end (stamping-more (stamping-none (λ k. d) keep lo v st) b few refl low k) b few word-placed (omega arith) (omega arith)
+
+-- ---- what the position of fact d reads
+
+module _ {recs ops : List ℕ} {R : ℕ} {d : Fact} (a : Readable recs ops R d) where
+  -- by the record, number g
+  pub good-at : {g : ℕ} → g ≡ d .rec → Good recs ops R g
+  good-at e = subst (Good recs ops R) (sym e) (a .good)
+
+  pub places-at : {g u : ℕ} → g ≡ d .rec → u ≡ uses-of (inst recs g) → Used recs g u × Good recs ops R g
+  places-at e k = let h = good-at e in (used-at h k, h)
+
+  pub places-tested : (h : ℕ → Bool) {g : ℕ} {b : Bool} → g ≡ d .rec → b ≡ all h (reads ops (inst recs g)) → b ≡ all h (reads ops (inst recs (d .rec)))
+  places-tested h e k = k ∙ ap (λ (j : ℕ). all h (reads ops (inst recs j))) e
+
+  pub places-stamped : {g keep lo v : ℕ} {st st′ : List ℕ} → g ≡ d .rec → Stamped (reads ops (inst recs g)) keep lo v st st′ → Stamped (reads ops (inst recs (d .rec))) keep lo v st st′
+  places-stamped {keep = keep} {lo = lo} {v = v} {st = st} {st′ = st′} e k = subst (λ (j : ℕ). Stamped (reads ops (inst recs j)) keep lo v st st′) e k
+
+  -- by the fact
+  module _ (t : not (d .more) ≡ true) where
+    abbrev two : ℕ → ℕ
+    two k = cond (eqb k 0) (d .use0) (d .use1)
+
+    words-placed : Placed (reads ops (inst recs (d .rec))) two 2
+    words-placed = subst (λ (l : List ℕ). Placed l two 2)
+        (ap (λ (l : List ℕ). present (d .use0) ++ l) (append-nil (present (d .use1))) ∙ sym (a .brief (not-true (d .more) t))) (made two 2)
+
+    pub words-low : (k : ℕ) → k < 2 → (two k ≡ absent) ⊎ (two k < R)
+    words-low k h = low-at {k = k} words-placed (reads-low recs ops R (d .rec) (a .good)) h refl
+
+    pub words-tested : (h : ℕ → Bool) {b c : Bool} → b ≡ (eqb (d .use0) absent || h (d .use0)) → c ≡ (eqb (d .use1) absent || h (d .use1)) → (b && c) ≡ all h (reads ops (inst recs (d .rec)))
+    words-tested h k l =
+        ap₂ (λ (i j : Bool). i && j) k (l ∙ and-end (eqb (d .use1) absent || h (d .use1)))
+        ∙ sym (all-placed words-placed h)
+
+    module _ (st : List ℕ) {keep lo v : ℕ} (b : Beside keep lo v) (s : length st ≡ R) where
+      few : length st ≤ 65536
+      few = subst (λ (m : ℕ). m ≤ 65536) (sym s) (a .good .fits .few)
+
+      one-put : {mid : List ℕ} → mid ≡ put-in keep lo v (d .use0) st → Stamping two keep lo v 1 st mid
+      one-put k = stamping-more (stamping-none two keep lo v st) b few refl (subst (λ (m : ℕ). (d .use0 ≡ absent) ⊎ (d .use0 < m)) (sym s) (words-low 0 (omega arith))) k
+
+      words-size : {mid : List ℕ} → mid ≡ put-in keep lo v (d .use0) st → length mid ≡ R
+      words-size k = one-put k .size ∙ s
+
+      pub words-low-on : {mid : List ℕ} → mid ≡ put-in keep lo v (d .use0) st → (d .use1 ≡ absent) ⊎ (d .use1 < length mid)
+      words-low-on k = subst (λ (m : ℕ). (d .use1 ≡ absent) ⊎ (d .use1 < m)) (sym (words-size k)) (words-low 1 (omega arith))
+
+      pub words-stamped : {mid st′ : List ℕ} → mid ≡ put-in keep lo v (d .use0) st → st′ ≡ put-in keep lo v (d .use1) mid → Stamped (reads ops (inst recs (d .rec))) keep lo v st st′
+      words-stamped k l =
+          stamping-end (stamping-more (one-put k) b few refl (words-low-on k) l) b few words-placed (omega arith) (omega arith)
