@@ -19,12 +19,22 @@ extern "C" {
 #define VIRDZEBA_OPERANDS 2048u  /* operands lent at most */
 
 #define VIRDZEBA_SHORT 100u   /* the answer less this: rounds done before the room ran out */
-#define VIRDZEBA_REFUSED 200u /* the answer less this: the cause, 1 to 11 */
+#define VIRDZEBA_REFUSED 200u /* the answer less this: the cause, 1 to 10 */
 #define VIRDZEBA_UNREAD 300u  /* cut short, too long, or past the bounds above */
 
-/* Sinks the picture with so many registers and operands lent. Below VIRDZEBA_SHORT the answer is the rounds that were done,
- * and none is left to do. Done and short write the new picture at the head of `result`; nothing else is written. Both
- * pointers must be to as many bytes as their lengths say, and the two may not overlap. Nothing else is asked of the caller. */
+/* Sinks the picture with so many registers and operands lent.
+ *
+ * Answers: below VIRDZEBA_SHORT the rounds that were done, at most 8. Fewer than 8 means that no move is left, or that a gate
+ * stopped the picture (no blocks; registers times blocks above 2,097,152; no Cat of form 0), which gives 0. After 8 rounds moves
+ * may be left: call again with the result. From VIRDZEBA_SHORT on: the next move needs more registers or operands than were lent,
+ * and the rounds before it are done. From VIRDZEBA_REFUSED on: the picture is malformed, with the lowest cause that is present.
+ * VIRDZEBA_UNREAD: no picture, or past the bounds above.
+ *
+ * Done and short write the new picture at the head of `result`, and nothing behind it; the other answers write nothing.
+ *
+ * Both pointers must be to as many bytes as their lengths say; no alignment is asked, and the two may not overlap. The call
+ * keeps no state: threads may call it at once, each with a result of its own. It takes about 180 KB of stack, more than some
+ * threads have by default: 196,608 bytes are enough. */
 uint32_t virdzeba_sink(const uint8_t *picture, size_t picture_len,
                        uint8_t *result, size_t result_len,
                        uint32_t registers, uint32_t operands);

@@ -11,9 +11,14 @@ use inst::access::Firsts;
 use inst::access::row_at;
 use inst::access::scan;
 use inst::access::uses;
+use inst::kinds::CALL;
+use inst::kinds::CALL_INDIRECT;
+use inst::kinds::CALL_PROT;
+use inst::kinds::SUSPEND;
 use inst::record::form;
 use inst::record::kind;
 use inst::table::arm;
+use model::ABSENT;
 ghost use mathlib.Core.Path.{_≡_};
 ghost use Prim.Native.Nat.{_+_, _<_};
 ghost use Rattle.model.specs.Picture.{inst};
@@ -30,14 +35,14 @@ fn may_suspend(recs: &[u32], g: usize) -> bool
 {
     let k = kind(recs, g);
     let f = form(recs, g);
-    (k == 91) | (k == 60) | (((k == 57) | (k == 61)) & (f == 1))
+    (k == SUSPEND) | (k == CALL_INDIRECT) | (((k == CALL) | (k == CALL_PROT)) & (f == 1))
 }
 
 // Are there more registers than one written and two read?
 fn more(x: Firsts) -> bool
     ensures { λ b. ⌜ b ≡ more x ⌝ }
 {
-    (x.d1 != 4294967295) | (x.r2 != 4294967295)
+    (x.d1 != ABSENT) | (x.r2 != ABSENT)
 }
 
 // Record g's fact: its effect, whether it may suspend, and what it writes and reads.

@@ -2,6 +2,7 @@
 // in the chain, or else from the facts of before round 1. A register's word has all of it, from the lowest bits up: 4 flags of
 // before round 1; 10 bits for the last writer's position and 1, or 0; and where there is a writer, what it left: 11 bits for
 // where that points, as an origin's number, 1 bit if it is a length, 1 bit if it points to a block whose maker is a layout.
+use model::ABSENT;
 use regfacts::flags::at;
 ghost use mathlib.Core.Path.{_≡_};
 ghost use mathlib.Core.Bool.{cond};
@@ -50,7 +51,7 @@ pub fn value_of(regs: &[u64], r: u32, count: usize) -> Value
     requires { ⌜ (count ≤ length (now regs)) × Reg? count r ⌝ }
     ensures { λ x. ⌜ ((n : ℕ) → Ranged count n (now (regs .entry)) → (x .org < 4 + 2 * n) × ((G : Facts) (past : List Fact) → length past ≡ n → Marked G past count (now (regs .entry)) → Valued G past r x)) ⌝ }
 {
-    if r == 4294967295 {
+    if r == ABSENT {
         return Value {
             org: 0,
             len: false,
@@ -73,7 +74,7 @@ pub fn is_divisor(regs: &[u64], r: u32, count: usize) -> bool
     requires { ⌜ (count ≤ length (now regs)) × (count ≤ 65536) × Reg? count r ⌝ }
     ensures { λ b. ⌜ ((G : Facts) → Seen G count (now (regs .entry)) → b ≡ when-some positive (known-of G r .konst)) ⌝ }
 {
-    if r == 4294967295 {
+    if r == ABSENT {
         return false;
     }
     regs[at(r)] / 8 % 2 == 1

@@ -2,6 +2,7 @@
 // word, over its flags (see look.rt).
 use inst::access::Firsts;
 use inst::access::write_at;
+use model::ABSENT;
 use regfacts::flags::at;
 ghost use mathlib.Core.Path.{_≡_};
 ghost use mathlib.Core.Logic.{_⊎_};
@@ -49,7 +50,7 @@ fn mark(regs: &mut [u64], r: u32, d: u64)
     requires { ⌜ (d < 16777216) × ((r ≡ absent) ⊎ (r < length (now regs))) ⌝ }
     ensures { λ _. ⌜ now (regs .exit) ≡ put-in (marked d) r (now (regs .entry)) ⌝ }
 {
-    if r != 4294967295 {
+    if r != ABSENT {
         let k = at(r);
         regs[k] = 16 * d + regs[k] % 16;
     }
@@ -72,7 +73,7 @@ pub fn mark_record(recs: &[u32], regs: &mut [u64], x: Firsts, g: usize, uses: u3
     requires { ⌜ Used (now recs) g uses × (d < 16777216) × Fits (now recs) (length (now regs)) g × (x .d0 ≡ getD (writes (inst (now recs) g)) 0 absent) × (x .d1 ≡ getD (writes (inst (now recs) g)) 1 absent) ⌝ }
     ensures { λ _. ⌜ Written (marked d) (inst (now (recs .entry)) g) (now (regs .entry)) (now (regs .exit)) ⌝ }
 {
-    if x.d1 == 4294967295 {
+    if x.d1 == ABSENT {
         mark(regs, x.d0, d);
         return;
     }

@@ -2,6 +2,8 @@
 // or none, and the caller stops on none.
 use inst::index::BlockId;
 use inst::index::MaybeBlock;
+use inst::kinds::BR;
+use inst::kinds::COND_BR;
 use inst::record::kind;
 use inst::record::wide;
 use inst::record::word;
@@ -200,10 +202,10 @@ pub fn end_of(bounds: &[u32], recs: &[u32], b: usize) -> Ending
     }
     let p = wide(e - 1);
     let k = kind(recs, p);
-    if k == 52 {
+    if k == BR {
         return Ending::Goes(word(recs, p, 9));
     }
-    if k == 53 {
+    if k == COND_BR {
         return Ending::Parts(word(recs, p, 9), word(recs, p, 10));
     }
     Ending::Stops

@@ -9,6 +9,8 @@ use facts::fact_at;
 use inst::record::wide;
 use lastuse::uses::last_readers;
 use lastuse::uses::last_use;
+use model::CHAIN_WORDS;
+use model::RECORDS;
 ghost use mathlib.Core.Path.{_≡_};
 ghost use Prim.Native.Nat.{_+_, _*_, _≤_, _<_};
 ghost use lib.ListN.{length, getD, take, drop};
@@ -54,12 +56,12 @@ pub fn put_facts(facts: &[Fact], work32: &mut [u32], n: usize)
 }
 
 // Each position itself.
-fn own_places(lasts: &mut [u32; 800])
+fn own_places(lasts: &mut [u32; RECORDS])
     requires { ⌜ length (now lasts) ≡ 800 ⌝ }
     ensures { λ _. ⌜ Own (now (lasts .exit)) ⌝ }
 {
     let mut p = 0usize;
-    while p < 800 {
+    while p < RECORDS {
         lasts[p] = p as u32;
         p += 1;
     }
@@ -72,7 +74,7 @@ fn find_readers(
     ops: &[u32],
     bounds: &[u32],
     work64: &mut [u64],
-    lasts: &mut [u32; 800],
+    lasts: &mut [u32; RECORDS],
     c: Chain,
     blocks: u32,
     st: usize,
@@ -92,7 +94,7 @@ fn find_use(
     recs: &[u32],
     work64: &[u64],
     work32: &[u32],
-    lasts: &[u32; 800],
+    lasts: &[u32; RECORDS],
     r: usize,
     o: usize,
     p: usize,
@@ -102,8 +104,8 @@ fn find_use(
     ensures { λ u. ⌜ u ≡ use-of (now (recs .entry)) (take r (drop 8000 (now (work32 .entry)))) (now (work64 .entry)) o (now (lasts .entry)) n (getD (now (work32 .entry)) (10 * p) 0) p ⌝ }
 {
     let g = wide(work32[10 * p]);
-    let e = 8000 + r;
-    last_use(t, recs, &work32[8000..e], work64, o, lasts, g, p, n)
+    let e = CHAIN_WORDS + r;
+    last_use(t, recs, &work32[CHAIN_WORDS..e], work64, o, lasts, g, p, n)
 }
 
 // Word 7 of the first m positions: their last uses.
@@ -112,7 +114,7 @@ fn put_lasts(
     recs: &[u32],
     work64: &[u64],
     work32: &mut [u32],
-    lasts: &[u32; 800],
+    lasts: &[u32; RECORDS],
     r: usize,
     o: usize,
     m: usize,
@@ -151,7 +153,7 @@ pub fn put_uses(
     }
     let r = wide(s.regs);
     let st = at_regs(s) + s.lent;
-    let mut lasts = [0u32; 800];
+    let mut lasts = [0u32; RECORDS];
     find_readers(t, recs, ops, bounds, work64, &mut lasts, c, s.blocks, st, r);
     let o = into * width(r);
     put_lasts(t, recs, work64, work32, &lasts, r, o, m, n);

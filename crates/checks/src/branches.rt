@@ -1,6 +1,8 @@
 // Cause 7 (01, "The call", the table): every branch of a record, wherever it stands in its block, every case target word,
 // covered by a pair or not, and every case pair.
 use crate::lists::any_from;
+use inst::kinds::BR;
+use inst::kinds::COND_BR;
 use inst::record::kind;
 use inst::record::wide;
 use inst::record::word;
@@ -9,11 +11,6 @@ ghost use Rattle.model.specs.Picture.{inst};
 ghost use Rattle.model.specs.Refusal.{bad-branch, bad-pairs};
 ghost use Rattle.inst.specs.Record.{Within};
 ghost use Rattle.checks.specs.Causes.{bad-targets};
-
-// The kinds named here.
-const BR: u32 = 52;
-
-const COND_BR: u32 = 53;
 
 // A branch to no block.
 pub fn bad_branch(recs: &[u32], p: usize, blocks: usize) -> bool

@@ -2,6 +2,7 @@
 // the causes are looked at one by one only in the others.
 use inst::access::row_at;
 use inst::access::uses;
+use inst::kinds::LAST;
 use inst::record::form;
 use inst::record::kind;
 use inst::record::list_len;
@@ -12,6 +13,7 @@ use inst::table::least;
 use inst::table::most;
 use inst::table::shape;
 use inst::table::two_bits;
+use model::ABSENT;
 ghost use mathlib.Core.Path.{_≡_};
 ghost use Prim.Native.Nat.{_*_, _≤_, _<_};
 ghost use lib.ListN.{length};
@@ -19,9 +21,6 @@ ghost use Rattle.model.specs.Picture.{inst};
 ghost use Rattle.inst.specs.Table.{rows};
 ghost use Rattle.inst.specs.Record.{Within};
 ghost use Rattle.checks.specs.Plain.{simple, bare, odd-slot, usual, plain, Skipped};
-
-// What a slot holds that names no register.
-const ABSENT: u32 = 4294967295;
 
 // A kind of this row has neither a list nor successors, and may have this form.
 fn simple(row: u32, form: u32) -> bool
@@ -68,7 +67,7 @@ pub fn plain(t: &[u32; 202], recs: &[u32], p: usize, regs: u32) -> bool
     requires { ⌜ (now t ≡ rows) × Within (now recs) p ⌝ }
     ensures { λ b. ⌜ b ≡ plain regs (inst (now (recs .entry)) p) ⌝ }
 {
-    if 100 < kind(recs, p) {
+    if LAST < kind(recs, p) {
         return false;
     }
     if simple(row_at(t, recs, p), form(recs, p)) & bare(recs, p) {

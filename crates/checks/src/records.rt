@@ -1,6 +1,9 @@
 // Causes 4, 5 and 8 (01, "The call", the table): what a record must be by itself. Cause 4 is tested first, so the others
 // may look its kind up in the table.
 use inst::access::wanted;
+use inst::kinds::CAT;
+use inst::kinds::LAST;
+use inst::kinds::SIG_GATHER;
 use inst::record::form;
 use inst::record::kind;
 use inst::record::list_len;
@@ -10,6 +13,7 @@ use inst::table::least;
 use inst::table::most;
 use inst::table::row;
 use inst::table::two_bits;
+use model::ABSENT;
 ghost use mathlib.Core.Path.{_≡_};
 ghost use Prim.Native.Nat.{_+_, _<_};
 ghost use lib.ListN.{getD};
@@ -20,20 +24,13 @@ ghost use Rattle.inst.specs.Table.{rows};
 ghost use Rattle.inst.specs.Record.{Within, Known, asks-of, bad-at};
 ghost use Rattle.checks.specs.Causes.{bad-regs, long-cat};
 
-// The kinds named here, and what a slot holds that names no register.
-const CAT: u32 = 39;
-
-const SIG_GATHER: u32 = 74;
-
-const ABSENT: u32 = 4294967295;
-
 // 4: its kind, form or scalars are not allowed.
 pub fn bad_kind(t: &[u32; 202], recs: &[u32], p: usize) -> bool
     requires { ⌜ (now t ≡ rows) × Within (now recs) p ⌝ }
     ensures { λ r. ⌜ r ≡ bad-kind (inst (now (recs .entry)) p) ⌝ }
 {
     let k = kind(recs, p);
-    if 100 < k {
+    if LAST < k {
         return true;
     }
     let f = form(recs, p);

@@ -7,6 +7,7 @@ use inst::access::read_at;
 use inst::access::uses;
 use inst::access::write_at;
 use inst::record::wide;
+use model::ABSENT;
 use words::bits::set_in;
 use words::bits::unset_in;
 ghost use mathlib.Core.Path.{_≡_};
@@ -25,7 +26,7 @@ fn write_one(bits: &mut [u64], u: usize, d: usize, r: u32)
     requires { ⌜ (u ≤ length (now bits)) × (d ≤ length (now bits)) ⌝ }
     ensures { λ _. ⌜ now (bits .exit) ≡ steps (wrote u d) (now (bits .entry)) (present r) ⌝ }
 {
-    if r == 4294967295 {
+    if r == ABSENT {
         return;
     }
     let q = wide(r);
@@ -38,7 +39,7 @@ fn read_one(bits: &mut [u64], u: usize, r: u32)
     requires { ⌜ u ≤ length (now bits) ⌝ }
     ensures { λ _. ⌜ now (bits .exit) ≡ steps (put u) (now (bits .entry)) (present r) ⌝ }
 {
-    if r == 4294967295 {
+    if r == ABSENT {
         return;
     }
     set_in(bits, u, wide(r));

@@ -9,8 +9,10 @@ ghost use mathlib.Core.Bool.{true, false};
 ghost use Prim.Native.Nat.{_≤_};
 ghost use Rattle.effects.specs.Arms.{effect-of, Right, Small, leads};
 
-// Class 0 No, 1 Movable, 2 Free; the memory written and the memory read as 0 for none or an origin and 1; the pieces of a Cat
-// are 4294967295, to be looked up again.
+// What stands for the pieces that a Cat reads, to be looked up again.
+pub const PIECES: u32 = 4294967295;
+
+// Class 0 No, 1 Movable, 2 Free; the memory written and the memory read as 0 for none or an origin and 1, or PIECES.
 pub struct Effect {
     pub class: u32,
     pub org: u32,
@@ -141,7 +143,7 @@ fn from_16(a: u32, x: Input) -> Effect
     ensures { λ r. ⌜ Right r a x ⌝ }
 {
     if a < 17 {
-        return writes(1, x.o0 + 1, 4294967295);
+        return writes(1, x.o0 + 1, PIECES);
     }
     if a < 18 {
         return native(x);

@@ -9,6 +9,7 @@ use crate::table::asks;
 use crate::table::row;
 use crate::table::two_bits;
 use crate::table::used;
+use model::ABSENT;
 ghost use mathlib.Core.Path.{_≡_};
 ghost use mathlib.Core.List.{List, [], _++_};
 ghost use lib.ListN.{getD};
@@ -52,7 +53,7 @@ pub fn read_at(recs: &[u32], p: usize, uses: u32, s: usize) -> u32
     if two_bits(uses, s as u32) % 2 == 1 {
         return slot(recs, p, s);
     }
-    4294967295
+    ABSENT
 }
 
 // The register that slot s writes, or absent.
@@ -63,7 +64,7 @@ pub fn write_at(recs: &[u32], p: usize, uses: u32, s: usize) -> u32
     if two_bits(uses, s as u32) / 2 == 1 {
         return slot(recs, p, s);
     }
-    4294967295
+    ABSENT
 }
 
 // Does a slot after the first write? Few kinds have one.
@@ -145,7 +146,7 @@ fn nth_of(xs: &[u32], k: usize) -> u32
     if k < xs.len() {
         return xs[k];
     }
-    4294967295
+    ABSENT
 }
 
 // The first three registers that a record reads, slots first and then its list, and the first two that it writes; absent
@@ -169,8 +170,8 @@ fn of_list(xs: &[u32]) -> Firsts
         r0: r0,
         r1: r1,
         r2: r2,
-        d0: 4294967295,
-        d1: 4294967295,
+        d0: ABSENT,
+        d1: ABSENT,
     }
 }
 
@@ -178,7 +179,7 @@ fn of_list(xs: &[u32]) -> Firsts
 fn read_first(x: Firsts, r: u32) -> Firsts
     ensures { λ y. ⌜ ((rs ds : List ℕ) → Heads rs ds x → Heads (present r ++ rs) ds y) ⌝ }
 {
-    if r == 4294967295 {
+    if r == ABSENT {
         return x;
     }
     Firsts {
@@ -194,7 +195,7 @@ fn read_first(x: Firsts, r: u32) -> Firsts
 fn written_first(x: Firsts, r: u32) -> Firsts
     ensures { λ y. ⌜ ((rs ds : List ℕ) → Heads rs ds x → Heads rs (present r ++ ds) y) ⌝ }
 {
-    if r == 4294967295 {
+    if r == ABSENT {
         return x;
     }
     Firsts {

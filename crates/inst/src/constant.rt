@@ -1,5 +1,7 @@
 // The constant of a record (01, "A constant is a whole number or a float, and the float keeps its bits": an enum decoded
 // from Const or ConstF records, words 9 and 10, low half first). A float that is no number keeps its bits as they are.
+use crate::kinds::CONST;
+use crate::kinds::CONST_F;
 use crate::record::kind;
 use crate::record::word;
 ghost use mathlib.Core.Path.{_≡_};
@@ -59,10 +61,10 @@ pub fn decode(recs: &[u32], p: usize) -> Constant
 {
     let k = kind(recs, p);
     let n = bits(recs, p);
-    if k == 0 {
+    if k == CONST {
         return Constant::Whole(signed(n));
     }
-    if k != 1 {
+    if k != CONST_F {
         return Constant::Not;
     }
     if is_nan(n) {

@@ -4,6 +4,8 @@ use chains::chain::Chain;
 use chains::cursor::first;
 use chains::cursor::next;
 use legality::rules::unneeded_slots;
+use model::ABSENT;
+use model::RECORDS;
 use summary::chain::places;
 use summary::chain::read_place;
 use summary::stamps::put_slots;
@@ -21,11 +23,11 @@ ghost use Rattle.legalset.specs.Chain.{Fits, Good};
 ghost use Rattle.lastuse.specs.Uses.{note-in, Noticed, ReadOn, Legible, ReadersAlong};
 
 // Position q reads register r, if it is one: r's writer has a reader.
-fn note(st: &[u64], lasts: &mut [u32; 800], r: u32, q: u32)
+fn note(st: &[u64], lasts: &mut [u32; RECORDS], r: u32, q: u32)
     requires { ⌜ ((r ≡ absent) ⊎ (r < length (now st))) × ((x : ℕ) → x < length (now st) → getD (now st) x 0 ≤ 800) ⌝ }
     ensures { λ _. ⌜ now (lasts .exit) ≡ note-in (now (st .entry)) r q (now (lasts .entry)) ⌝ }
 {
-    if r == 4294967295 {
+    if r == ABSENT {
         return;
     }
     let k = inst::record::wide(r);
@@ -44,7 +46,7 @@ fn note_places(
     g: usize,
     uses: u32,
     st: &[u64],
-    lasts: &mut [u32; 800],
+    lasts: &mut [u32; RECORDS],
     q: u32,
 )
     requires { ⌜ Used (now recs) g uses × Good (now recs) (now ops) (length (now st)) g × ((x : ℕ) → x < length (now st) → getD (now st) x 0 ≤ 800) × (length (now lasts) ≡ 800) ⌝ }
@@ -65,7 +67,7 @@ fn read_on(
     recs: &[u32],
     ops: &[u32],
     st: &mut [u64],
-    lasts: &mut [u32; 800],
+    lasts: &mut [u32; RECORDS],
     g: usize,
     q: usize,
 )
@@ -84,7 +86,7 @@ pub fn last_readers(
     ops: &[u32],
     bounds: &[u32],
     st: &mut [u64],
-    lasts: &mut [u32; 800],
+    lasts: &mut [u32; RECORDS],
     c: Chain,
     blocks: u32,
 )
@@ -109,7 +111,7 @@ pub fn last_use(
     regs: &[u32],
     bits: &[u64],
     o: usize,
-    lasts: &[u32; 800],
+    lasts: &[u32; RECORDS],
     g: usize,
     p: usize,
     n: usize,

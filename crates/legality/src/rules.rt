@@ -2,7 +2,9 @@
 // word a register: below 1024 its last kept writer, 1024 if it is awaited, from 2048 on what is asked of its last writer, of `backward` and
 // `forward`.
 // `sus`, `bar` and `lasts` are of `notes`. Rules 1 to 3 ask of the fact where it has all that the position writes and reads, else of the record.
+use effects::arms::PIECES;
 use facts::Fact;
+use model::ABSENT;
 use summary::chain::places;
 use summary::chain::read_place;
 ghost use mathlib.Core.Path.{_≡_};
@@ -24,7 +26,7 @@ fn free(st: &[u64], r: u32) -> bool
     requires { ⌜ (r ≡ absent) ⊎ (r < length (now st)) ⌝ }
     ensures { λ b. ⌜ b ≡ (eqb r absent || leb (getD (now (st .entry)) r 0) 1023) ⌝ }
 {
-    if r == 4294967295 {
+    if r == ABSENT {
         return true;
     }
     let k = inst::record::wide(r);
@@ -64,7 +66,7 @@ fn unneeded(regs: &[u32], bits: &[u64], o: usize, r: u32, p: usize) -> bool
     requires { ⌜ ((r ≡ absent) ⊎ (r < length (now regs))) × (p < 800) × (o ≤ length (now bits)) ⌝ }
     ensures { λ b. ⌜ b ≡ (eqb r absent || result-test (now (regs .entry)) (now (bits .entry)) o p r) ⌝ }
 {
-    if r == 4294967295 {
+    if r == ABSENT {
         return true;
     }
     let k = inst::record::wide(r);
@@ -120,7 +122,7 @@ fn read_ok(st: &[u64], r: u32, p: usize) -> bool
     requires { ⌜ ((r ≡ absent) ⊎ (r < length (now st))) × (p < 800) ⌝ }
     ensures { λ b. ⌜ b ≡ place-test (now (st .entry)) p r ⌝ }
 {
-    if r == 4294967295 {
+    if r == ABSENT {
         return true;
     }
     let k = inst::record::wide(r);
@@ -262,7 +264,7 @@ fn froms_ok(
     if x == 0 {
         return true;
     }
-    if x != 4294967295 {
+    if x != PIECES {
         return org_ok(lasts, bar, p, x - 1);
     }
     let g = inst::record::wide(f.rec);

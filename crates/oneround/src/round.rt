@@ -6,6 +6,7 @@ use chainwords::sizes::width;
 use flow::rows::all_rows;
 use flow::rows::block_rows;
 use inst::record::wide;
+use model::CHAIN_WORDS;
 use trial::block::Move;
 ghost use mathlib.Core.Path.{_≡_};
 ghost use Prim.Native.Nat.{_≤_};
@@ -60,7 +61,7 @@ fn count_needs(
         ops,
         wide(opers),
         &mut work64[a..a + lent],
-        &mut work32[..8000],
+        &mut work32[..CHAIN_WORDS],
         mv.from,
         mv.into,
         mv.inside,
@@ -204,7 +205,7 @@ pub fn round(
             ops,
             wide(opers),
             &mut work64[a..a + k],
-            &work32[..8000],
+            &work32[..CHAIN_WORDS],
             m.from,
             m.into,
             m.inside,

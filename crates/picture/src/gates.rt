@@ -1,5 +1,6 @@
 // The three gates of an accepted picture (01, "The call"): no blocks; registers × blocks above 2,097,152; no Cat with
 // `logic` false.
+use inst::kinds::CAT;
 use inst::record::form;
 use inst::record::kind;
 use inst::record::wide;
@@ -13,9 +14,7 @@ ghost use Rattle.model.specs.Pass.{gated};
 ghost use Rattle.inst.specs.Record.{Within};
 ghost use Rattle.checks.specs.Causes.{code, plain-cat, picture-of};
 
-// The kind named here, and registers times blocks above which nothing is tried.
-const CAT: u32 = 39;
-
+// Registers times blocks above which nothing is tried.
 const BUDGET: usize = 2097152;
 
 // A Cat of form 0.

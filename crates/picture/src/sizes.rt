@@ -1,6 +1,8 @@
 // Causes 1, 2 and 10 (01, "The call", the table; work sizes under "Port order and sizes", records under "What changes
 // shape"), by lengths alone: they are tested before anything is indexed, and no product can wrap.
 use inst::record::wide;
+use model::CHAIN_WORDS;
+use model::RECORDS;
 ghost use mathlib.Core.Path.{_≡_};
 ghost use Prim.Native.Nat.{_/_, _≤_};
 ghost use Rattle.checks.specs.Causes.{too-many, unlike, too-short};
@@ -42,6 +44,6 @@ pub fn too_short(nb: usize, nt: usize, w64: usize, w32: usize, records: usize) -
     ensures { λ r. ⌜ r ≡ too-short nb nt w64 w32 records ⌝ }
 {
     (w64 < 4 * (nb / 2) * ((nt + 63) / 64) + 2 * nt)
-        | (w32 < 8 * nt + 16 * (nb / 2) + 8000)
-        | (records < 800)
+        | (w32 < 8 * nt + 16 * (nb / 2) + CHAIN_WORDS)
+        | (records < RECORDS)
 }

@@ -2,6 +2,7 @@
 // 7 its last use, word 8 the register it writes or absent, and word 9, which is written here, its new register or absent.
 use crate::turn::Count;
 use crate::turn::turn;
+use model::ABSENT;
 ghost use mathlib.Core.Path.{_≡_};
 ghost use Prim.Native.Nat.{_+_, _*_, _≤_, _<_};
 ghost use lib.ListN.{length};
@@ -29,7 +30,7 @@ fn position(
 {
     let b = 10 * p;
     if w[b + 6] == 0 {
-        w[b + 9] = 4294967295;
+        w[b + 9] = ABSENT;
         return n;
     }
     let g = turn(pool, n, narrow(p), w[b + 7], w[b + 8], types);

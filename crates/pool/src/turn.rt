@@ -3,6 +3,7 @@
 use crate::free::find;
 use crate::free::remove;
 use crate::held::release;
+use model::ABSENT;
 ghost use mathlib.Core.Path.{_≡_};
 ghost use Prim.Native.Nat.{_+_, _≤_, _<_};
 ghost use lib.ListN.{length, getD};
@@ -80,7 +81,7 @@ pub fn turn(pool: &mut [u32], n: Count, p: u32, until: u32, d: u32, types: &[u32
     let nf = n.nf;
     let next = n.next;
     let g = release(pool, nh, nf, p);
-    if d == 4294967295 {
+    if d == ABSENT {
         return Given {
             reg: d,
             n: Count {

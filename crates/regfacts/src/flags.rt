@@ -8,6 +8,7 @@ use inst::constant::Constant;
 use inst::constant::decode;
 use inst::record::form;
 use inst::record::kind;
+use model::ABSENT;
 ghost use mathlib.Core.Path.{_≡_};
 ghost use mathlib.Core.Logic.{_⊎_};
 ghost use Prim.Native.Nat.{ℕ, _*_, _≤_, _<_};
@@ -19,6 +20,9 @@ ghost use Rattle.inst.specs.Record.{Within, Used};
 ghost use Rattle.regfacts.specs.Written.{put-in, Fits, Written};
 ghost use Rattle.effects.specs.Origin.{num};
 ghost use Rattle.regfacts.specs.Flags.{noted, many, Soles, flags-of, flags-in, sole-of, Found};
+
+// The word of a register that more than one record writes.
+const SEVERAL: u64 = 4294967295;
 
 // A register.
 pub fn at(r: u32) -> usize
@@ -34,7 +38,7 @@ pub fn long(p: usize) -> u64
     p as u64
 }
 
-// A writer's word after a write by record p: 0 none, q + 1 record q, 4294967295 more than one.
+// A writer's word after a write by record p: 0 none, q + 1 record q, SEVERAL more than one.
 fn next(v: u64, p: u64) -> u64
     requires { ⌜ p < 32768 ⌝ }
     ensures { λ r. ⌜ r ≡ noted p v ⌝ }
@@ -45,7 +49,7 @@ fn next(v: u64, p: u64) -> u64
     if v == p + 1 {
         return v;
     }
-    4294967295
+    SEVERAL
 }
 
 // Record p writes register w, if that is one.
@@ -53,7 +57,7 @@ fn note(regs: &mut [u64], w: u32, p: u64)
     requires { ⌜ (p < 32768) × ((w ≡ absent) ⊎ (w < length (now regs))) ⌝ }
     ensures { λ _. ⌜ now (regs .exit) ≡ put-in (noted p) w (now (regs .entry)) ⌝ }
 {
-    if w != 4294967295 {
+    if w != ABSENT {
         let r = at(w);
         regs[r] = next(regs[r], p);
     }
@@ -159,7 +163,7 @@ fn flags(recs: &[u32], v: u64) -> u64
     requires { ⌜ (v ≡ many) ⊎ (16 * v ≤ length (now recs)) ⌝ }
     ensures { λ r. ⌜ r ≡ flags-of (sole-of (now (recs .entry)) v) ⌝ }
 {
-    if (v == 0) | (v == 4294967295) {
+    if (v == 0) | (v == SEVERAL) {
         return 0;
     }
     let q = (v - 1) as usize;

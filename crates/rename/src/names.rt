@@ -1,6 +1,7 @@
 // A word for each register, its new name or absent (01, "The move").
 use inst::access::write_at;
 use inst::record::wide;
+use model::ABSENT;
 ghost use mathlib.Core.Path.{_≡_};
 ghost use Prim.Native.Nat.{ℕ, _%_, _<_};
 ghost use lib.ListN.{length, replicate};
@@ -24,7 +25,7 @@ fn long(x: u32) -> u64
 pub fn or(w: u32, x: u32) -> u32
     ensures { λ r. ⌜ r ≡ reg-or w x ⌝ }
 {
-    if w == 4294967295 {
+    if w == ABSENT {
         return x;
     }
     w
@@ -43,7 +44,7 @@ pub fn put(names: &mut [u64], w: u32, nw: u32)
     requires { ⌜ ((w ≡ 4294967295 → ⊥) → w < length (now names)) ⌝ }
     ensures { λ _. ⌜ now (names .exit) ≡ put-name (now (names .entry)) w nw ⌝ }
 {
-    if w == 4294967295 {
+    if w == ABSENT {
         return;
     }
     names[wide(w)] = long(nw);
@@ -55,7 +56,7 @@ pub fn clear(names: &mut [u64])
 {
     let mut i = 0;
     while i < names.len() {
-        names[i] = 4294967295;
+        names[i] = ABSENT;
         i += 1;
     }
 }
@@ -68,7 +69,7 @@ pub fn forget(recs: &[u32], p: usize, uses: u32, names: &mut [u64])
 {
     let mut s = 0usize;
     while s < 5 {
-        put(names, write_at(recs, p, uses, s), 4294967295);
+        put(names, write_at(recs, p, uses, s), ABSENT);
         s += 1;
     }
 }

@@ -2,6 +2,7 @@
 use crate::names::name;
 use crate::names::or;
 use inst::table::two_bits;
+use model::ABSENT;
 ghost use mathlib.Core.Path.{_≡_};
 ghost use Prim.Native.Nat.{ℕ, _+_, _*_, _<_};
 ghost use lib.ListN.{length, getD};
@@ -13,7 +14,7 @@ fn slot_word(w: u32, does: u32, names: &[u64], nw: u32) -> u32
     requires { ⌜ ((w ≡ 4294967295 → ⊥) → w < length (now names)) ⌝ }
     ensures { λ r. ⌜ r ≡ slotted does (now (names .entry)) nw w ⌝ }
 {
-    if w == 4294967295 {
+    if w == ABSENT {
         return w;
     }
     if does == 1 {

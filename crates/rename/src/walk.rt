@@ -5,6 +5,7 @@ use crate::names::put;
 use crate::remake::remake;
 use inst::access::uses;
 use inst::record::wide;
+use model::ABSENT;
 ghost use mathlib.Core.Path.{_≡_};
 ghost use Prim.Native.Nat.{_-_};
 ghost use Rattle.inst.specs.Table.{rows};
@@ -108,7 +109,7 @@ fn own(
     ensures { λ r. ⌜ Owned q o (now (names .entry)) (now (names .exit)) (now (recs .entry)) (now (recs .exit)) (now (ops .entry)) (now (ops .exit)) r ⌝ }
 {
     let does = uses(t, recs, q);
-    let r = remake(recs, q, does, ops, u, o, names, 4294967295);
+    let r = remake(recs, q, does, ops, u, o, names, ABSENT);
     forget(recs, q, does, names);
     r
 }

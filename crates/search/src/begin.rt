@@ -5,6 +5,7 @@ use cfg::graph::find_preds;
 use chainwords::sizes::width;
 use flow::rows::all_rows;
 use inst::record::wide;
+use model::CHAIN_WORDS;
 use regfacts::flags::find_facts;
 ghost use mathlib.Core.Path.{_≡_};
 ghost use Rattle.inst.specs.Table.{rows};
@@ -28,7 +29,7 @@ pub fn begin<'a>(
 {
     let b = bounds.len() / 2;
     let a = 4 * b * width(lent);
-    let p = 8000 + lent;
+    let p = CHAIN_WORDS + lent;
     all_rows(work64, t, bounds, recs, ops, width(wide(regs)));
     find_facts(t, recs, &mut work64[a..a + lent], insts);
     find_preds(&mut work32[p..p + 2 * b], t, bounds, recs, pairs, targets);

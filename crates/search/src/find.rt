@@ -10,6 +10,7 @@ use flow::live::live_in;
 use inst::index::BlockId;
 use inst::index::MaybeBlock;
 use inst::record::wide;
+use model::CHAIN_WORDS;
 use worth::look::worth_a_look;
 ghost use mathlib.Core.Path.{_≡_};
 ghost use Prim.Native.Nat.{_≤_, _<_};
@@ -64,7 +65,7 @@ pub fn look_from(
     if bounds[2 * k + 1] - bounds[2 * k] <= Sink::MIN_REPLAY {
         return MaybeLook::Not;
     }
-    let p = 8000 + s.lent;
+    let p = CHAIN_WORDS + s.lent;
     let MaybeChain::Is(c) = find_chain(bounds, recs, &work32[p..], x, s.blocks) else {
         return MaybeLook::Not;
     };

@@ -2,6 +2,7 @@
 use crate::sink_rounds;
 use driver::rounds::Ran;
 use facts::Fact;
+use model::RECORDS;
 ghost use lib.ListN.{length};
 ghost use Rattle.model.specs.Refusal.{records};
 ghost use Rattle.sink.specs.Sink.{outcome, cause};
@@ -43,7 +44,7 @@ pub fn sink_here(
         suspends: false,
         member: false,
     };
-    let mut facts = [none; 800];
+    let mut facts = [none; RECORDS];
     sink_rounds(
         bounds,
         recs,

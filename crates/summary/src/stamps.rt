@@ -3,6 +3,7 @@
 use crate::chain::places;
 use crate::chain::read_place;
 use facts::Fact;
+use model::ABSENT;
 ghost use mathlib.Core.Path.{_≡_};
 ghost use mathlib.Core.Logic.{_⊎_};
 ghost use Prim.Native.Nat.{ℕ, _+_, _%_, _<_, _≤_};
@@ -30,7 +31,7 @@ fn put(st: &mut [u64], r: u32, keep: u64, lo: u64, v: u64)
     requires { ⌜ ((r ≡ absent) ⊎ (r < length (now st))) × Beside keep lo v ⌝ }
     ensures { λ _. ⌜ now (st .exit) ≡ put-in keep lo v r (now (st .entry)) ⌝ }
 {
-    if r != 4294967295 {
+    if r != ABSENT {
         let k = inst::record::wide(r);
         st[k] = over(st[k], keep, lo, v);
     }

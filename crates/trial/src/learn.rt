@@ -5,6 +5,7 @@ use chains::chain::Chain;
 use chainwords::sizes::Sizes;
 use chainwords::sizes::at_regs;
 use facts::Fact;
+use model::CHAIN_WORDS;
 ghost use mathlib.Core.Path.{_≡_};
 ghost use Prim.Native.Nat.{_+_, _*_, _≤_, _<_};
 ghost use lib.ListN.{length};
@@ -19,7 +20,7 @@ fn copy_regs(work64: &[u64], work32: &mut [u32], a: usize, r: usize)
 {
     let mut i = 0usize;
     while i < r {
-        work32[8000 + i] = (work64[a + i] % 16384) as u32;
+        work32[CHAIN_WORDS + i] = (work64[a + i] % 16384) as u32;
         i += 1;
     }
 }

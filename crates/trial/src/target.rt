@@ -9,6 +9,7 @@ use chainwords::sizes::width;
 use facts::Fact;
 use inst::index::BlockId;
 use inst::record::wide;
+use model::CHAIN_WORDS;
 use plan::set::legal_set;
 use plan::settle::Cycle;
 use worth::needed::put_needed;
@@ -79,15 +80,15 @@ fn take_aim<'a>(
     let w = width(wide(s.regs));
     let o = b * w + b * w;
     let st = at_regs(s) + s.lent;
-    let end = 8000 + wide(s.regs);
-    let k = 8000 + s.lent;
+    let end = CHAIN_WORDS + wide(s.regs);
+    let k = CHAIN_WORDS + s.lent;
     let wanted = (least != 0) & c.is_target(&work32[k..], into, s.blocks);
     if !wanted {
         let none = from_start(o, st, 0, 0, 1);
         return Aim {
             least: 0,
             into: into.at(),
-            end: 8000,
+            end: CHAIN_WORDS,
             sweeps: none,
         };
     }
@@ -167,7 +168,15 @@ pub fn plan<'a>(
         n,
     );
     let e = a.end;
-    let k = legal_set(t, recs, ops, &work32[8000..e], work64, facts, a.sweeps);
+    let k = legal_set(
+        t,
+        recs,
+        ops,
+        &work32[CHAIN_WORDS..e],
+        work64,
+        facts,
+        a.sweeps,
+    );
     let b = taken(k, a, n);
     put_facts(facts, work32, b.places);
     put_uses(
