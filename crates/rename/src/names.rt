@@ -9,6 +9,9 @@ ghost use Rattle.model.specs.Picture.{inst};
 ghost use Rattle.inst.specs.Record.{Used, write-at};
 ghost use Rattle.rename.specs.Names.{reg-or, named, put-name, Forgot};
 
+// No new name.
+const NONE: u64 = ABSENT as u64;
+
 fn low(x: u64) -> u32
     ensures { λ r. ⌜ r ≡ x % 4294967296 ⌝ }
 {
@@ -56,7 +59,7 @@ pub fn clear(names: &mut [u64])
 {
     let mut i = 0;
     while i < names.len() {
-        names[i] = ABSENT;
+        names[i] = NONE;
         i += 1;
     }
 }
