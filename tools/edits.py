@@ -36,15 +36,28 @@ def edited(path):
     return ", ".join(f"`{f}`" for f in dict.fromkeys(files))
 
 
-def refused(log):
-    """The place of the first error: the file, and the declaration that it names."""
+def refused(folder):
+    """The place of the first error: the file, and the declaration that it names; or, of a function that has no proof file, the
+    function and the fact that is owed."""
+    log = f"{folder}/.log"
     if not os.path.exists(log):
         return "not tried"
     for line in open(log, errors="replace"):
         found = re.match(r"\S*?((?:src|specs|proofs)/\S+?):\d+:\d+: error: `([^`]+)`", line)
         if found:
             return place(found.group(1), found.group(2))
+        owed = re.match(r"note: \S*?/(src/\S+?):(\d+):\d+: it is not proved .*\(`([^`]+)`\)", line)
+        if owed:
+            return f"`{function(folder, owed.group(1), int(owed.group(2)))}`, `{owed.group(3)}`"
     return "no error that names a declaration"
+
+
+def function(folder, path, line):
+    """The function at this line of a source file, by its modules."""
+    lines = open(f"{folder}/{path}").readlines()[:line]
+    name = [m.group(1) for m in map(re.compile(r"\s*(?:pub )?(?:extern \"C\" )?fn (\w+)").match, lines) if m][-1]
+    module = path.removeprefix("src/").removesuffix(".rt").removesuffix("lib").strip("/")
+    return "::".join(filter(None, [module.replace("/", "::"), name]))
 
 
 def place(path, name):
@@ -61,7 +74,7 @@ def page():
         folder = f"crates/{crate}/must-fail"
         for edit in sorted(os.listdir(folder)) if os.path.isdir(folder) else []:
             label = edit.removesuffix(".edit")
-            rows.append(f"| {crate}/{label} | {edited(f'{folder}/{edit}')} | {refused(f'target/must-fail/{crate}/{label}/.log')} |\n")
+            rows.append(f"| {crate}/{label} | {edited(f'{folder}/{edit}')} | {refused(f'target/must-fail/{crate}/{label}')} |\n")
     return HEAD + "".join(rows)
 
 
