@@ -19,8 +19,10 @@ use Rattle.model.specs.Move.{Plan, apply}
 use Rattle.model.specs.Pass.{Outcome, used, rounds, number, ends-in, sink-all, most-rounds, gated, sink}
 use Rattle.layout.specs.Layout.{picture-bytes, Fitting}
 use Rattle.apply.specs.Apply.{Holds}
+use Rattle.driver.specs.declared.rounds.Ran.{Ran}
 use Rattle.driver.specs.Ended.{Did}
 use Rattle.sink.specs.Sink.{registers, operands}
+use Rattle.sink.proofs.Call.{Promised-here}
 use Rattle.host.specs.Host.{put-by, put-left, left-by, Ran-as, Roomy}
 use Rattle.laws.proofs.Accepted.{Accepted, accepted}
 use Rattle.laws.proofs.Sizes.{regs-lent, opers-lent}
@@ -202,6 +204,15 @@ module _ {P : Picture} {o : Outcome} where
     pub put-same : Came P o → {a : Answer} → a ≡ o .answer → (result : List ℕ)
         → put-by a (picture-bytes (left-by a bounds recs locs vias types ops (P .pairs) (P .targets) (P .replay))) result ≡ put-left o result
     put-same k e result = ap (λ (a : Answer). put-by a (picture-bytes (left-by a bounds recs locs vias types ops (P .pairs) (P .targets) (P .replay))) result) e ∙ put-is k result
+
+-- what the call on P promises, of its outcome
+pub did-of : (P : Picture) (work64 work32 : List ℕ) (n : ℕ) (r : Ran) {bounds recs locs vias types ops work64′ work32′ : List ℕ} → Promised-here P work64 work32 n r bounds recs locs vias types ops work64′ work32′
+    → Did (sink P (length work64) (length work32) n) (r .answer) (r .lines) bounds recs locs vias types ops
+did-of P work64 work32 n r p = record {
+  answer-is = p .0;
+  lines-are = p .3;
+  holds = record { bounds-are = p .4; recs-are = p .5; locs-are = p .6; vias-are = p .7; types-are = p .8; ops-are = p .9 };
+}
 
 -- all of it, of the call on P
 pub ran-of : (P : Picture) (w64 w32 nf : ℕ) {a : Answer} {lines bounds recs locs vias types ops result after : List ℕ} → Did (sink P w64 w32 nf) a lines bounds recs locs vias types ops

@@ -19,7 +19,8 @@ ghost use Prim.Native.Nat.{_≤_};
 ghost use lib.ListN.{length};
 ghost use Rattle.layout.specs.Layout.{readable, picture-bytes, Fitting};
 ghost use Rattle.model.specs.Refusal.{records};
-ghost use Rattle.sink.specs.Sink.{outcome};
+ghost use Rattle.model.specs.Pass.{sink};
+ghost use Rattle.checks.specs.Causes.{picture-of};
 ghost use Rattle.host.specs.Host.{sunk, put-by, put-left, Ran-as, left-by, Roomy};
 
 // Done and Short: the picture at the head of `result`.
@@ -94,7 +95,9 @@ fn sink_into(
     work32: &mut [u32],
 ) -> Ran
     requires { ⌜ Roomy (now bounds) (now recs) (now locs) (now vias) (now types) (now ops) (now pairs) (now targets) (now replay) (length (now result)) ⌝ }
-    ensures { λ r. ⌜ Ran-as (outcome (now (bounds .entry)) (now (recs .entry)) (now (locs .entry)) (now (vias .entry)) (now (types .entry)) regs (now (ops .entry)) opers (now (pairs .entry)) (now (targets .entry)) (now (replay .entry)) (length (now (work64 .entry))) (length (now (work32 .entry))) records) (now (result .entry)) (r .answer) (r .lines) (now (result .exit)) ⌝ }
+    ensures { λ r. ⌜ (
+        let P = picture-of (now (bounds .entry)) (now (recs .entry)) (now (locs .entry)) (now (vias .entry)) (now (types .entry)) regs (now (ops .entry)) opers (now (pairs .entry)) (now (targets .entry)) (now (replay .entry)) in
+        Ran-as (sink P (length (now (work64 .entry))) (length (now (work32 .entry))) records) (now (result .entry)) (r .answer) (r .lines) (now (result .exit))) ⌝ }
 {
     let r = sink_here(
         bounds,

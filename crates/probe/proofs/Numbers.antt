@@ -12,8 +12,6 @@ use Rattle.model.specs.Refusal.{lowest, causes, refusal}
 use Rattle.model.specs.Analyse.{Facts, facts}
 use Rattle.model.specs.Move.{Plan, apply}
 use Rattle.model.specs.Pass.{Outcome, used, number, ends-in, sink-all, most-rounds, gated, sink}
-use Rattle.checks.specs.Causes.{picture-of}
-use Rattle.sink.specs.Sink.{outcome}
 use Rattle.laws.proofs.Rounds.{Next, no-move, no-room, goes-on, next, sink-done, sink-short, sink-more}
 
 lowest-low : (n : ℕ) (cs : List Bool) → lowest n cs ≤ n + length cs
@@ -49,12 +47,6 @@ module _ (P : Picture) (w64 w32 nf : ℕ) where
   refusals-low zero h = gates-low (gated P)
   refusals-low (suc n) h = omega arith
 
-  answer-low : (r : Answer) → r ≡ sink P w64 w32 nf .answer → number r ≤ 300
+  -- the answer of the call
+  pub answer-low : (r : Answer) → r ≡ sink P w64 w32 nf .answer → number r ≤ 300
   answer-low r e = subst (λ (a : Answer). number a ≤ 300) (sym e) (refusals-low (refusal P w64 w32 nf) (refusal-low P w64 w32 nf))
-
--- of a picture that is lent as slices
-pub outcome-low : (bounds recs locs vias types : List ℕ) (regs : ℕ) (ops : List ℕ) (opers : ℕ) (pairs targets replay : List ℕ) (w64 w32 nf : ℕ) (r : Answer)
-    → r ≡ outcome bounds recs locs vias types regs ops opers pairs targets replay w64 w32 nf .answer → number r ≤ 300
-unfolding outcome
-outcome-low bounds recs locs vias types regs ops opers pairs targets replay w64 w32 nf r e =
-    answer-low (picture-of bounds recs locs vias types regs ops opers pairs targets replay) w64 w32 nf r e

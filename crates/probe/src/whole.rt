@@ -5,9 +5,11 @@ use sink::sink_all;
 ghost use mathlib.Core.Path.{_≡_};
 ghost use Prim.Native.Nat.{_≤_};
 ghost use lib.ListN.{length};
-ghost use Rattle.model.specs.Pass.{number};
+ghost use Rattle.model.specs.Refusal.{refusal};
+ghost use Rattle.model.specs.Pass.{sink, number};
+ghost use Rattle.checks.specs.Causes.{picture-of};
 ghost use Rattle.driver.specs.Ended.{Work};
-ghost use Rattle.sink.specs.Sink.{outcome, cause, Lent};
+ghost use Rattle.sink.specs.Sink.{Lent};
 ghost use Rattle.probe.specs.Heads.{with-two, with-used, Told};
 
 // Two words at the head of `out`, if it has two.
@@ -59,11 +61,15 @@ pub extern "C" fn virdzeba_sink_all(
     facts: &mut [Fact],
     out: &mut [u32],
 ) -> u32
-    ensures { λ r. ⌜ Told (outcome (now (bounds .entry)) (now (recs .entry)) (now (locs .entry)) (now (vias .entry)) (now (types .entry)) registers (now (ops .entry)) operands (now (pairs .entry)) (now (targets .entry)) (now (replay .entry)) (length (now (work64 .entry))) (length (now (work32 .entry))) (length (now (facts .entry)))) r (now (bounds .exit)) (now (recs .exit)) (now (locs .exit)) (now (vias .exit)) (now (types .exit)) (now (ops .exit)) (now (out .entry)) (now (out .exit))
-        × Work (cause (now (bounds .entry)) (now (recs .entry)) (now (locs .entry)) (now (vias .entry)) (now (types .entry)) registers (now (ops .entry)) operands (now (pairs .entry)) (now (targets .entry)) (now (replay .entry)) (length (now (work64 .entry))) (length (now (work32 .entry))) (length (now (facts .entry)))) (now (work64 .entry)) (now (work32 .entry)) (now (work64 .exit)) (now (work32 .exit))
-        × Lent (cause (now (bounds .entry)) (now (recs .entry)) (now (locs .entry)) (now (vias .entry)) (now (types .entry)) registers (now (ops .entry)) operands (now (pairs .entry)) (now (targets .entry)) (now (replay .entry)) (length (now (work64 .entry))) (length (now (work32 .entry))) (length (now (facts .entry)))) (now (facts .entry)) (now (facts .exit)) ⌝ }
+    ensures { λ r. ⌜ (
+        let P = picture-of (now (bounds .entry)) (now (recs .entry)) (now (locs .entry)) (now (vias .entry)) (now (types .entry)) registers (now (ops .entry)) operands (now (pairs .entry)) (now (targets .entry)) (now (replay .entry)) in
+        let o = sink P (length (now (work64 .entry))) (length (now (work32 .entry))) (length (now (facts .entry))) in
+        let cause = refusal P (length (now (work64 .entry))) (length (now (work32 .entry))) (length (now (facts .entry))) in
+        Told o r (now (bounds .exit)) (now (recs .exit)) (now (locs .exit)) (now (vias .exit)) (now (types .exit)) (now (ops .exit)) (now (out .entry)) (now (out .exit))
+        × Work cause (now (work64 .entry)) (now (work32 .entry)) (now (work64 .exit)) (now (work32 .exit))
+        × Lent cause (now (facts .entry)) (now (facts .exit))) ⌝ }
 {
-    let answer = sink_all(
+    let ran = sink_all(
         bounds,
         recs,
         locs,
@@ -79,5 +85,5 @@ pub extern "C" fn virdzeba_sink_all(
         work32,
         facts,
     );
-    tell(out, answer)
+    tell(out, ran.answer)
 }

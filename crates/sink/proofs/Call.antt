@@ -3,9 +3,10 @@ use mathlib.Core.Path.{_≡_, refl, sym, ap, _∙_, subst}
 use mathlib.Core.Bool.{true, false}
 use mathlib.Core.List.{List}
 use mathlib.Core.Logic.{⊎-elim}
-use Prim.Native.Nat.{ℕ, zero, suc, _≤_}
+use Prim.Native.Nat.{ℕ, zero, suc, _*_, _≤_}
 use native.Mathlib.Omega.{arith}
-use lib.ListN.{length}
+use lib.ListN.{length, take}
+use Rattle.words.specs.Lists.{concat}
 use Rattle.words.proofs.Bools.{bool?}
 use Rattle.model.specs.declared.Answer.{Answer}
 use Rattle.model.specs.declared.Answer.the-variants as answer
@@ -13,7 +14,7 @@ use Rattle.model.specs.Picture.{Picture}
 use Rattle.model.specs.Refusal.{refusal}
 use Rattle.model.specs.Analyse.{Facts, facts}
 use Rattle.model.specs.Move.{Plan, apply}
-use Rattle.model.specs.Pass.{Outcome, used, rounds, ends-in, gated, sink, sink-all, most-rounds}
+use Rattle.model.specs.Pass.{Outcome, used, values, number, rounds, ends-in, gated, sink, sink-all, most-rounds}
 use Rattle.laws.proofs.Accepted.{work-room}
 use Rattle.laws.proofs.Rounds.{Next as NextRound, no-move, no-room, goes-on, sink-done, sink-short, sink-more, sink-gated, sink-through}
 use Rattle.laws.proofs.Rounds as Rounds
@@ -24,7 +25,8 @@ use Rattle.facts.specs.declared.Fact.{Fact}
 use Rattle.trial.specs.declared.block.MaybeMove.{MaybeMove}
 use Rattle.trial.specs.Trial.{Followed}
 use Rattle.driver.specs.declared.rounds.At.{At}
-use Rattle.sink.specs.Sink.{outcome, cause, Lent, Coming, Finished, registers, operands}
+use Rattle.driver.specs.declared.rounds.Ran.{Ran}
+use Rattle.sink.specs.Sink.{Lent, Coming, Finished, registers, operands}
 use Rattle.driver.specs.Ended.{Did, Work}
 use Rattle.driver.specs.Going.{Next, Going, GoneOn, Started}
 use Rattle.oneround.specs.Kept.{Kept}
@@ -131,84 +133,97 @@ module _ {Q : Picture} {m : At} {work64 work32 : List ℕ} {fs : List Fact} {Z :
     lent = λ P w64 w32 y. record { size = r .size; kept = λ h. r .kept P w64 w32 y h .2 };
   }
 
--- ---- the picture that is lent, by its slices
+-- ---- the whole call: P is lent, with these work slices and this list
 
-module _ (P : Picture) where
-  pub not-refused : (w64 w32 nf : ℕ) → cause (P .bounds) (P .recs) (P .locs) (P .vias) (P .types) (P .regs) (P .ops) (P .opers) (P .pairs) (P .targets) (P .replay) w64 w32 nf ≡ 0 → refusal P w64 w32 nf ≡ 0
-  unfolding cause
-  not-refused w64 w32 nf ok = ok
+-- what `sink_all` promises (src/lib.rt)
+abbrev pub Promised : (P : Picture) (work64 work32 : List ℕ) (fs : List Fact) (r : Ran) (bounds recs locs vias types ops work64′ work32′ : List ℕ) (fs′ : List Fact) → Type 0
+Promised P work64 work32 fs r bounds recs locs vias types ops work64′ work32′ fs′ =
+    let o = sink P (length work64) (length work32) (length fs) in
+    let cause = refusal P (length work64) (length work32) (length fs) in
+    (r .answer ≡ o .answer)
+    × (number (r .answer) ≡ number (o .answer))
+    × (values (r .answer) ≡ values (o .answer))
+    × (take (6 * rounds (r .answer)) (r .lines) ≡ concat (o .lines))
+    × (bounds ≡ o .left .bounds)
+    × (recs ≡ o .left .recs)
+    × (locs ≡ o .left .locs)
+    × (vias ≡ o .left .vias)
+    × (types ≡ o .left .types)
+    × (ops ≡ o .left .ops)
+    × Work cause work64 work32 work64′ work32′
+    × Lent cause fs fs′
+    × (cause ≡ 0 → Kept P (picture-of bounds recs locs vias types (registers (r .answer)) ops (operands (r .answer)) (P .pairs) (P .targets) (P .replay)) (rounds (r .answer)))
 
-  is-cause : (w64 w32 nf : ℕ) → cause (P .bounds) (P .recs) (P .locs) (P .vias) (P .types) (P .regs) (P .ops) (P .opers) (P .pairs) (P .targets) (P .replay) w64 w32 nf ≡ refusal P w64 w32 nf
-  unfolding cause
-  is-cause w64 w32 nf = refl
+-- what `here::sink_here` does, with n records of its own
+abbrev pub Promised-here : (P : Picture) (work64 work32 : List ℕ) (n : ℕ) (r : Ran) (bounds recs locs vias types ops work64′ work32′ : List ℕ) → Type 0
+Promised-here P work64 work32 n r bounds recs locs vias types ops work64′ work32′ =
+    let o = sink P (length work64) (length work32) n in
+    let cause = refusal P (length work64) (length work32) n in
+    (r .answer ≡ o .answer)
+    × (number (r .answer) ≡ number (o .answer))
+    × (values (r .answer) ≡ values (o .answer))
+    × (take (6 * rounds (r .answer)) (r .lines) ≡ concat (o .lines))
+    × (bounds ≡ o .left .bounds)
+    × (recs ≡ o .left .recs)
+    × (locs ≡ o .left .locs)
+    × (vias ≡ o .left .vias)
+    × (types ≡ o .left .types)
+    × (ops ≡ o .left .ops)
+    × Work cause work64 work32 work64′ work32′
+    × (cause ≡ 0 → Kept P (picture-of bounds recs locs vias types (registers (r .answer)) ops (operands (r .answer)) (P .pairs) (P .targets) (P .replay)) (rounds (r .answer)))
 
-  is-outcome : (w64 w32 nf : ℕ) → outcome (P .bounds) (P .recs) (P .locs) (P .vias) (P .types) (P .regs) (P .ops) (P .opers) (P .pairs) (P .targets) (P .replay) w64 w32 nf ≡ sink P w64 w32 nf
-  unfolding outcome
-  is-outcome w64 w32 nf = refl
+pub without-list : {P : Picture} {work64 work32 : List ℕ} {fs : List Fact} {n : ℕ} (r : Ran) {bounds recs locs vias types ops work64′ work32′ : List ℕ} {fs′ : List Fact} → length fs ≡ n
+    → Promised P work64 work32 fs r bounds recs locs vias types ops work64′ work32′ fs′ → Promised-here P work64 work32 n r bounds recs locs vias types ops work64′ work32′
+without-list {P} {work64} {work32} {fs} {n} r {bounds} {recs} {locs} {vias} {types} {ops} {work64′} {work32′} e d =
+    subst (λ (k : ℕ). Promised-here P work64 work32 k r bounds recs locs vias types ops work64′ work32′) e (d .0, d .1, d .2, d .3, d .4, d .5, d .6, d .7, d .8, d .9, d .10, d .12)
 
-  -- ---- the loop
+module _ (P : Picture) (work64 work32 : List ℕ) (fs : List Fact) where
+  abbrev o : Outcome
+  o = sink P (length work64) (length work32) (length fs)
 
-  module _ (work64 work32 : List ℕ) (nf : ℕ) where
-    abbrev o : Outcome
-    o = outcome (P .bounds) (P .recs) (P .locs) (P .vias) (P .types) (P .regs) (P .ops) (P .opers) (P .pairs) (P .targets) (P .replay) (length work64) (length work32) nf
+  -- demand 3
+  call-kept : {a : Answer} {lines bounds recs locs vias types ops : List ℕ} → Did o a lines bounds recs locs vias types ops → refusal P (length work64) (length work32) (length fs) ≡ 0
+      → Kept P (picture-of bounds recs locs vias types (registers a) ops (operands a) (P .pairs) (P .targets) (P .replay)) (rounds a)
+  call-kept {a} {lines} {bounds} {recs} {locs} {vias} {types} {ops} d ok =
+      let f = fair P (length work64) (length work32) (length fs) ok in
+      let e : picture-of bounds recs locs vias types (registers a) ops (operands a) (o .left .pairs) (o .left .targets) (o .left .replay) ≡ o .left =
+      holds-is (o .left) (d .holds) (ap registers (d .answer-is) ∙ f .regs-are) (ap operands (d .answer-is) ∙ f .opers-are) in
+      let q : picture-of bounds recs locs vias types (registers a) ops (operands a) (P .pairs) (P .targets) (P .replay)
+      ≡ picture-of bounds recs locs vias types (registers a) ops (operands a) (o .left .pairs) (o .left .targets) (o .left .replay) =
+      λ i. picture-of bounds recs locs vias types (registers a) ops (operands a) (sym (f .same-pairs) i) (sym (f .same-targets) i) (sym (f .same-replay) i) in
+      kept-of P _ (rounds a) (length work64) (length work32) (length fs) ok (q ∙ e ∙ left-after P (length work64) (length work32) (length fs) ok ∙ ap (λ (b : Answer). Walk.after P (rounds b) .now) (sym (d .answer-is)))
 
-    abbrev why : ℕ
-    why = cause (P .bounds) (P .recs) (P .locs) (P .vias) (P .types) (P .regs) (P .ops) (P .opers) (P .pairs) (P .targets) (P .replay) (length work64) (length work32) nf
+  -- what the start gives to the loop, and what the call then gives
+  module _ {q : At} {bits words : List ℕ} (s : Started P work64 work32 (length fs) q bits words) where
+    abbrev Q : Picture
+    Q = picture-of (P .bounds) (P .recs) (P .locs) (P .vias) (P .types) (q .sizes .regs) (P .ops) (q .operands) (P .pairs) (P .targets) (P .replay)
 
-    -- what the start gives to the loop, and what the call then gives
-    module _ {q : At} {work64′ work32′ : List ℕ} (s : Started P work64 work32 nf q work64′ work32′) where
-      abbrev Q : Picture
-      Q = picture-of (P .bounds) (P .recs) (P .locs) (P .vias) (P .types) (q .sizes .regs) (P .ops) (q .operands) (P .pairs) (P .targets) (P .replay)
+    where-it-is : P ≡ Q
+    where-it-is = λ i. picture-of (P .bounds) (P .recs) (P .locs) (P .vias) (P .types) (sym (s .regs-are) i) (P .ops) (sym (s .opers-are) i) (P .pairs) (P .targets) (P .replay)
 
-      where-it-is : P ≡ Q
-      where-it-is = λ i. picture-of (P .bounds) (P .recs) (P .locs) (P .vias) (P .types) (sym (s .regs-are) i) (P .ops) (sym (s .opers-are) i) (P .pairs) (P .targets) (P .replay)
+    goes : Going P (length work64) (length work32) (length fs) Q q bits words
+    goes = subst (λ (Z : Picture). Going P (length work64) (length work32) (length fs) Z q bits words) where-it-is (s .going)
 
-      goes : Going P (length work64) (length work32) nf Q q work64′ work32′
-      goes = subst (λ (Z : Picture). Going P (length work64) (length work32) nf Z q work64′ work32′) where-it-is (s .going)
+    pub coming : Coming Q q bits words (length fs)
+    coming = record { P = P; w64 = length work64; w32 = length work32; going = goes }
 
-      pub coming : Coming Q q work64′ work32′ nf
-      coming = record { P = P; w64 = length work64; w32 = length work32; going = goes }
-
-    module _ {q : At} {work64′ work32′ : List ℕ} {fs : List Fact} (e : length fs ≡ nf) (s : Started P work64 work32 nf q work64′ work32′) {a : Answer} {lines bounds′ recs′ locs′ vias′ types′ ops′ work64″ work32″ : List ℕ} {fs′ : List Fact}
-        (f : Finished (picture-of (P .bounds) (P .recs) (P .locs) (P .vias) (P .types) (q .sizes .regs) (P .ops) (q .operands) (P .pairs) (P .targets) (P .replay)) q work64′ work32′ fs a lines bounds′ recs′ locs′ vias′ types′ ops′ work64″ work32″ fs′) where
-      going-on : Going P (length work64) (length work32) (length fs) (picture-of (P .bounds) (P .recs) (P .locs) (P .vias) (P .types) (q .sizes .regs) (P .ops) (q .operands) (P .pairs) (P .targets) (P .replay)) q work64′ work32′
-      going-on = subst (λ (n : ℕ). Going P (length work64) (length work32) n (picture-of (P .bounds) (P .recs) (P .locs) (P .vias) (P .types) (q .sizes .regs) (P .ops) (q .operands) (P .pairs) (P .targets) (P .replay)) q work64′ work32′) (sym e) (goes s)
-
-      pub did-all : Did o a lines bounds′ recs′ locs′ vias′ types′ ops′
-      did-all =
-          subst (λ (y : Outcome). Did y a lines bounds′ recs′ locs′ vias′ types′ ops′) (sym (is-outcome (length work64) (length work32) nf))
-          (subst (λ (n : ℕ). Did (sink P (length work64) (length work32) n) a lines bounds′ recs′ locs′ vias′ types′ ops′) e (f .did P (length work64) (length work32) going-on))
-
-      is-why : refusal P (length work64) (length work32) (length fs) ≡ why
-      is-why = ap (refusal P (length work64) (length work32)) e ∙ sym (is-cause (length work64) (length work32) nf)
-
-      pub work-all : Work why work64 work32 work64″ work32″
-      work-all =
-          let w = subst (λ (n : ℕ). Work n work64′ work32′ work64″ work32″) is-why (f .work P (length work64) (length work32) going-on) in
-          let v = subst (λ (n : ℕ). Work n work64 work32 work64′ work32′) (sym (is-cause (length work64) (length work32) nf)) (s .work) in
-          record { size64 = w .size64 ∙ v .size64; size32 = w .size32 ∙ v .size32; kept = λ h. (w .kept h .0 ∙ v .kept h .0, w .kept h .1 ∙ v .kept h .1) }
-
-      pub lent-all : Lent why fs fs′
-      lent-all = subst (λ (n : ℕ). Lent n fs fs′) is-why (f .lent P (length work64) (length work32) going-on)
-
-    -- demand 3
-    pub call-kept : {a : Answer} {lines bounds′ recs′ locs′ vias′ types′ ops′ : List ℕ} → Did o a lines bounds′ recs′ locs′ vias′ types′ ops′
-        → cause (P .bounds) (P .recs) (P .locs) (P .vias) (P .types) (P .regs) (P .ops) (P .opers) (P .pairs) (P .targets) (P .replay) (length work64) (length work32) nf ≡ 0
-        → Kept P (picture-of bounds′ recs′ locs′ vias′ types′ (registers a) ops′ (operands a) (P .pairs) (P .targets) (P .replay)) (rounds a)
-    call-kept {a} {lines} {bounds′} {recs′} {locs′} {vias′} {types′} {ops′} did c = go (subst (λ (y : Outcome). Did y a lines bounds′ recs′ locs′ vias′ types′ ops′) (is-outcome (length work64) (length work32) nf) did)
-      where
-        ok : refusal P (length work64) (length work32) nf ≡ 0
-        ok = not-refused (length work64) (length work32) nf c
-
-        f : Fair P (sink P (length work64) (length work32) nf)
-        f = fair P (length work64) (length work32) nf ok
-
-        go : Did (sink P (length work64) (length work32) nf) a lines bounds′ recs′ locs′ vias′ types′ ops′ → Kept P (picture-of bounds′ recs′ locs′ vias′ types′ (registers a) ops′ (operands a) (P .pairs) (P .targets) (P .replay)) (rounds a)
-        go d =
-            let o = sink P (length work64) (length work32) nf in
-            let e : picture-of bounds′ recs′ locs′ vias′ types′ (registers a) ops′ (operands a) (o .left .pairs) (o .left .targets) (o .left .replay) ≡ o .left =
-            holds-is (o .left) (d .holds) (ap registers (d .answer-is) ∙ f .regs-are) (ap operands (d .answer-is) ∙ f .opers-are) in
-            let q : picture-of bounds′ recs′ locs′ vias′ types′ (registers a) ops′ (operands a) (P .pairs) (P .targets) (P .replay)
-            ≡ picture-of bounds′ recs′ locs′ vias′ types′ (registers a) ops′ (operands a) (o .left .pairs) (o .left .targets) (o .left .replay) =
-            λ i. picture-of bounds′ recs′ locs′ vias′ types′ (registers a) ops′ (operands a) (sym (f .same-pairs) i) (sym (f .same-targets) i) (sym (f .same-replay) i) in
-            kept-of P _ (rounds a) (length work64) (length work32) nf ok (q ∙ e ∙ left-after P (length work64) (length work32) nf ok ∙ ap (λ (b : Answer). Walk.after P (rounds b) .now) (sym (d .answer-is)))
+    pub promised : {r : Ran} {bounds recs locs vias types ops work64′ work32′ : List ℕ} {fs′ : List Fact}
+        → Finished Q q bits words fs (r .answer) (r .lines) bounds recs locs vias types ops work64′ work32′ fs′ → Promised P work64 work32 fs r bounds recs locs vias types ops work64′ work32′ fs′
+    promised f =
+        let d = f .did P (length work64) (length work32) goes in
+        let w = f .work P (length work64) (length work32) goes in
+        let v = s .work in (
+          d .answer-is,
+          ap number (d .answer-is),
+          ap values (d .answer-is),
+          d .lines-are,
+          d .holds .bounds-are,
+          d .holds .recs-are,
+          d .holds .locs-are,
+          d .holds .vias-are,
+          d .holds .types-are,
+          d .holds .ops-are,
+          record { size64 = w .size64 ∙ v .size64; size32 = w .size32 ∙ v .size32; kept = λ h. (w .kept h .0 ∙ v .kept h .0, w .kept h .1 ∙ v .kept h .1) },
+          f .lent P (length work64) (length work32) goes,
+          call-kept d,
+        )

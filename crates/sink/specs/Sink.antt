@@ -1,4 +1,4 @@
--- 01, "The call": what the call gives and leaves, `model`'s `sink` of the picture on entry; and what its loop does. Assumes nothing.
+-- 01, "The call": the counts that an answer gives, the list of records at the end, and what the call's loop does. Assumes nothing.
 use mathlib.Core.Path.{_≡_}
 use mathlib.Core.List.{List}
 use Prim.Native.Nat.{ℕ}
@@ -8,20 +8,10 @@ use Rattle.model.specs.declared.Answer.{Answer}
 use Rattle.model.specs.declared.Answer.the-variants.{Done, Short, Refused}
 use Rattle.model.specs.Picture.{Picture}
 use Rattle.model.specs.Refusal.{refusal}
-use Rattle.model.specs.Pass as Pass
-use Rattle.model.specs.Pass.{Outcome, sink}
-use Rattle.checks.specs.Causes.{picture-of}
+use Rattle.model.specs.Pass.{sink}
 use Rattle.driver.specs.declared.rounds.At.{At}
 use Rattle.driver.specs.Ended.{Did, Work}
 use Rattle.driver.specs.Going.{Going}
-
--- what the call gives for the picture that is lent as these slices and counts, with work slices of these lengths and so many records
-unfoldable pub outcome : (bounds recs locs vias types : List ℕ) (regs : ℕ) (ops : List ℕ) (opers : ℕ) (pairs targets replay : List ℕ) (w64 w32 nf : ℕ) → Outcome
-outcome bounds recs locs vias types regs ops opers pairs targets replay w64 w32 nf = Pass.sink (picture-of bounds recs locs vias types regs ops opers pairs targets replay) w64 w32 nf
-
--- the cause for which it is refused, or 0
-unfoldable pub cause : (bounds recs locs vias types : List ℕ) (regs : ℕ) (ops : List ℕ) (opers : ℕ) (pairs targets replay : List ℕ) (w64 w32 nf : ℕ) → ℕ
-cause bounds recs locs vias types regs ops opers pairs targets replay w64 w32 nf = refusal (picture-of bounds recs locs vias types regs ops opers pairs targets replay) w64 w32 nf
 
 -- the registers and operands in use that the answer gives
 abbrev pub registers : Answer → ℕ

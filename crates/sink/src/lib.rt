@@ -8,15 +8,17 @@ use driver::steps::go_on;
 use driver::steps::start;
 use facts::Fact;
 use inst::table::table;
-use model::Answer;
 use trial::block::try_chain;
 ghost use mathlib.Core.Path.{_≡_};
-ghost use lib.ListN.{length};
+ghost use Prim.Native.Nat.{_*_};
+ghost use lib.ListN.{length, take};
+ghost use Rattle.words.specs.Lists.{concat};
 ghost use Rattle.inst.specs.Table.{rows};
-ghost use Rattle.model.specs.Pass.{rounds};
+ghost use Rattle.model.specs.Refusal.{refusal};
+ghost use Rattle.model.specs.Pass.{sink, number, values, rounds};
 ghost use Rattle.checks.specs.Causes.{picture-of};
-ghost use Rattle.sink.specs.Sink.{outcome, cause, Lent, Coming, Finished, registers, operands};
-ghost use Rattle.driver.specs.Ended.{Did, Work};
+ghost use Rattle.sink.specs.Sink.{Lent, Coming, Finished, registers, operands};
+ghost use Rattle.driver.specs.Ended.{Work};
 ghost use Rattle.oneround.specs.Kept.{Kept};
 
 // Chain after chain is tried, and each move made, until the search is at its end.
@@ -77,9 +79,10 @@ fn run(
     given(m)
 }
 
-// The call by the table of opcodes, with a line for each round.
-fn tabled(
-    t: &[u32; 202],
+// The call, with a line for each round. Of its promise: the picture lent, the outcome for it, the cause for which it is refused (or 0)
+// and the picture left, each named once; then the answer, by its number and its values too, the lines, the six slices, the work
+// slices, the list, and demand 3.
+pub fn sink_all(
     bounds: &mut [u32],
     recs: &mut [u32],
     locs: &mut [u32],
@@ -95,13 +98,28 @@ fn tabled(
     work32: &mut [u32],
     facts: &mut [Fact],
 ) -> Ran
-    requires { ⌜ now t ≡ rows ⌝ }
-    ensures { λ r. ⌜ Did (outcome (now (bounds .entry)) (now (recs .entry)) (now (locs .entry)) (now (vias .entry)) (now (types .entry)) regs (now (ops .entry)) opers (now (pairs .entry)) (now (targets .entry)) (now (replay .entry)) (length (now (work64 .entry))) (length (now (work32 .entry))) (length (now (facts .entry)))) (r .answer) (r .lines) (now (bounds .exit)) (now (recs .exit)) (now (locs .exit)) (now (vias .exit)) (now (types .exit)) (now (ops .exit))
-        × Work (cause (now (bounds .entry)) (now (recs .entry)) (now (locs .entry)) (now (vias .entry)) (now (types .entry)) regs (now (ops .entry)) opers (now (pairs .entry)) (now (targets .entry)) (now (replay .entry)) (length (now (work64 .entry))) (length (now (work32 .entry))) (length (now (facts .entry)))) (now (work64 .entry)) (now (work32 .entry)) (now (work64 .exit)) (now (work32 .exit))
-        × Lent (cause (now (bounds .entry)) (now (recs .entry)) (now (locs .entry)) (now (vias .entry)) (now (types .entry)) regs (now (ops .entry)) opers (now (pairs .entry)) (now (targets .entry)) (now (replay .entry)) (length (now (work64 .entry))) (length (now (work32 .entry))) (length (now (facts .entry)))) (now (facts .entry)) (now (facts .exit)) ⌝ }
+    ensures { λ r. ⌜ (
+        let P = picture-of (now (bounds .entry)) (now (recs .entry)) (now (locs .entry)) (now (vias .entry)) (now (types .entry)) regs (now (ops .entry)) opers (now (pairs .entry)) (now (targets .entry)) (now (replay .entry)) in
+        let o = sink P (length (now (work64 .entry))) (length (now (work32 .entry))) (length (now (facts .entry))) in
+        let cause = refusal P (length (now (work64 .entry))) (length (now (work32 .entry))) (length (now (facts .entry))) in
+        let Q = picture-of (now (bounds .exit)) (now (recs .exit)) (now (locs .exit)) (now (vias .exit)) (now (types .exit)) (registers (r .answer)) (now (ops .exit)) (operands (r .answer)) (now (pairs .entry)) (now (targets .entry)) (now (replay .entry)) in
+        (r .answer ≡ o .answer)
+        × (number (r .answer) ≡ number (o .answer))
+        × (values (r .answer) ≡ values (o .answer))
+        × (take (6 * rounds (r .answer)) (r .lines) ≡ concat (o .lines))
+        × (now (bounds .exit) ≡ o .left .bounds)
+        × (now (recs .exit) ≡ o .left .recs)
+        × (now (locs .exit) ≡ o .left .locs)
+        × (now (vias .exit) ≡ o .left .vias)
+        × (now (types .exit) ≡ o .left .types)
+        × (now (ops .exit) ≡ o .left .ops)
+        × Work cause (now (work64 .entry)) (now (work32 .entry)) (now (work64 .exit)) (now (work32 .exit))
+        × Lent cause (now (facts .entry)) (now (facts .exit))
+        × (cause ≡ 0 → Kept P Q (rounds (r .answer)))) ⌝ }
 {
+    let t = table();
     let m = start(
-        t,
+        &t,
         bounds,
         recs,
         locs,
@@ -118,7 +136,7 @@ fn tabled(
         facts.len(),
     );
     run(
-        t,
+        &t,
         bounds,
         recs,
         locs,
@@ -133,92 +151,4 @@ fn tabled(
         facts,
         m,
     )
-}
-
-// The call, with a line for each round.
-pub fn sink_rounds(
-    bounds: &mut [u32],
-    recs: &mut [u32],
-    locs: &mut [u32],
-    vias: &mut [u32],
-    types: &mut [u32],
-    regs: u32,
-    ops: &mut [u32],
-    opers: u32,
-    pairs: &[u32],
-    targets: &[u32],
-    replay: &[u32],
-    work64: &mut [u64],
-    work32: &mut [u32],
-    facts: &mut [Fact],
-) -> Ran
-    ensures { λ r. ⌜ Did (outcome (now (bounds .entry)) (now (recs .entry)) (now (locs .entry)) (now (vias .entry)) (now (types .entry)) regs (now (ops .entry)) opers (now (pairs .entry)) (now (targets .entry)) (now (replay .entry)) (length (now (work64 .entry))) (length (now (work32 .entry))) (length (now (facts .entry)))) (r .answer) (r .lines) (now (bounds .exit)) (now (recs .exit)) (now (locs .exit)) (now (vias .exit)) (now (types .exit)) (now (ops .exit))
-        × Work (cause (now (bounds .entry)) (now (recs .entry)) (now (locs .entry)) (now (vias .entry)) (now (types .entry)) regs (now (ops .entry)) opers (now (pairs .entry)) (now (targets .entry)) (now (replay .entry)) (length (now (work64 .entry))) (length (now (work32 .entry))) (length (now (facts .entry)))) (now (work64 .entry)) (now (work32 .entry)) (now (work64 .exit)) (now (work32 .exit))
-        × Lent (cause (now (bounds .entry)) (now (recs .entry)) (now (locs .entry)) (now (vias .entry)) (now (types .entry)) regs (now (ops .entry)) opers (now (pairs .entry)) (now (targets .entry)) (now (replay .entry)) (length (now (work64 .entry))) (length (now (work32 .entry))) (length (now (facts .entry)))) (now (facts .entry)) (now (facts .exit)) ⌝ }
-{
-    let t = table();
-    tabled(
-        &t,
-        bounds,
-        recs,
-        locs,
-        vias,
-        types,
-        regs,
-        ops,
-        opers,
-        pairs,
-        targets,
-        replay,
-        work64,
-        work32,
-        facts,
-    )
-}
-
-// The call.
-pub fn sink_all(
-    bounds: &mut [u32],
-    recs: &mut [u32],
-    locs: &mut [u32],
-    vias: &mut [u32],
-    types: &mut [u32],
-    regs: u32,
-    ops: &mut [u32],
-    opers: u32,
-    pairs: &[u32],
-    targets: &[u32],
-    replay: &[u32],
-    work64: &mut [u64],
-    work32: &mut [u32],
-    facts: &mut [Fact],
-) -> Answer
-    ensures { λ r. ⌜ (r ≡ outcome (now (bounds .entry)) (now (recs .entry)) (now (locs .entry)) (now (vias .entry)) (now (types .entry)) regs (now (ops .entry)) opers (now (pairs .entry)) (now (targets .entry)) (now (replay .entry)) (length (now (work64 .entry))) (length (now (work32 .entry))) (length (now (facts .entry))) .answer)
-        × (now (bounds .exit) ≡ outcome (now (bounds .entry)) (now (recs .entry)) (now (locs .entry)) (now (vias .entry)) (now (types .entry)) regs (now (ops .entry)) opers (now (pairs .entry)) (now (targets .entry)) (now (replay .entry)) (length (now (work64 .entry))) (length (now (work32 .entry))) (length (now (facts .entry))) .left .bounds)
-        × (now (recs .exit) ≡ outcome (now (bounds .entry)) (now (recs .entry)) (now (locs .entry)) (now (vias .entry)) (now (types .entry)) regs (now (ops .entry)) opers (now (pairs .entry)) (now (targets .entry)) (now (replay .entry)) (length (now (work64 .entry))) (length (now (work32 .entry))) (length (now (facts .entry))) .left .recs)
-        × (now (locs .exit) ≡ outcome (now (bounds .entry)) (now (recs .entry)) (now (locs .entry)) (now (vias .entry)) (now (types .entry)) regs (now (ops .entry)) opers (now (pairs .entry)) (now (targets .entry)) (now (replay .entry)) (length (now (work64 .entry))) (length (now (work32 .entry))) (length (now (facts .entry))) .left .locs)
-        × (now (vias .exit) ≡ outcome (now (bounds .entry)) (now (recs .entry)) (now (locs .entry)) (now (vias .entry)) (now (types .entry)) regs (now (ops .entry)) opers (now (pairs .entry)) (now (targets .entry)) (now (replay .entry)) (length (now (work64 .entry))) (length (now (work32 .entry))) (length (now (facts .entry))) .left .vias)
-        × (now (types .exit) ≡ outcome (now (bounds .entry)) (now (recs .entry)) (now (locs .entry)) (now (vias .entry)) (now (types .entry)) regs (now (ops .entry)) opers (now (pairs .entry)) (now (targets .entry)) (now (replay .entry)) (length (now (work64 .entry))) (length (now (work32 .entry))) (length (now (facts .entry))) .left .types)
-        × (now (ops .exit) ≡ outcome (now (bounds .entry)) (now (recs .entry)) (now (locs .entry)) (now (vias .entry)) (now (types .entry)) regs (now (ops .entry)) opers (now (pairs .entry)) (now (targets .entry)) (now (replay .entry)) (length (now (work64 .entry))) (length (now (work32 .entry))) (length (now (facts .entry))) .left .ops)
-        × Work (cause (now (bounds .entry)) (now (recs .entry)) (now (locs .entry)) (now (vias .entry)) (now (types .entry)) regs (now (ops .entry)) opers (now (pairs .entry)) (now (targets .entry)) (now (replay .entry)) (length (now (work64 .entry))) (length (now (work32 .entry))) (length (now (facts .entry)))) (now (work64 .entry)) (now (work32 .entry)) (now (work64 .exit)) (now (work32 .exit))
-        × Lent (cause (now (bounds .entry)) (now (recs .entry)) (now (locs .entry)) (now (vias .entry)) (now (types .entry)) regs (now (ops .entry)) opers (now (pairs .entry)) (now (targets .entry)) (now (replay .entry)) (length (now (work64 .entry))) (length (now (work32 .entry))) (length (now (facts .entry)))) (now (facts .entry)) (now (facts .exit))
-        × (cause (now (bounds .entry)) (now (recs .entry)) (now (locs .entry)) (now (vias .entry)) (now (types .entry)) regs (now (ops .entry)) opers (now (pairs .entry)) (now (targets .entry)) (now (replay .entry)) (length (now (work64 .entry))) (length (now (work32 .entry))) (length (now (facts .entry))) ≡ 0 → Kept (picture-of (now (bounds .entry)) (now (recs .entry)) (now (locs .entry)) (now (vias .entry)) (now (types .entry)) regs (now (ops .entry)) opers (now (pairs .entry)) (now (targets .entry)) (now (replay .entry))) (picture-of (now (bounds .exit)) (now (recs .exit)) (now (locs .exit)) (now (vias .exit)) (now (types .exit)) (registers r) (now (ops .exit)) (operands r) (now (pairs .entry)) (now (targets .entry)) (now (replay .entry))) (rounds r)) ⌝ }
-{
-    let r = sink_rounds(
-        bounds,
-        recs,
-        locs,
-        vias,
-        types,
-        regs,
-        ops,
-        opers,
-        pairs,
-        targets,
-        replay,
-        work64,
-        work32,
-        facts,
-    );
-    r.answer
 }

@@ -4,7 +4,6 @@ use Prim.Native.Nat.{_*_}
 use native.Mathlib.Omega.{arith}
 use Rattle.layout.specs.declared.Counts.{Counts}
 use Rattle.host.proofs.Loads.{long, head-fits, head-long, head-low, n-bounds, n-recs, n-locs, n-vias, n-regs, n-opers, n-pairs, n-targets, n-replay, in-picture, ran-same}
-use Rattle.sink.specs.Sink.{outcome}
 use borrow.Author.Needs.{needs}
 use Rattle.host.proofs.run.run.Statement.{statement}
 use Rattle.host.proofs.run.run.Tie as tie
@@ -118,7 +117,6 @@ same-length : tie.Need-same-length
 same-length c = c .before .before .before .before .before .before .before .before .before .before .sink-into .kept .0
 
 returns : tie.Need-returns
-unfolding outcome
 returns c = ran-same _ _ 3072 13120 800 (in-picture (c .before .before .before .before .before .before .before .before .before .before .before .before .before .before .before .before .before .before .before .before .before .before .before .before .before .before .before .before .before .before .before .before .before .before .before .before .before .before .before .args .picture .now) (c .before .before .before .before .before .before .before .before .before .before .before .before .before .before .before .before .before .before .before .before .before .before .before .before .before .before .before .before .before .before .before .before .before .before .before .before .before .before .before .args .registers) (c .before .before .before .before .before .before .before .before .before .before .before .before .before .before .before .before .before .before .before .before .before .before .before .before .before .before .before .before .before .before .before .before .before .before .before .before .before .before .before .args .operands) (c .before .before .before .before .before .before .before .before .before .before .before .before .before .before .before .before .before .before .before .before .before .before .before .before .before .before .before .before .before .before .before .before .before .before .before .before .counts .result) (c .before .before .before .before .before .before .before .before .before .before .before .before .before .before .before .before .before .before .before .before .before .before .before .before .before .before .before .before .before .before .before .before .before .before .before .before .counts .ensures) _ _ _ _ _ _ _ _ _ (c .before .before .before .before .before .before .before .before .before .before .before .before .before .before .before .before .before .before .before .before .before .before .before .before .before .before .before .before .before .before .before .before .before .load-bounds .ensures .0) (c .before .before .before .before .before .before .before .before .before .before .before .before .before .before .before .before .before .before .before .before .before .before .before .before .before .before .before .before .before .before .before .before .load-recs .ensures .0) (c .before .before .before .before .before .before .before .before .before .before .before .before .before .before .before .before .before .before .before .before .before .before .before .before .before .before .before .before .before .before .before .load-locs .ensures .0) (c .before .before .before .before .before .before .before .before .before .before .before .before .before .before .before .before .before .before .before .before .before .before .before .before .before .before .before .before .before .before .load-vias .ensures .0) (c .before .before .before .before .before .before .before .before .before .before .before .before .before .before .before .before .before .before .before .before .before .before .before .before .before .before .before .before .before .load-types .ensures .0) (c .before .before .before .before .before .before .before .before .before .before .before .before .before .before .before .before .before .before .before .before .before .before .before .before .before .before .before .before .load-ops .ensures .0) (c .before .before .before .before .before .before .before .before .before .before .before .before .before .before .before .before .before .before .before .before .before .before .before .before .before .before .before .load-pairs .ensures .0) (c .before .before .before .before .before .before .before .before .before .before .before .before .before .before .before .before .before .before .before .before .before .before .before .before .before .before .load-targets .ensures .0) (c .before .before .before .before .before .before .before .before .before .before .before .before .before .before .before .before .before .before .before .before .before .before .before .before .before .load-replay .ensures .0)) (c .before .before .before .before .before .before .before .before .before .before .sink-into .ensures)
 
 pub run-spec : {M : Type 1} → statement M

@@ -1,6 +1,6 @@
 -- `sink::here::sink_here` meets its contract: a walk of its MIR, by hand. The list of facts is a local of its own, lent whole to
--- `sink_rounds`, to which all else is passed on. Assumes nothing.
-use mathlib.Core.Path.{_≡_, refl, subst}
+-- `sink_all`, to which all else is passed on. Assumes nothing.
+use mathlib.Core.Path.{_≡_, refl}
 use Prim.Native.Nat.{ℕ, _<_, _^_}
 use lib.Dec.{lit<}
 use mathlib.Core.List.{List, [], _∷_, _++_}
@@ -44,18 +44,19 @@ use Rattle.facts.proofs.Params.{Par, ref, val, opened, closed}
 use Rattle.facts.proofs.Cells.{Cell, room, has, filled, cells, Homes, home, envOf, TypedIn, enters-all, frees-all}
 use Rattle.facts.proofs.Fact as T
 use Rattle.facts.proofs.Fact.Laws as T′
+use Rattle.model.specs.Picture.{Picture}
 use Rattle.model.specs.Refusal.{records}
+use Rattle.checks.specs.Causes.{picture-of}
 use Rattle.facts.proofs.Spots.{Spot, spot, at-spot, value}
 use Rattle.facts.proofs.Walks.{pick-at, others, pull-back}
 use Rattle.driver.proofs.rounds.Ran as R
 use Rattle.driver.proofs.rounds.Ran.Laws as R′
 use Rattle.driver.specs.declared.rounds.Ran.{Ran}
-use Rattle.sink.specs.Sink.{outcome, cause, Lent}
-use Rattle.driver.specs.Ended.{Did, Work}
-use Rattle.sink.proofs.sink_rounds as rounds-fn
-use Rattle.sink.proofs.sink_rounds.Symbol as rounds-fn-def
-use Rattle.sink.proofs.sink_rounds.Symbol.{name as #rounds-fn}
-use Rattle.sink.proofs.sink_rounds.Met as rounds-fn-thm
+use Rattle.sink.proofs.Call.{Promised, Promised-here, without-list}
+use Rattle.sink.proofs.sink_all as all-fn
+use Rattle.sink.proofs.sink_all.Symbol as all-fn-def
+use Rattle.sink.proofs.sink_all.Symbol.{name as #all-fn}
+use Rattle.sink.proofs.sink_all.Met as all-fn-thm
 use Rattle.sink.proofs.here.sink_here.Key.{name as #self}
 use Rattle.sink.proofs.here.sink_here as f
 use Rattle.sink.proofs.here.sink_here.Statement as stated
@@ -67,8 +68,8 @@ stayed = (stay-slice (0 ∷ []) tt (plain (λ _. u32)), (stay-slice (1 ∷ []) t
 
 -- the contract that the proof cites
 module _ {M : Type 1} (𝓤 : URA M) (H : Heap 𝓤) (A : Atoms 𝓤) (mem : Memory → SProp 𝓤) (run : Routine → Fun 𝓤) where
-  abbrev Rounds : Contract 𝓤
-  Rounds = tripleOf 𝓤 H A rounds-fn.signature (rounds-fn.spec 𝓤 H A mem run)
+  abbrev Whole : Contract 𝓤
+  Whole = tripleOf 𝓤 H A all-fn.signature (all-fn.spec 𝓤 H A mem run)
 
 -- the fact of which the list is made
 none-is : Is T.the-row no-fact (T′.lowered no-fact ∷ [])
@@ -126,20 +127,17 @@ module _ {M : Type 1} (𝓤 : URA M) (H : Heap 𝓤) (A : Atoms 𝓤) (W : Given
   abbrev Post : Val → SProp 𝓤
   Post = walkOf 𝓤 H A f.ended stayed (f.clauses 𝓤 H A mem run) .post (((s-bounds .κ, (s-recs .κ, (s-locs .κ, (s-vias .κ, (s-types .κ, (s-ops .κ, (s-pairs .κ, (s-targets .κ, (s-replay .κ, (s-work64 .κ, (s-work32 .κ, tt))))))))))), (s-bounds .q, (s-recs .q, (s-locs .q, (s-vias .q, (s-types .q, (s-ops .q, (s-pairs .q, (s-targets .q, (s-replay .q, (s-work64 .q, (s-work32 .q, tt))))))))))), tt, x, at), tt)
 
-  abbrev Said : List ℕ → List ℕ → List ℕ → List ℕ → List ℕ → List ℕ → List ℕ → List ℕ → Ran → Type 0
-  Said bounds recs locs vias types ops work64 work32 r = Did (outcome bounds₀ recs₀ locs₀ vias₀ types₀ regs ops₀ opers pairs targets replay (length work64₀) (length work32₀) records) (r .answer) (r .lines) bounds recs locs vias types ops × Work (cause bounds₀ recs₀ locs₀ vias₀ types₀ regs ops₀ opers pairs targets replay (length work64₀) (length work32₀) records) work64₀ work32₀ work64 work32
+  -- the picture that is lent
+  abbrev Lends : Picture
+  Lends = picture-of bounds₀ recs₀ locs₀ vias₀ types₀ regs ops₀ opers pairs targets replay
 
-  exits : (bounds recs locs vias types ops work64 work32 : List ℕ) (r : Ran) (w : Val) → length bounds ≡ length bounds₀ → length recs ≡ length recs₀ → length locs ≡ length locs₀ → length vias ≡ length vias₀ → length types ≡ length types₀ → length ops ≡ length ops₀ → length work64 ≡ length work64₀ → length work32 ≡ length work32₀ → Is R.the-row r (w ∷ []) → Said bounds recs locs vias types ops work64 work32 r → ent 𝓤 (⋆ 𝓤 H A (Held bounds recs locs vias types ops work64 work32)) (Post w)
+  exits : (bounds recs locs vias types ops work64 work32 : List ℕ) (r : Ran) (w : Val) → length bounds ≡ length bounds₀ → length recs ≡ length recs₀ → length locs ≡ length locs₀ → length vias ≡ length vias₀ → length types ≡ length types₀ → length ops ≡ length ops₀ → length work64 ≡ length work64₀ → length work32 ≡ length work32₀ → Is R.the-row r (w ∷ []) → Promised-here Lends work64₀ work32₀ records r bounds recs locs vias types ops work64 work32 → ent 𝓤 (⋆ 𝓤 H A (Held bounds recs locs vias types ops work64 work32)) (Post w)
   exits bounds recs locs vias types ops work64 work32 r w e-bounds e-recs e-locs e-vias e-types e-ops e-work64 e-work32 is said =
       qed W (Held bounds recs locs vias types ops work64 work32) ∵
       suffices ! _ (ends-at 𝓤 H A f.ended stayed (f.clauses 𝓤 H A mem run) W (((s-bounds .κ, (s-recs .κ, (s-locs .κ, (s-vias .κ, (s-types .κ, (s-ops .κ, (s-pairs .κ, (s-targets .κ, (s-replay .κ, (s-work64 .κ, (s-work32 .κ, tt))))))))))), (s-bounds .q, (s-recs .q, (s-locs .q, (s-vias .q, (s-types .q, (s-ops .q, (s-pairs .q, (s-targets .q, (s-replay .q, (s-work64 .q, (s-work32 .q, tt))))))))))), tt, x, at), tt) w r (bounds, (recs, (locs, (vias, (types, (tt, (ops, (tt, (tt, (tt, (tt, (work64, (work32, tt))))))))))))) (e-bounds, (e-recs, (e-locs, (e-vias, (e-types, (tt, (e-ops, (tt, (tt, (tt, (tt, (e-work64, (e-work32, tt)))))))))))))) $ says ! said $
       cut (Held bounds recs locs vias types ops work64 work32) (raw (Q.tokens 𝓤 H A (params bounds recs locs vias types ops work64 work32)) ∷ ‵ (Q.owned 𝓤 H A (params bounds recs locs vias types ops work64 work32)) ∷ []) _ (closed 𝓤 H A W (params bounds recs locs vias types ops work64 work32)) $ frame ! $ frame ! $ owned ! R.the-row (Is R.the-row) (LL.makes R.the-type R′.the-plain 𝓤 H A) r (w ∷ []) is $ done !
 
-  -- the list is of 800 facts
-  all-said : (bounds recs locs vias types ops work64 work32 : List ℕ) (facts : List Fact) (r : Ran) → Did (outcome bounds₀ recs₀ locs₀ vias₀ types₀ regs ops₀ opers pairs targets replay (length work64₀) (length work32₀) (length all-none)) (r .answer) (r .lines) bounds recs locs vias types ops × Work (cause bounds₀ recs₀ locs₀ vias₀ types₀ regs ops₀ opers pairs targets replay (length work64₀) (length work32₀) (length all-none)) work64₀ work32₀ work64 work32 × Lent (cause bounds₀ recs₀ locs₀ vias₀ types₀ regs ops₀ opers pairs targets replay (length work64₀) (length work32₀) (length all-none)) all-none facts → Said bounds recs locs vias types ops work64 work32 r
-  all-said bounds recs locs vias types ops work64 work32 facts r d = (subst (λ (n : ℕ). Did (outcome bounds₀ recs₀ locs₀ vias₀ types₀ regs ops₀ opers pairs targets replay (length work64₀) (length work32₀) n) (r .answer) (r .lines) bounds recs locs vias types ops) size (d .0), subst (λ (n : ℕ). Work (cause bounds₀ recs₀ locs₀ vias₀ types₀ regs ops₀ opers pairs targets replay (length work64₀) (length work32₀) n) work64₀ work32₀ work64 work32) size (d .1))
-
-  module _ (𝓣 : Tables 𝓤 H) (known-rounds : Triple 𝓤 (𝓣 .C #rounds-fn) (Rounds 𝓤 H A mem run)) where
+  module _ (𝓣 : Tables 𝓤 H) (known-all : Triple 𝓤 (𝓣 .C #all-fn) (Whole 𝓤 H A mem run)) where
     abbrev C : Calls 𝓤 H
     C = 𝓣 .C
 
@@ -169,10 +167,10 @@ module _ {M : Type 1} (𝓤 : URA M) (H : Heap 𝓤) (A : Atoms 𝓤) (W : Given
           ∷ lent-own 𝓤 H A W T.the-row T′.mir refl 800 home all-none all-vals size wide-fs (named 11) ∷ []
 
       abbrev Says : Ran → Lasts 𝓤 H A args → Type 0
-      Says r z = Did (outcome bounds₀ recs₀ locs₀ vias₀ types₀ regs ops₀ opers pairs targets replay (length work64₀) (length work32₀) (length all-none)) (r .answer) (r .lines) (z .0) (z .1 .0) (z .1 .1 .0) (z .1 .1 .1 .0) (z .1 .1 .1 .1 .0) (z .1 .1 .1 .1 .1 .1 .0) × Work (cause bounds₀ recs₀ locs₀ vias₀ types₀ regs ops₀ opers pairs targets replay (length work64₀) (length work32₀) (length all-none)) work64₀ work32₀ (z .1 .1 .1 .1 .1 .1 .1 .1 .1 .1 .1 .0) (z .1 .1 .1 .1 .1 .1 .1 .1 .1 .1 .1 .1 .0) × Lent (cause bounds₀ recs₀ locs₀ vias₀ types₀ regs ops₀ opers pairs targets replay (length work64₀) (length work32₀) (length all-none)) all-none (z .1 .1 .1 .1 .1 .1 .1 .1 .1 .1 .1 .1 .1 .0)
+      Says r z = Promised Lends work64₀ work32₀ all-none r (z .0) (z .1 .0) (z .1 .1 .0) (z .1 .1 .1 .0) (z .1 .1 .1 .1 .0) (z .1 .1 .1 .1 .1 .1 .0) (z .1 .1 .1 .1 .1 .1 .1 .1 .1 .1 .1 .0) (z .1 .1 .1 .1 .1 .1 .1 .1 .1 .1 .1 .1 .0) (z .1 .1 .1 .1 .1 .1 .1 .1 .1 .1 .1 .1 .1 .0)
 
-      call : ent 𝓤 (⋆ 𝓤 H A (G.hads 𝓤 H A args)) (H .⇛ (C #rounds-fn (G.flat 𝓤 H A args) (G.Then 𝓤 H A W args R.the-row Says)))
-      call = calls-of 𝓤 H A W C fm #rounds-fn (Rounds 𝓤 H A mem run) known-rounds args (λ g. ((G.lfts 𝓤 H A args g, G.shares 𝓤 H A args, tt, G.values 𝓤 H A args g, G.machs 𝓤 H A args), tt)) (λ g. refl)
+      call : ent 𝓤 (⋆ 𝓤 H A (G.hads 𝓤 H A args)) (H .⇛ (C #all-fn (G.flat 𝓤 H A args) (G.Then 𝓤 H A W args R.the-row Says)))
+      call = calls-of 𝓤 H A W C fm #all-fn (Whole 𝓤 H A mem run) known-all args (λ g. ((G.lfts 𝓤 H A args g, G.shares 𝓤 H A args, tt, G.values 𝓤 H A args g, G.machs 𝓤 H A args), tt)) (λ g. refl)
           (λ g. qed W (raw (G.tokens 𝓤 H A args g) ∷ ‵ (G.owns 𝓤 H A args g) ∷ []) ∵ join ! $ frame ! $ done !) R.the-row Says (λ g w. id⊢ 𝓤 _)
 
     module _ (homes : Homes (code.function .locals)) where
@@ -202,7 +200,7 @@ module _ {M : Type 1} (𝓤 : URA M) (H : Heap 𝓤) (A : Atoms 𝓤) (W : Given
           move ! (11 ∷ []) $
           cut (pick-at 𝓤 H A W 47 (Left u r) ∷ others 𝓤 H A W 47 (Left u r)) (Left u r) _ (pull-back 𝓤 H A W 47 (Left u r)) $
           frees-all (Held (r .1 .0) (r .1 .1 .0) (r .1 .1 .1 .0) (r .1 .1 .1 .1 .0) (r .1 .1 .1 .1 .1 .0) (r .1 .1 .1 .1 .1 .1 .1 .0) (r .1 .1 .1 .1 .1 .1 .1 .1 .1 .1 .1 .1 .0) (r .1 .1 .1 .1 .1 .1 .1 .1 .1 .1 .1 .1 .1 .0)) En ((has u ∷ filled given) ++ rest room) !
-          (by ! (exits (r .1 .0) (r .1 .1 .0) (r .1 .1 .1 .0) (r .1 .1 .1 .1 .0) (r .1 .1 .1 .1 .1 .0) (r .1 .1 .1 .1 .1 .1 .1 .0) (r .1 .1 .1 .1 .1 .1 .1 .1 .1 .1 .1 .1 .0) (r .1 .1 .1 .1 .1 .1 .1 .1 .1 .1 .1 .1 .1 .0) (r .0) u (a .1 .1 .0) (a .1 .1 .1 .0) (a .1 .1 .1 .1 .0) (a .1 .1 .1 .1 .1 .0) (a .1 .1 .1 .1 .1 .1 .0) (a .1 .1 .1 .1 .1 .1 .1 .1 .0) (a .1 .1 .1 .1 .1 .1 .1 .1 .1 .1 .1 .1 .1 .0) (a .1 .1 .1 .1 .1 .1 .1 .1 .1 .1 .1 .1 .1 .1 .0) (a .0) (all-said (r .1 .0) (r .1 .1 .0) (r .1 .1 .1 .0) (r .1 .1 .1 .1 .0) (r .1 .1 .1 .1 .1 .0) (r .1 .1 .1 .1 .1 .1 .1 .0) (r .1 .1 .1 .1 .1 .1 .1 .1 .1 .1 .1 .1 .0) (r .1 .1 .1 .1 .1 .1 .1 .1 .1 .1 .1 .1 .1 .0) (r .1 .1 .1 .1 .1 .1 .1 .1 .1 .1 .1 .1 .1 .1 .0) (r .0) (a .1 .0)))))
+          (by ! (exits (r .1 .0) (r .1 .1 .0) (r .1 .1 .1 .0) (r .1 .1 .1 .1 .0) (r .1 .1 .1 .1 .1 .0) (r .1 .1 .1 .1 .1 .1 .1 .0) (r .1 .1 .1 .1 .1 .1 .1 .1 .1 .1 .1 .1 .0) (r .1 .1 .1 .1 .1 .1 .1 .1 .1 .1 .1 .1 .1 .0) (r .0) u (a .1 .1 .0) (a .1 .1 .1 .0) (a .1 .1 .1 .1 .0) (a .1 .1 .1 .1 .1 .0) (a .1 .1 .1 .1 .1 .1 .0) (a .1 .1 .1 .1 .1 .1 .1 .1 .0) (a .1 .1 .1 .1 .1 .1 .1 .1 .1 .1 .1 .1 .1 .0) (a .1 .1 .1 .1 .1 .1 .1 .1 .1 .1 .1 .1 .1 .1 .0) (a .0) (without-list (r .0) size (a .1 .0)))))
 
       -- the MIR, once the parameters are in their locals: the list, and what is lent
       begins : ent 𝓤 (⋆ 𝓤 H A (cells 𝓤 H En (room ∷ filled given) ++ Held bounds₀ recs₀ locs₀ vias₀ types₀ ops₀ work64₀ work32₀)) (Wp 𝓤 H C Λ En m.t-1 (atReturn 𝓤 H En Post))
@@ -243,18 +241,18 @@ module _ {M : Type 1} (𝓤 : URA M) (H : Heap 𝓤) (A : Atoms 𝓤) (W : Given
     from-entry = via 𝓤 (⋆ 𝓤 H A (Held bounds₀ recs₀ locs₀ vias₀ types₀ ops₀ work64₀ work32₀)) (opened 𝓤 H A W (params bounds₀ recs₀ locs₀ vias₀ types₀ ops₀ work64₀ work32₀)) (enters-all 𝓤 H A W C Λ code.function given (Held bounds₀ recs₀ locs₀ vias₀ types₀ ops₀ work64₀ work32₀) Post typed begins)
 
 module _ {M : Type 1} (𝓤 : URA M) (H : Heap 𝓤) (A : Atoms 𝓤) (W : Given 𝓤 H A) (mem : Memory → SProp 𝓤) (run : Routine → Fun 𝓤) where
-  sink-here-walks : (𝓣 : Tables 𝓤 H) → Triple 𝓤 (𝓣 .C #rounds-fn) (Rounds 𝓤 H A mem run) → Walks 𝓤 H A f.ended stayed (WpFn 𝓤 H (𝓣 .C) (𝓣 .Λ) code.function) (f.clauses 𝓤 H A mem run)
-  sink-here-walks 𝓣 known-rounds = walked 𝓤 H A f.ended stayed (f.clauses 𝓤 H A mem run) (WpFn 𝓤 H (𝓣 .C) (𝓣 .Λ) code.function) (λ κs. (slice-vals, (slice-vals, (slice-vals, (slice-vals, (slice-vals, (uint-vals w32, (slice-vals, (uint-vals w32, (slice-vals, (slice-vals, (slice-vals, (slice-vals, (slice-vals, tt))))))))))))))
+  sink-here-walks : (𝓣 : Tables 𝓤 H) → Triple 𝓤 (𝓣 .C #all-fn) (Whole 𝓤 H A mem run) → Walks 𝓤 H A f.ended stayed (WpFn 𝓤 H (𝓣 .C) (𝓣 .Λ) code.function) (f.clauses 𝓤 H A mem run)
+  sink-here-walks 𝓣 known-all = walked 𝓤 H A f.ended stayed (f.clauses 𝓤 H A mem run) (WpFn 𝓤 H (𝓣 .C) (𝓣 .Λ) code.function) (λ κs. (slice-vals, (slice-vals, (slice-vals, (slice-vals, (slice-vals, (uint-vals w32, (slice-vals, (uint-vals w32, (slice-vals, (slice-vals, (slice-vals, (slice-vals, (slice-vals, tt))))))))))))))
       (λ κs. (mut-slice-tells (named 0) (κs .0) u32, (mut-slice-tells (named 1) (κs .1 .0) u32, (mut-slice-tells (named 2) (κs .1 .1 .0) u32, (mut-slice-tells (named 3) (κs .1 .1 .1 .0) u32, (mut-slice-tells (named 4) (κs .1 .1 .1 .1 .0) u32, (uint-tells w32, (mut-slice-tells (named 5) (κs .1 .1 .1 .1 .1 .0) u32, (uint-tells w32, (shr-slice-tells (named 6) (κs .1 .1 .1 .1 .1 .1 .0) u32, (shr-slice-tells (named 7) (κs .1 .1 .1 .1 .1 .1 .1 .0) u32, (shr-slice-tells (named 8) (κs .1 .1 .1 .1 .1 .1 .1 .1 .0) u32, (mut-slice-tells (named 9) (κs .1 .1 .1 .1 .1 .1 .1 .1 .1 .0) u64, (mut-slice-tells (named 10) (κs .1 .1 .1 .1 .1 .1 .1 .1 .1 .1 .0) u32, tt))))))))))))))
       (λ κs qs bounds a g are. via 𝓤 _ (fst∗ 𝓤 _ (f.clauses 𝓤 H A mem run κs a .requires g)) (from-entry 𝓤 H A W mem run (spot (κs .0) (qs .0) (a .0)) (spot (κs .1 .0) (qs .1 .0) (a .1 .0)) (spot (κs .1 .1 .0) (qs .1 .1 .0) (a .1 .1 .0)) (spot (κs .1 .1 .1 .0) (qs .1 .1 .1 .0) (a .1 .1 .1 .0)) (spot (κs .1 .1 .1 .1 .0) (qs .1 .1 .1 .1 .0) (a .1 .1 .1 .1 .0)) (spot (κs .1 .1 .1 .1 .1 .0) (qs .1 .1 .1 .1 .1 .0) (a .1 .1 .1 .1 .1 .1 .0)) (spot (κs .1 .1 .1 .1 .1 .1 .0) (qs .1 .1 .1 .1 .1 .1 .0) (a .1 .1 .1 .1 .1 .1 .1 .1 .0)) (spot (κs .1 .1 .1 .1 .1 .1 .1 .0) (qs .1 .1 .1 .1 .1 .1 .1 .0) (a .1 .1 .1 .1 .1 .1 .1 .1 .1 .0)) (spot (κs .1 .1 .1 .1 .1 .1 .1 .1 .0) (qs .1 .1 .1 .1 .1 .1 .1 .1 .0) (a .1 .1 .1 .1 .1 .1 .1 .1 .1 .1 .0)) (spot (κs .1 .1 .1 .1 .1 .1 .1 .1 .1 .0) (qs .1 .1 .1 .1 .1 .1 .1 .1 .1 .0) (a .1 .1 .1 .1 .1 .1 .1 .1 .1 .1 .1 .0)) (spot (κs .1 .1 .1 .1 .1 .1 .1 .1 .1 .1 .0) (qs .1 .1 .1 .1 .1 .1 .1 .1 .1 .1 .0) (a .1 .1 .1 .1 .1 .1 .1 .1 .1 .1 .1 .1 .0)) (a .0 .now) (a .1 .0 .now) (a .1 .1 .0 .now) (a .1 .1 .1 .0 .now) (a .1 .1 .1 .1 .0 .now) (a .1 .1 .1 .1 .1 .1 .0 .now) (a .1 .1 .1 .1 .1 .1 .1 .1 .0 .now) (a .1 .1 .1 .1 .1 .1 .1 .1 .1 .0 .now) (a .1 .1 .1 .1 .1 .1 .1 .1 .1 .1 .0 .now) (a .1 .1 .1 .1 .1 .1 .1 .1 .1 .1 .1 .0 .now) (a .1 .1 .1 .1 .1 .1 .1 .1 .1 .1 .1 .1 .0 .now) (a .1 .1 .1 .1 .1 .0) (a .1 .1 .1 .1 .1 .1 .1 .0)
-      (are .0 .0 .1) (are .1 .0 .0 .1) (are .1 .1 .0 .0 .1) (are .1 .1 .1 .0 .0 .1) (are .1 .1 .1 .1 .0 .0 .1) (are .1 .1 .1 .1 .1 .1 .0 .0 .1) (are .1 .1 .1 .1 .1 .1 .1 .1 .0 .0 .1) (are .1 .1 .1 .1 .1 .1 .1 .1 .1 .0 .0 .1) (are .1 .1 .1 .1 .1 .1 .1 .1 .1 .1 .0 .0 .1) (are .1 .1 .1 .1 .1 .1 .1 .1 .1 .1 .1 .0 .0 .1) (are .1 .1 .1 .1 .1 .1 .1 .1 .1 .1 .1 .1 .0 .0 .1) (are .1 .1 .1 .1 .1 .0 .1) (are .1 .1 .1 .1 .1 .1 .1 .0 .1) 𝓣 known-rounds))
+      (are .0 .0 .1) (are .1 .0 .0 .1) (are .1 .1 .0 .0 .1) (are .1 .1 .1 .0 .0 .1) (are .1 .1 .1 .1 .0 .0 .1) (are .1 .1 .1 .1 .1 .1 .0 .0 .1) (are .1 .1 .1 .1 .1 .1 .1 .1 .0 .0 .1) (are .1 .1 .1 .1 .1 .1 .1 .1 .1 .0 .0 .1) (are .1 .1 .1 .1 .1 .1 .1 .1 .1 .1 .0 .0 .1) (are .1 .1 .1 .1 .1 .1 .1 .1 .1 .1 .1 .0 .0 .1) (are .1 .1 .1 .1 .1 .1 .1 .1 .1 .1 .1 .1 .0 .0 .1) (are .1 .1 .1 .1 .1 .0 .1) (are .1 .1 .1 .1 .1 .1 .1 .0 .1) 𝓣 known-all))
 
   goes : AllGo 𝓤 H A W 11 (f.signature .params) (f.ended .kept) stayed
   goes = (goes-slice 𝓤 H A W 11 0 tt (plain (λ _. u32)), (goes-slice 𝓤 H A W 11 1 tt (plain (λ _. u32)), (goes-slice 𝓤 H A W 11 2 tt (plain (λ _. u32)), (goes-slice 𝓤 H A W 11 3 tt (plain (λ _. u32)), (goes-slice 𝓤 H A W 11 4 tt (plain (λ _. u32)), (goes-none 𝓤 H A W 11 (λ _. u32) yes (λ κs x f. refl), (goes-slice 𝓤 H A W 11 5 tt (plain (λ _. u32)), (goes-none 𝓤 H A W 11 (λ _. u32) yes (λ κs x f. refl), (goes-none-slice 𝓤 H A W 11 (6 ∷ []) tt (plain (λ _. u32)) yes, (goes-none-slice 𝓤 H A W 11 (7 ∷ []) tt (plain (λ _. u32)) yes, (goes-none-slice 𝓤 H A W 11 (8 ∷ []) tt (plain (λ _. u32)) yes, (goes-slice 𝓤 H A W 11 9 tt (plain (λ _. u64)), (goes-slice 𝓤 H A W 11 10 tt (plain (λ _. u32)), tt)))))))))))))
 
-sink-here-meets : {M : Type 1} (𝓤 : URA M) (H : Heap 𝓤) (A : Atoms 𝓤) → Given 𝓤 H A → (mem : Memory → SProp 𝓤) (run : Routine → Fun 𝓤) (𝓣 : Tables 𝓤 H) → Triple 𝓤 (𝓣 .C #rounds-fn) (Rounds 𝓤 H A mem run)
+sink-here-meets : {M : Type 1} (𝓤 : URA M) (H : Heap 𝓤) (A : Atoms 𝓤) → Given 𝓤 H A → (mem : Memory → SProp 𝓤) (run : Routine → Fun 𝓤) (𝓣 : Tables 𝓤 H) → Triple 𝓤 (𝓣 .C #all-fn) (Whole 𝓤 H A mem run)
     → Meets 𝓤 H A f.signature (WpFn 𝓤 H (𝓣 .C) (𝓣 .Λ) code.function) (f.spec 𝓤 H A mem run)
-sink-here-meets 𝓤 H A W mem run 𝓣 known-rounds = walk-meets 𝓤 H A f.ended stayed W (goes 𝓤 H A W mem run) (f.clauses 𝓤 H A mem run) (WpFn 𝓤 H (𝓣 .C) (𝓣 .Λ) code.function) (WpFn-mono 𝓤 H (W .laws) 𝓣 code.function) (sink-here-walks 𝓤 H A W mem run 𝓣 known-rounds)
+sink-here-meets 𝓤 H A W mem run 𝓣 known-all = walk-meets 𝓤 H A f.ended stayed W (goes 𝓤 H A W mem run) (f.clauses 𝓤 H A mem run) (WpFn 𝓤 H (𝓣 .C) (𝓣 .Λ) code.function) (WpFn-mono 𝓤 H (W .laws) 𝓣 code.function) (sink-here-walks 𝓤 H A W mem run 𝓣 known-all)
 
 pub sink-here-spec : {M : Type 1} → stated.statement M
 unfolding code.routine tablesOf
@@ -262,4 +260,4 @@ sink-here-spec 𝓤 H 𝓜 𝓖 𝓡 =
     entered 𝓤 H (tripleOf 𝓤 H (𝓖 .A) f.signature (f.spec 𝓤 H (𝓖 .A) (𝓜 .mem) (𝓡 .run)))
     (tables 𝓤 H 𝓜 𝓡 code.env .C) (tables 𝓤 H 𝓜 𝓡 code.env .Λ) #self code.function (code.unfolded 𝓤 H 𝓜 𝓡)
     (sink-here-meets 𝓤 H (𝓖 .A) (givenOf 𝓤 H 𝓜 𝓖) (𝓜 .mem) (𝓡 .run) (tablesOf 𝓤 H 𝓜 (tables 𝓤 H 𝓜 𝓡 code.env))
-    (cited 𝓤 H (Rounds 𝓤 H (𝓖 .A) (𝓜 .mem) (𝓡 .run)) 𝓜 𝓡 code.env #rounds-fn rounds-fn-def.routine code.calls-sink·sink-rounds (rounds-fn-thm.met 𝓤 H 𝓜 𝓖 𝓡)))
+    (cited 𝓤 H (Whole 𝓤 H (𝓖 .A) (𝓜 .mem) (𝓡 .run)) 𝓜 𝓡 code.env #all-fn all-fn-def.routine code.calls-sink·sink-all (all-fn-thm.met 𝓤 H 𝓜 𝓖 𝓡)))
