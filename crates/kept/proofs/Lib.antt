@@ -16,4 +16,5 @@ pub mod Plainly
 pub mod Followed
 pub mod Answer
 pub mod Accord
+pub mod Stood
 pub mod Listing

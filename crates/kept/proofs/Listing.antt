@@ -1,19 +1,24 @@
 -- The theorem is not empty: at 01's listing, and at a picture with a chain of two blocks and two rounds, which move three instructions
--- twice, its premises hold and something moves; and two moves that are not lawful do not follow. Assumes nothing.
+-- twice, its premises hold and something moves; so they do at each stop between rounds, of nine blocks, and on walks of eight and nine
+-- places; and moves that are not lawful do not follow. Assumes nothing.
 use mathlib.Core.Path.{_≡_, refl}
-use mathlib.Core.Bool.{true, false}
+use mathlib.Core.Bool.{true, false, not}
 use mathlib.Core.List.{List, [], _∷_, _++_, map}
-use Prim.Native.Nat.{ℕ}
+use Prim.Native.Nat.{ℕ, _≤_}
 use native.Mathlib.Omega.{arith}
 use lib.Dec.{T}
 use lib.ListN.{replicate}
+use Rattle.words.specs.Lists.{In}
+use Rattle.words.proofs.Bools.{T-false}
+use Rattle.words.proofs.Members.{all-in}
 use Rattle.model.specs.Picture.{Picture}
 use Rattle.model.specs.Refusal.{records}
 use Rattle.model.specs.Pass.{rounds, sink}
 use Rattle.model.specs.Build.{shows}
 use Rattle.model.specs.Marked.{konst, cmp, branch, output, ret, sunk, lent, nine, behind}
 use Rattle.kept.specs.Walk.{after, is-walk, Follows, Keeps}
-use Rattle.kept.specs.Shown.{listing, twice, back, runs-of, reads-well}
+use Rattle.kept.specs.Shown.{listing, loop, twice, back, far, far-walk, loop-walk, runs-of, reads-well, follows}
+use Rattle.kept.specs.Wrong.{Move, moves}
 use Rattle.kept.proofs.Answer.{demand3}
 use Rattle.kept.proofs.Accord.{refuted}
 
@@ -28,6 +33,17 @@ listing-moved = refl
 
 pub twice-kept : (w : List ℕ) → T (is-walk twice w) → Follows twice (after twice 2 .now) (after twice 2 .was) w
 twice-kept = demand3 twice 1000 9000 records 2 refl (omega arith) .along tt
+
+-- at each stop between rounds
+pub twice-at : (k : ℕ) → k ≤ 2 → Keeps twice (after twice k .now) (after twice k .was)
+twice-at k h = demand3 twice 1000 9000 records k refl h
+
+-- of nine blocks, on a walk of eight places; and on one of nine places through a loop
+pub far-kept : Follows far (after far 1 .now) (after far 1 .was) far-walk
+far-kept = demand3 far 1000 9000 records 1 refl (omega arith) .along tt far-walk tt
+
+pub loop-kept : Follows loop (after loop 1 .now) (after loop 1 .was) loop-walk
+loop-kept = demand3 loop 1000 9000 records 1 refl (omega arith) .along tt loop-walk tt
 
 pub answers : rounds (sink listing 1000 9000 records .answer) ∷ rounds (sink twice 1000 9000 records .answer) ∷ [] ≡ 1 ∷ 2 ∷ []
 answers = refl
@@ -57,6 +73,12 @@ sunk-below-refused = refuted written-again sunk-below (0 ∷ 2 ∷ 3 ∷ 1 ∷ 4
 
 pub sunk-below-read : map (reads-well written-again sunk-below (0 ∷ 2 ∷ 3 ∷ 1 ∷ 4 ∷ 5 ∷ 6 ∷ []) (0 ∷ 1 ∷ [])) (runs-of sunk-below (0 ∷ 1 ∷ [])) ≡ true ∷ true ∷ true ∷ false ∷ true ∷ true ∷ []
 sunk-below-read = refl
+
+-- the moves of specs/Wrong
+pub moves-refused : (m : Move) → In m moves → Follows (m .before) (m .then) (m .places) (m .walk) → ⊥
+moves-refused m i =
+    refuted (m .before) (m .then) (m .places) (m .walk)
+    (T-false (follows (m .before) (m .then) (m .places) (m .walk)) (all-in (λ m. not (follows (m .before) (m .then) (m .places) (m .walk))) m moves tt i))
 
 -- without the premise on block 0 the claim is false
 pub premise-needed : Follows back (after back 1 .now) (after back 1 .was) (0 ∷ []) → ⊥

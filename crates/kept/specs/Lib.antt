@@ -1,2 +1,4 @@
 pub mod Walk
 pub mod Shown
+pub mod Stood
+pub mod Wrong

@@ -7,7 +7,7 @@ use mathlib.Core.Option.{Option, none, some}
 use Prim.Native.Nat.{ℕ}
 use lib.Dec.{eqb, leb}
 use lib.ListN.{getD, length, replicate}
-use Rattle.words.specs.Lists.{_implies_, upto, all, any, concat}
+use Rattle.words.specs.Lists.{_implies_, range, upto, all, any, concat}
 use Rattle.model.specs.Picture.{Picture, places}
 use Rattle.model.specs.Analyse.{when-some, unless-some}
 use Rattle.model.specs.Refusal.{records, refusal}
@@ -100,6 +100,19 @@ twice =
 abbrev pub back : Picture
 back = lent ((output 4 ∷ jump 1 ∷ []) ∷ (cmp 3 1 ∷ cmp 4 3 ∷ cmp 5 4 ∷ branch 0 2 ∷ []) ∷ gate ∷ []) (nine []) (0 ∷ [])
 
+-- nine blocks; what goes to block 1 is read there, and the walk goes on
+abbrev pub far : Picture
+far =
+    lent ((konst 8 ∷ cmp 3 1 ∷ cmp 4 3 ∷ cmp 5 4 ∷ branch 1 8 ∷ []) ∷ (output 5 ∷ jump 2 ∷ []) ∷ map (λ b. jump b ∷ []) (range 3 5) ++ (output 1 ∷ ret [] ∷ []) ∷ gate ∷ []) (nine [])
+    (1 ∷ [])
+
+-- eight places along it; nine in the loop
+abbrev pub far-walk : List ℕ
+far-walk = upto 8
+
+abbrev pub loop-walk : List ℕ
+loop-walk = 0 ∷ 1 ∷ 2 ∷ 1 ∷ 2 ∷ 1 ∷ 2 ∷ 1 ∷ 3 ∷ []
+
 abbrev pub rows : List Row
 rows =
     row listing 1 (0 ∷ 1 ∷ [])
@@ -109,20 +122,22 @@ rows =
     ∷ row twice 1 (0 ∷ 1 ∷ 2 ∷ 4 ∷ [])
     ∷ row twice 2 (0 ∷ 1 ∷ 2 ∷ 4 ∷ [])
     ∷ row twice 2 (0 ∷ 1 ∷ 2 ∷ 5 ∷ [])
+    ∷ row far 1 far-walk
+    ∷ row loop 1 loop-walk
     -- block 0 has a predecessor; no walks: a step to a block that is no successor, and one that starts elsewhere
     ∷ row back 1 (0 ∷ [])
     ∷ row loop 1 (0 ∷ 2 ∷ [])
     ∷ row listing 1 (1 ∷ [])
     ∷ []
 
-pub shown : map claim rows ≡ replicate 10 true
+pub shown : map claim rows ≡ replicate 12 true
 shown = refl
 
 -- the premises of the last three do not hold, and there the claim would be false
-pub met : map premises rows ≡ replicate 7 true ++ replicate 3 false
+pub met : map premises rows ≡ replicate 9 true ++ replicate 3 false
 met = refl
 
-pub needed : map (λ r. let s = after (r .what) (r .rounds-done) in follows (r .what) (s .now) (s .was) (r .walk)) rows ≡ replicate 7 true ++ replicate 3 false
+pub needed : map (λ r. let s = after (r .what) (r .rounds-done) in follows (r .what) (s .now) (s .was) (r .walk)) rows ≡ replicate 9 true ++ replicate 3 false
 needed = refl
 
 -- ---- the instructions that move
