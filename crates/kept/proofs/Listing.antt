@@ -13,11 +13,11 @@ use Rattle.words.proofs.Bools.{T-false}
 use Rattle.words.proofs.Members.{all-in}
 use Rattle.model.specs.Picture.{Picture}
 use Rattle.model.specs.Refusal.{records}
-use Rattle.model.specs.Pass.{rounds, sink}
+use Rattle.model.specs.Pass.{number, sink}
 use Rattle.model.specs.Build.{shows}
 use Rattle.model.specs.Marked.{konst, cmp, branch, output, ret, sunk, lent, nine, behind}
 use Rattle.kept.specs.Walk.{after, is-walk, Follows, Keeps}
-use Rattle.kept.specs.Shown.{listing, loop, twice, back, far, far-walk, loop-walk, runs-of, reads-well, follows}
+use Rattle.kept.specs.Shown.{listing, loop, twice, cramped, back, far, far-walk, loop-walk, runs-of, reads-well, follows}
 use Rattle.kept.specs.Wrong.{Move, moves}
 use Rattle.kept.proofs.Answer.{demand3}
 use Rattle.kept.proofs.Accord.{refuted}
@@ -45,7 +45,12 @@ far-kept = demand3 far 1000 9000 records 1 refl (omega arith) .along tt far-walk
 pub loop-kept : Follows loop (after loop 1 .now) (after loop 1 .was) loop-walk
 loop-kept = demand3 loop 1000 9000 records 1 refl (omega arith) .along tt loop-walk tt
 
-pub answers : rounds (sink listing 1000 9000 records .answer) ∷ rounds (sink twice 1000 9000 records .answer) ∷ [] ≡ 1 ∷ 2 ∷ []
+-- where the call ends Short
+pub cramped-kept : Keeps cramped (after cramped 1 .now) (after cramped 1 .was)
+cramped-kept = demand3 cramped 1000 9000 records 1 refl (omega arith)
+
+-- Done after 1 and 2 rounds, Short after 1
+pub answers : map (λ P. number (sink P 1000 9000 records .answer)) (listing ∷ twice ∷ cramped ∷ []) ≡ 1 ∷ 2 ∷ 101 ∷ []
 answers = refl
 
 -- ---- what it shuts out

@@ -12,6 +12,7 @@ use Rattle.model.specs.Picture.{Picture, places}
 use Rattle.model.specs.Analyse.{when-some, unless-some}
 use Rattle.model.specs.Refusal.{records, refusal}
 use Rattle.model.specs.Pass.{rounds, sink}
+use Rattle.model.specs.Build.{Room}
 use Rattle.model.specs.Marked.{konst, cmp, cat, branch, jump, output, ret, first, ends, lent, nine}
 use Rattle.kept.specs.Walk.{after, clear-entry, is-walk, Run, Write, takes, is-run, match}
 
@@ -91,10 +92,17 @@ abbrev pub loop : Picture
 loop = lent ((konst 8 ∷ jump 1 ∷ []) ∷ (cmp 3 1 ∷ cmp 3 3 ∷ cmp 4 3 ∷ branch 2 3 ∷ []) ∷ (output 4 ∷ jump 1 ∷ []) ∷ gate ∷ []) (nine []) (2 ∷ [])
 
 -- a chain of two blocks, 0 and 1; what goes to block 2 in round 1 goes on to block 4 in round 2
-abbrev pub twice : Picture
-twice =
-    lent ((konst 8 ∷ cmp 3 1 ∷ cmp 4 3 ∷ cmp 5 4 ∷ jump 1 ∷ []) ∷ (branch 2 3 ∷ []) ∷ (branch 4 5 ∷ []) ∷ gate ∷ (output 1 ∷ ret [] ∷ []) ∷ (ret [] ∷ []) ∷ []) (nine [])
+abbrev two-rounds : Room → Picture
+two-rounds m =
+    lent ((konst 8 ∷ cmp 3 1 ∷ cmp 4 3 ∷ cmp 5 4 ∷ jump 1 ∷ []) ∷ (branch 2 3 ∷ []) ∷ (branch 4 5 ∷ []) ∷ gate ∷ (output 1 ∷ ret [] ∷ []) ∷ (ret [] ∷ []) ∷ []) m
     (2 ∷ 4 ∷ [])
+
+abbrev pub twice : Picture
+twice = two-rounds (nine [])
+
+-- the same with a register too few for round 2
+abbrev pub cramped : Picture
+cramped = two-rounds (record { types = 0 ∷ 0 ∷ 1 ∷ replicate 6 0; registers = 12; ops = []; operands = 1 })
 
 -- block 0 is x's target: a walk's first place runs what came from a block that it has not visited
 abbrev pub back : Picture
@@ -122,6 +130,7 @@ rows =
     ∷ row twice 1 (0 ∷ 1 ∷ 2 ∷ 4 ∷ [])
     ∷ row twice 2 (0 ∷ 1 ∷ 2 ∷ 4 ∷ [])
     ∷ row twice 2 (0 ∷ 1 ∷ 2 ∷ 5 ∷ [])
+    ∷ row cramped 1 (0 ∷ 1 ∷ 2 ∷ 4 ∷ [])
     ∷ row far 1 far-walk
     ∷ row loop 1 loop-walk
     -- block 0 has a predecessor; no walks: a step to a block that is no successor, and one that starts elsewhere
@@ -130,14 +139,14 @@ rows =
     ∷ row listing 1 (1 ∷ [])
     ∷ []
 
-pub shown : map claim rows ≡ replicate 12 true
+pub shown : map claim rows ≡ replicate 13 true
 shown = refl
 
 -- the premises of the last three do not hold, and there the claim would be false
-pub met : map premises rows ≡ replicate 9 true ++ replicate 3 false
+pub met : map premises rows ≡ replicate 10 true ++ replicate 3 false
 met = refl
 
-pub needed : map (λ r. let s = after (r .what) (r .rounds-done) in follows (r .what) (s .now) (s .was) (r .walk)) rows ≡ replicate 9 true ++ replicate 3 false
+pub needed : map (λ r. let s = after (r .what) (r .rounds-done) in follows (r .what) (s .now) (s .was) (r .walk)) rows ≡ replicate 10 true ++ replicate 3 false
 needed = refl
 
 -- ---- the instructions that move
