@@ -8,3 +8,9 @@ pub mod Move
 pub mod Pass
 pub mod Build
 pub mod Marked
+pub mod Small
+pub mod Arms
+pub mod Memory
+pub mod Paths
+pub mod Refused
+pub mod Moved
