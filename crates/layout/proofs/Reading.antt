@@ -14,7 +14,7 @@ use Rattle.words.proofs.Bools.{lt?, left-true, right-true}
 use Rattle.words.proofs.Copying.{sets-all}
 use Rattle.words.proofs.Encoding.{word-drop, length-words}
 use Rattle.layout.specs.declared.Counts.{Counts}
-use Rattle.layout.specs.Layout.{counts, held, within, at-end, readable, part, room}
+use Rattle.layout.specs.Layout.{counts, held, within, at-end, readable, part, padded, room}
 
 -- ---- words
 
@@ -152,19 +152,19 @@ whole bs = go (leb 32 (length bs)) (within (held bs)) (eqb (length bs) (4 * at-e
 abbrev zeros : ℕ → List ℕ
 zeros n = replicate n 0
 
-drop-zeros : (k n : ℕ) → drop k (zeros n) ≡ zeros (n - k)
+pub drop-zeros : (k n : ℕ) → drop k (zeros n) ≡ zeros (n - k)
 drop-zeros zero n = let z : n - 0 ≡ n = omega arith in rw z
 drop-zeros (suc k) zero = let z : 0 - suc k ≡ 0 = omega arith in rw z
 drop-zeros (suc k) (suc n) = let z : suc n - suc k ≡ n - k = omega arith in rw z (drop-zeros k n)
 
-room-more : (vs : List ℕ) (l : ℕ) → length vs ≤ l → sets (zeros l) 0 vs ≡ room l vs
-room-more vs l h =
+pub sets-zeros : (vs : List ℕ) (l : ℕ) → length vs ≤ l → sets (zeros l) 0 vs ≡ padded l vs
+sets-zeros vs l h =
     let n : length (zeros l) ≡ l = length-replicate l 0 in
     let z : 0 + length vs ≡ length vs = omega arith in
-    sets-eq vs (zeros l) 0 (omega arith)
-    ∙ ap (λ (k : ℕ). vs ++ drop k (zeros l)) z
-    ∙ ap (λ (t : List ℕ). vs ++ t) (drop-zeros (length vs) l)
-    ∙ sym (take-all l (vs ++ zeros (l - length vs)) (simp (length-append, length-replicate) (omega arith)))
+    sets-eq vs (zeros l) 0 (omega arith) ∙ ap (λ (k : ℕ). vs ++ drop k (zeros l)) z ∙ ap (λ (t : List ℕ). vs ++ t) (drop-zeros (length vs) l)
+
+room-more : (vs : List ℕ) (l : ℕ) → length vs ≤ l → sets (zeros l) 0 vs ≡ room l vs
+room-more vs l h = sets-zeros vs l h ∙ sym (take-all l (padded l vs) (simp (length-append, length-replicate) (omega arith)))
 
 pub room-is : (ws : List ℕ) (at n l : ℕ) → at + n ≤ length ws → sets (zeros l) 0 (part ws at (min n l)) ≡ room l (part ws at n)
 room-is ws at n l h = ⊎-elim less more (lt? l n)

@@ -86,9 +86,13 @@ readable bs = leb 32 (length bs) && within (held bs) && eqb (length bs) (4 * at-
 abbrev pub part : List ℕ → ℕ → ℕ → List ℕ
 part ws at n = take n (drop at ws)
 
--- what is given, then zeros up to n words lent
+-- what is given, then zeros up to n
+abbrev pub padded : ℕ → List ℕ → List ℕ
+padded n xs = xs ++ replicate (n - length xs) 0
+
+-- so many words lent
 abbrev pub room : ℕ → List ℕ → List ℕ
-room n xs = take n (xs ++ replicate (n - length xs) 0)
+room n xs = take n (padded n xs)
 
 -- the picture in these words, with so many registers and operands lent
 abbrev pub picture-in : List ℕ → ℕ → ℕ → Picture

@@ -1,7 +1,17 @@
 // Reading a picture from lent bytes (document 01, "One listing whole"; specs/Layout): whether they can be read, the eight counts,
 // the places of the slices, and each slice.
+use crate::BLOCKS;
 use crate::Counts;
+use crate::HEAD;
+use crate::HEAD_BYTES;
+use crate::INSTS;
+use crate::OPERANDS;
+use crate::PAIRS;
 use crate::Places;
+use crate::REGISTERS;
+use crate::REPLAY;
+use crate::TARGETS;
+use crate::VIAS;
 use words::bytes::get_words;
 use words::bytes::word_at;
 use words::copy::fill;
@@ -42,22 +52,22 @@ pub fn counts(bytes: &[u8]) -> Counts
 fn within(c: Counts) -> bool
     ensures { λ r. ⌜ r ≡ within c ⌝ }
 {
-    (c.blocks <= 64)
-        & (c.insts <= 512)
-        & (c.registers <= 512)
-        & (c.operands <= 2048)
-        & (c.pairs <= 256)
-        & (c.targets <= 1024)
-        & (c.replay <= 64)
-        & (c.vias <= 512)
+    (c.blocks <= BLOCKS)
+        & (c.insts <= INSTS)
+        & (c.registers <= REGISTERS)
+        & (c.operands <= OPERANDS)
+        & (c.pairs <= PAIRS)
+        & (c.targets <= TARGETS)
+        & (c.replay <= REPLAY)
+        & (c.vias <= VIAS)
 }
 
 // The places of the slices.
-pub fn places(c: Counts) -> Places
+fn places(c: Counts) -> Places
     requires { ⌜ within c ≡ true ⌝ }
     ensures { λ r. ⌜ r ≡ places c ⌝ }
 {
-    let recs = 8 + 2 * c.blocks;
+    let recs = HEAD + 2 * c.blocks;
     let locs = recs + 16 * c.insts;
     let vias = locs + c.insts;
     let types = vias + c.vias;
@@ -83,7 +93,7 @@ pub fn places(c: Counts) -> Places
 pub fn readable(bytes: &[u8]) -> bool
     ensures { λ r. ⌜ r ≡ readable (now (bytes .entry)) ⌝ }
 {
-    if bytes.len() < 32 {
+    if bytes.len() < HEAD_BYTES {
         return false;
     }
     let c = counts(bytes);
@@ -145,7 +155,7 @@ pub fn get_bounds(bytes: &[u8], out: &mut [u32])
     requires { ⌜ (readable (now bytes) ≡ true) × (length (now out) ≡ 2 * held (now bytes) .blocks) ⌝ }
     ensures { λ _. ⌜ now (out .exit) ≡ part (words-of (now (bytes .entry))) 8 (2 * held (now (bytes .entry)) .blocks) ⌝ }
 {
-    get_part(bytes, 8, out);
+    get_part(bytes, HEAD, out);
 }
 
 // The records.

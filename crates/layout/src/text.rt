@@ -23,7 +23,7 @@ fn put_digits(out: &mut [u8], at: usize, n: u32, k: u32) -> usize
     p + 1
 }
 
-// A number, and the byte behind it.
+// A number, which has ten digits at most, and the byte behind it.
 fn put_cell(out: &mut [u8], at: usize, n: u32, end: u8) -> usize
     requires { ⌜ at + 11 ≤ length (now out) ⌝ }
     ensures { λ r. ⌜ Put (now (out .entry)) at (digits n ++ end ∷ []) (now (out .exit)) r ⌝ }
@@ -31,14 +31,6 @@ fn put_cell(out: &mut [u8], at: usize, n: u32, end: u8) -> usize
     let p = put_digits(out, at, n, 10);
     out[p] = end;
     p + 1
-}
-
-// A word has ten digits at most.
-pub fn put_number(out: &mut [u8], at: usize, n: u32) -> usize
-    requires { ⌜ at + 10 ≤ length (now out) ⌝ }
-    ensures { λ r. ⌜ Put (now (out .entry)) at (digits n) (now (out .exit)) r ⌝ }
-{
-    put_digits(out, at, n, 10)
 }
 
 // All of `text`.
