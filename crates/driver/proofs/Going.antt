@@ -7,7 +7,7 @@ use mathlib.Core.Option.{none}
 use Prim.Native.Nat.{ℕ, suc, _+_, _*_, _-_, _/_, _≤_, _<_}
 use native.Mathlib.Numerals.{add-one}
 use native.Mathlib.Omega.{arith}
-use lib.ListN.{length, take}
+use lib.ListN.{length, take, drop, replicate, take-append-drop}
 use borrow.Author.Tests.{ltb-true, ltb-false, lt-ltb}
 use Rattle.words.specs.Lists.{concat, upto}
 use Rattle.words.proofs.Bools.{clash}
@@ -48,9 +48,10 @@ use Rattle.oneround.specs.declared.round.Line.{Line}
 use Rattle.driver.specs.declared.rounds.At.{At}
 use Rattle.driver.specs.Ended.{Did}
 use Rattle.oneround.specs.Round.{Sure, Ready, Says, next, Stepped}
-use Rattle.driver.specs.Rounds.{line-words, Put, small, Advancing, gone, halted, advanced, taken-up}
+use Rattle.driver.specs.Rounds.{line-words, with-line, small, Advancing, gone, halted, advanced, taken-up}
 use Rattle.driver.specs.Going.{sizes-of, Leads, Between, Next, Reached, Going, Same, to-come, Opening, Opened, Passing, Passed, Onward, GoneOn}
 use Rattle.oneround.proofs.Step.{holds-is}
+use Rattle.driver.proofs.Lines.{long-still, one-more, zero-still}
 
 -- each slice is as long as it was
 pub record Sized (P Q : Picture) : Type 0 where
@@ -67,7 +68,8 @@ pub done-of : {o : Outcome} {i : ℕ} {lines : List ℕ} {Q : Picture} (a : Answ
     → Did o a lines (Q .bounds) (Q .recs) (Q .locs) (Q .vias) (Q .types) (Q .ops)
 done-of {o} {i} {lines} {Q} a l e = record {
   answer-is = sym (l .answer-same);
-  lines-are = ap (λ (n : ℕ). take (6 * n) lines) e ∙ sym (append-nil (take (6 * i) lines)) ∙ sym (l .lines-same);
+  lines-are = sym (take-append-drop (6 * i) lines) ∙ ap₂ (λ (xs zs : List ℕ). xs ++ zs) (sym (append-nil (take (6 * i) lines)) ∙ sym (l .lines-same)) (l .rest-zero)
+      ∙ ap (λ (n : ℕ). concat (o .lines) ++ replicate (48 - 6 * n) 0) (sym e);
   holds = subst (λ (Z : Picture). Holds Z (Q .bounds) (Q .recs) (Q .locs) (Q .vias) (Q .types) (Q .ops)) (sym (l .left-same))
       (record { bounds-are = refl; recs-are = refl; locs-are = refl; vias-are = refl; types-are = refl; ops-are = refl });
 }
@@ -229,7 +231,10 @@ module _ {P : Picture} {w64 w32 nf : ℕ} {Q : Picture} {m : At} {work64 work32 
     line-is a l z = λ i. add-one (m .rounds) i ∷ z .from-is i ∷ z .into-is i ∷ z .moved-is i ∷ z .registers-are i ∷ z .operands-are i ∷ []
 
     module _ (sized : Sized Q (picture-of bounds recs locs vias types 0 ops 0 (Q .pairs) (Q .targets) (Q .replay))) where
-      module _ (l : Line) (z : next Q (Goes l) Left (facts P)) (lines : List ℕ) (put : Put (m .rounds) l (m .lines) lines) where
+      module _ (l : Line) (z : next Q (Goes l) Left (facts P)) where
+        abbrev lines : List ℕ
+        lines = with-line (m .rounds) l (m .lines)
+
         abbrev q : At
         q = gone m l lines
 
@@ -251,7 +256,8 @@ module _ {P : Picture} {w64 w32 nf : ℕ} {Q : Picture} {m : At} {work64 work32 
               lines-same = o .lines-same ∙ ap (λ (y : Outcome). take (6 * m .rounds) (m .lines) ++ concat (y .lines)) e
                   ∙ sym (append-assoc (take (6 * m .rounds) (m .lines)) (line-of (m .rounds) Q a) (concat (rest .lines)))
                   ∙ ap (λ (y : List ℕ). (take (6 * m .rounds) (m .lines) ++ y) ++ concat (rest .lines)) (sym (line-is a l (z .3)))
-                  ∙ ap (λ (y : List ℕ). y ++ concat (rest .lines)) (sym (put .put));
+                  ∙ ap (λ (y : List ℕ). y ++ concat (rest .lines)) (sym (one-more (m .rounds) l (m .lines) (b .few) (b .long)));
+              rest-zero = zero-still (m .rounds) l (m .lines) (b .few) (b .long) (o .rest-zero);
             }
 
         sizes-next : q .sizes ≡ sizes-of (at-next q)
@@ -272,7 +278,7 @@ module _ {P : Picture} {w64 w32 nf : ℕ} {Q : Picture} {m : At} {work64 work32 
                 (ap₂ (λ (i j : ℕ). refusal (apply Q (z .0)) i j records) (s .size64) (s .size32) ∙ round-not-refused Q (facts P) (z .0) (length work64) (length work32) records (b .accepted) (z .1) (z .2));
             begun = subst (λ (Z : Picture). Begun Z (facts P) work64′ work32′) (sym here) (z .4 .1);
             few = ltb-true (m .rounds + 1) most-rounds e;
-            long = put .size ∙ b .long;
+            long = long-still (m .rounds) l (m .lines) (b .few) (b .long);
             sizes-are = sizes-next;
             opers-are = refl;
             answer-is = refl;
@@ -298,12 +304,12 @@ module _ {P : Picture} {w64 w32 nf : ℕ} {Q : Picture} {m : At} {work64 work32 
             off-is = λ y. subst (λ (Z : Picture). Did (sink P w64 w32 nf) (halted m .answer) (m .lines) (Z .bounds) (Z .recs) (Z .locs) (Z .vias) (Z .types) (Z .ops)) (sym here) d;
           }
 
-      pub reached : (q : At) → advanced m step q → Then q
-      reached q d = go step (s .is (facts P) sure) d
+      pub reached : (q : At) → q ≡ advanced m step → Then q
+      reached q d = subst Then (sym d) (go step (s .is (facts P) sure))
         where
-          go : (step : Step) → next Q step Left (facts P) → advanced m step q → Then q
-          go (Goes l) z d = subst Then (sym (d .0)) (reached-goes l z (q .lines) (d .1))
-          go Short z d = subst Then (sym d) (reached-short z)
+          go : (step : Step) → next Q step Left (facts P) → Then (advanced m step)
+          go (Goes l) z = reached-goes l z
+          go Short z = reached-short z
 
 -- ---- after a chain was tried
 
@@ -348,7 +354,7 @@ module _ {Q : Picture} {m : At} {work64 work32 : List ℕ} {r : MaybeMove} (o : 
     pub advancing-on : Advancing m step
     advancing-on = advancing (o .next) (move-found e (o .tried-is)) s
 
-    module _ (sized : Sized Q (picture-of bounds recs locs vias types 0 ops 0 (Q .pairs) (Q .targets) (Q .replay))) (m₁ : At) (d : advanced m step m₁) where
+    module _ (sized : Sized Q (picture-of bounds recs locs vias types 0 ops 0 (Q .pairs) (Q .targets) (Q .replay))) (m₁ : At) (d : m₁ ≡ advanced m step) where
       abbrev mid : Picture
       mid = picture-of bounds recs locs vias types (m₁ .sizes .regs) ops (m₁ .operands) (Q .pairs) (Q .targets) (Q .replay)
 
@@ -367,8 +373,8 @@ module _ {Q : Picture} {m : At} {work64 work32 : List ℕ} {r : MaybeMove} (o : 
             subst (λ (Z : Picture). Going P w64 w32 nf Z q work64″ work32′) (sym here) (p .going P w64 w32 nf (reached n (move-found e t) s sized m₁ d));
       }
         where
-          go : (step : Step) → advanced m step m₁ → q .on ≡ true → q .rounds ≡ m .rounds + 1
-          go (Goes l) d y = p .same .rounds-are ∙ ap (λ (z : At). z .rounds) (d .0)
+          go : (step : Step) → m₁ ≡ advanced m step → q .on ≡ true → q .rounds ≡ m .rounds + 1
+          go (Goes l) d y = p .same .rounds-are ∙ ap (λ (z : At). z .rounds) d
           go Short d y = clash y (p .stays-off (ap (λ (z : At). z .on) d))
 
 -- ---- the loop of the call

@@ -1,50 +1,57 @@
 -- The lines of the rounds, six words each; one round on, and the chain to be tried next. Assumes nothing.
-use mathlib.Core.Path.{_≡_, refl, sym, ap, _∙_, subst}
-use mathlib.Core.List.{List, [], _∷_, _++_, append-assoc}
-use Prim.Native.Nat.{ℕ, suc, _+_, _*_, _≤_, _<_}
+use mathlib.Core.Path.{_≡_, sym, ap, _∙_, subst}
+use mathlib.Core.List.{List, [], _∷_, _++_}
+use Prim.Native.Nat.{ℕ, suc, _+_, _-_, _*_, _<_}
 use native.Mathlib.Omega.{arith}
-use lib.ListN.{length, take, set, length-set}
-use lib.Seq.{take-suc-set}
+use lib.ListN.{length, take, drop, set, replicate}
+use lib.Seq.{sets, drop-drop, length-sets}
+use Rattle.words.proofs.Copying.{front-sets, drop-sets}
+use Rattle.model.specs.Pass.{most-rounds}
 use Rattle.search.specs.declared.find.MaybeLook.{MaybeLook}
 use Rattle.oneround.specs.declared.round.Step.{Step}
 use Rattle.oneround.specs.declared.round.Step.the-variants.{Goes, Short}
 use Rattle.oneround.specs.declared.round.Line.{Line}
 use Rattle.driver.specs.declared.rounds.At.{At}
-use Rattle.driver.specs.Rounds.{Small, Put, small, Advancing, gone, halted, advanced, taken-up}
+use Rattle.driver.specs.Rounds.{Small, line-words, with-line, small, Advancing, gone, halted, advanced, taken-up}
 
-push : (l : List ℕ) (i j v : ℕ) (xs : List ℕ) → j ≡ suc i → i < length l → take i l ≡ xs → take j (set l i v) ≡ xs ++ (v ∷ [])
-push l i j v xs e h t = ap (λ (n : ℕ). take n (set l i v)) e ∙ take-suc-set l i v h ∙ ap (λ (ys : List ℕ). ys ++ (v ∷ [])) t
+-- six words, stored one by one
+pub six : (l : List ℕ) (a u v w x y z : ℕ)
+    → set (set (set (set (set (set l a u) (a + 1) v) (a + 2) w) (a + 3) x) (a + 4) y) (a + 5) z ≡ sets l a (u ∷ v ∷ w ∷ x ∷ y ∷ z ∷ [])
+six l a u v w x y z =
+    let e : a + 1 ≡ suc a = omega arith in
+    let f : a + 2 ≡ suc (suc a) = omega arith in
+    let g : a + 3 ≡ suc (suc (suc a)) = omega arith in
+    let h : a + 4 ≡ suc (suc (suc (suc a))) = omega arith in
+    let k : a + 5 ≡ suc (suc (suc (suc (suc a)))) = omega arith in
+    rw (e, f, g, h, k)
 
-pub six : (l : List ℕ) (a u v w x y z : ℕ) → a + 6 ≤ length l
-    → take (a + 6) (set (set (set (set (set (set l a u) (a + 1) v) (a + 2) w) (a + 3) x) (a + 4) y) (a + 5) z) ≡ take a l ++ (u ∷ v ∷ w ∷ x ∷ y ∷ z ∷ [])
-six l a u v w x y z h =
-    push _ (a + 5) (a + 6) z _ (omega arith) (simp length-set (omega arith))
-    (push _ (a + 4) (a + 5) y _ (omega arith) (simp length-set (omega arith))
-    (push _ (a + 3) (a + 4) x _ (omega arith) (simp length-set (omega arith))
-    (push _ (a + 2) (a + 3) w _ (omega arith) (simp length-set (omega arith))
-    (push _ (a + 1) (a + 2) v _ (omega arith) (simp length-set (omega arith))
-    (push l a (a + 1) u (take a l) (omega arith) (omega arith) refl)))))
-    ∙ simp append-assoc
+-- the lines with one more: those so far, and zeros behind
+module _ (i : ℕ) (l : Line) (lines : List ℕ) (few : i < most-rounds) (long : length lines ≡ 48) where
+  pub long-still : length (with-line i l lines) ≡ 48
+  long-still = length-sets lines (6 * i) (line-words (i + 1) l) ∙ long
 
-pub put-line : (i : ℕ) (l : Line) (lines : List ℕ) → Small i l × (length lines ≡ 48)
-    → Put i l lines
-    (set (set (set (set (set (set lines (6 * i) (i + 1)) (6 * i + 1) (l .moved .from)) (6 * i + 2) (l .moved .into)) (6 * i + 3) (l .moved .moved)) (6 * i + 4) (l .registers)) (6 * i + 5) (l .operands))
-put-line i l lines h =
-    let e : 6 * (i + 1) ≡ 6 * i + 6 = omega arith in
-    let f = h .0 .few in
-    let k = h .1 in
-    record { size = simp length-set; put = rw e (six lines (6 * i) (i + 1) (l .moved .from) (l .moved .into) (l .moved .moved) (l .registers) (l .operands) (omega arith)) }
+  pub one-more : take (6 * (i + 1)) (with-line i l lines) ≡ take (6 * i) lines ++ line-words (i + 1) l
+  one-more = let e : 6 * (i + 1) ≡ 6 * i + 6 = omega arith in rw e (front-sets lines (6 * i) (line-words (i + 1) l) (omega arith))
+
+  pub zero-still : drop (6 * i) lines ≡ replicate (48 - 6 * i) 0 → drop (6 * (i + 1)) (with-line i l lines) ≡ replicate (48 - 6 * (i + 1)) 0
+  zero-still z =
+      let e : 6 * (i + 1) ≡ 6 * i + 6 = omega arith in
+      let f : 48 - 6 * i ≡ suc (suc (suc (suc (suc (suc (48 - 6 * (i + 1))))))) = omega arith in
+      drop-sets (6 * (i + 1)) lines (6 * i) (line-words (i + 1) l) (omega arith)
+      ∙ ap (λ (n : ℕ). drop n lines) e
+      ∙ sym (drop-drop 6 (6 * i) lines)
+      ∙ ap (drop 6) (z ∙ ap (λ (n : ℕ). replicate n 0) f)
 
 -- ---- one round on, by what its move came to
 
 pub small-line : {m : At} {r : Step} {l : Line} → r ≡ Goes l → Advancing m r → Small (m .rounds) l × (length (m .lines) ≡ 48)
 small-line {m} e h = (subst (small (m .rounds)) e (h .line), h .long)
 
-pub advanced-goes : (m : At) {r : Step} {l : Line} {lines : List ℕ} → r ≡ Goes l → Put (m .rounds) l (m .lines) lines → advanced m r (gone m l lines)
-advanced-goes m {r} {l} {lines} e h = subst (λ (s : Step). advanced m s (gone m l lines)) (sym e) (refl, h)
+pub advanced-goes : (m : At) {r : Step} {l : Line} {lines : List ℕ} → r ≡ Goes l → lines ≡ with-line (m .rounds) l (m .lines) → gone m l lines ≡ advanced m r
+advanced-goes m {r} {l} e h = ap (gone m l) h ∙ ap (advanced m) (sym e)
 
-pub advanced-short : (m : At) {r : Step} → r ≡ Short → advanced m r (halted m)
-advanced-short m {r} e = subst (λ (s : Step). advanced m s (halted m)) (sym e) refl
+pub advanced-short : (m : At) {r : Step} → r ≡ Short → halted m ≡ advanced m r
+advanced-short m e = ap (advanced m) (sym e)
 
 -- ---- the chain to be tried next
 

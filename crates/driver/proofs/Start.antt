@@ -2,10 +2,10 @@
 use mathlib.Core.Path.{_≡_, refl, sym, ap, ap₂, _∙_, subst}
 use mathlib.Core.Bool.{true, false}
 use mathlib.Core.List.{List, []}
-use Prim.Native.Nat.{ℕ, zero, suc, _*_, _/_, _≤_}
+use Prim.Native.Nat.{ℕ, zero, suc, _-_, _*_, _/_, _≤_}
 use native.Mathlib.Nat.{le-of-eq}
 use native.Mathlib.Omega.{arith}
-use lib.ListN.{length, take, replicate}
+use lib.ListN.{length, replicate}
 use Rattle.words.specs.Lists.{concat}
 use Rattle.words.proofs.Bools.{clash}
 use Rattle.model.specs.declared.Answer.{Answer}
@@ -68,7 +68,7 @@ module _ (bounds recs locs vias types : List ℕ) (regs : ℕ) (ops : List ℕ) 
 module _ (P : Picture) where
   module _ (work64 work32 : List ℕ) (nf : ℕ) {v : Verdict} (j : Judged (P .bounds) (P .recs) (P .locs) (P .vias) (P .types) (P .regs) (P .ops) (P .opers) (P .pairs) (P .targets) (length work64) (length work32) nf v) where
     -- no round is tried
-    pub started-ends : {a : Answer} {q : At} → v ≡ Ends a → q ≡ first-at false (q .look) a (record { blocks = 0; insts = 0; regs = P .regs; lent = 0 }) (P .opers) → Started P work64 work32 nf q work64 work32
+    pub started-ends : {a : Answer} {q : At} → v ≡ Ends a → q ≡ first-at false a (record { blocks = 0; insts = 0; regs = P .regs; lent = 0 }) (P .opers) → Started P work64 work32 nf q work64 work32
     started-ends {a} {q} e f =
         let s : judged P (length work64) (length work32) nf (Ends a) = subst (judged P (length work64) (length work32) nf) e (j .is (P .replay)) in
         subst (λ (z : At). Started P work64 work32 nf z work64 work32) (sym f)
@@ -82,7 +82,7 @@ module _ (P : Picture) where
                 subst (λ (o : Outcome). Did o a (replicate 48 0) (P .bounds) (P .recs) (P .locs) (P .vias) (P .types) (P .ops)) (sym (s .0))
                 (record {
                   answer-is = refl;
-                  lines-are = ap (λ (n : ℕ). take (6 * n) (replicate 48 0)) (s .1);
+                  lines-are = ap (λ (n : ℕ). replicate (48 - 6 * n) 0) (sym (s .1));
                   holds = record { bounds-are = refl; recs-are = refl; locs-are = refl; vias-are = refl; types-are = refl; ops-are = refl };
                 });
           };
@@ -104,7 +104,7 @@ module _ (P : Picture) where
       beginning = record { P = P; accepted = enough; bounds-are = refl; recs-are = refl; ops-are = refl; pairs-are = refl; targets-are = refl; lent-are = refl; insts-are = refl; regs-are = refl }
 
       module _ {work64′ work32′ : List ℕ} (b : Began (P .bounds) (P .recs) (P .ops) (P .pairs) (P .targets) work64 work32 (length (P .types)) (length (P .locs)) (P .regs) work64′ work32′)
-          {q : At} (f : q ≡ first-at true (q .look) (answer.Done (used 0 P)) (sizes-of P) (P .opers)) where
+          {q : At} (f : q ≡ first-at true (answer.Done (used 0 P)) (sizes-of P) (P .opers)) where
         through : sink P (length work64) (length work32) nf ≡ sink-all most-rounds 0 (facts P) P
         through = sink-through P (length work64) (length work32) nf (opens .0) (opens .1)
 
@@ -119,7 +119,7 @@ module _ (P : Picture) where
             sizes-are = refl;
             opers-are = refl;
             answer-is = refl;
-            leads = record { answer-same = ap (λ (o : Outcome). o .answer) through; left-same = ap (λ (o : Outcome). o .left) through; lines-same = ap (λ (o : Outcome). concat (o .lines)) through };
+            leads = record { answer-same = ap (λ (o : Outcome). o .answer) through; left-same = ap (λ (o : Outcome). o .left) through; lines-same = ap (λ (o : Outcome). concat (o .lines)) through; rest-zero = refl };
           };
           off-is = λ y. clash refl y;
         })

@@ -5,7 +5,7 @@ use mathlib.Core.Bool.{true, false, cond}
 use mathlib.Core.List.{List, _++_}
 use mathlib.Core.Option.{none}
 use Prim.Native.Nat.{ℕ, _+_, _*_, _-_, _<_}
-use lib.ListN.{length, take}
+use lib.ListN.{length, take, drop, replicate}
 use Rattle.words.specs.Lists.{concat, upto}
 use Rattle.model.specs.declared.Answer.the-variants.{Done}
 use Rattle.model.specs.Picture.{Picture, nblocks}
@@ -25,11 +25,12 @@ use Rattle.driver.specs.Ended.{Did, Work}
 abbrev pub sizes-of : Picture → Sizes
 sizes-of P = record { blocks = nblocks P; insts = length (P .locs); regs = P .regs; lent = length (P .types) }
 
--- the outcome o is the lines so far, i of them, and then the outcome e
+-- the outcome o is the lines so far, i of them, and then the outcome e; behind these lines stand zeros
 pub record Leads (o : Outcome) (i : ℕ) (lines : List ℕ) (e : Outcome) : Type 0 where
   pub answer-same : o .answer ≡ e .answer
   pub left-same : o .left ≡ e .left
   pub lines-same : concat (o .lines) ≡ take (6 * i) lines ++ concat (e .lines)
+  pub rest-zero : drop (6 * i) lines ≡ replicate (48 - 6 * i) 0
 
 -- a round is to be tried: Q is accepted, the work slices hold what the call began with, and what the call gives is what the rounds left
 -- give of Q

@@ -2,17 +2,18 @@
 -- stands. Assumes nothing.
 use mathlib.Core.Path.{_≡_}
 use mathlib.Core.Bool.{Bool, false}
-use mathlib.Core.List.{List, [], _∷_, _++_}
+use mathlib.Core.List.{List, [], _∷_}
 use Prim.Native.Nat.{ℕ, _+_, _*_, _<_}
 use lib.Dec.{ltb}
-use lib.ListN.{length, take, replicate}
+use lib.ListN.{length, replicate}
+use lib.Seq.{sets}
 use Rattle.model.specs.declared.Answer.{Answer}
 use Rattle.model.specs.declared.Answer.the-variants as answer
 use Rattle.model.specs.Pass.{most-rounds}
 use Rattle.chainwords.specs.declared.sizes.Sizes.{Sizes}
-use Rattle.search.specs.declared.find.Look.{Look}
 use Rattle.search.specs.declared.find.MaybeLook.{MaybeLook}
 use Rattle.search.specs.declared.find.MaybeLook.the-variants.{Is, Not}
+use Rattle.search.specs.Search.{nowhere}
 use Rattle.oneround.specs.declared.round.Line.{Line}
 use Rattle.oneround.specs.declared.round.Step.{Step}
 use Rattle.oneround.specs.declared.round.Step.the-variants.{Goes, Short}
@@ -30,15 +31,14 @@ pub record Small (i : ℕ) (l : Line) : Type 0 where
 abbrev pub line-words : ℕ → Line → List ℕ
 line-words n l = n ∷ l .moved .from ∷ l .moved .into ∷ l .moved .moved ∷ l .registers ∷ l .operands ∷ []
 
--- behind the lines of i rounds stands that of round i + 1
-pub record Put (i : ℕ) (l : Line) (lines lines′ : List ℕ) : Type 0 where
-  pub size : length lines′ ≡ length lines
-  pub put : take (6 * (i + 1)) lines′ ≡ take (6 * i) lines ++ line-words (i + 1) l
+-- behind the lines of i rounds, that of round i + 1; all else stays
+abbrev pub with-line : ℕ → Line → List ℕ → List ℕ
+with-line i l lines = sets lines (6 * i) (line-words (i + 1) l)
 
 -- ---- before the first round
 
-abbrev pub first-at : Bool → Look → Answer → Sizes → ℕ → At
-first-at on look answer s opers = record { on = on; look = look; answer = answer; rounds = 0; operands = opers; sizes = s; lines = replicate 48 0 }
+abbrev pub first-at : Bool → Answer → Sizes → ℕ → At
+first-at on answer s opers = record { on = on; look = nowhere; answer = answer; rounds = 0; operands = opers; sizes = s; lines = replicate 48 0 }
 
 -- ---- one round on
 
@@ -74,9 +74,9 @@ halted m = record {
   lines = m .lines;
 }
 
-abbrev pub advanced : At → Step → At → Type 0
-advanced m (Goes l) q = (q ≡ gone m l (q .lines)) × Put (m .rounds) l (m .lines) (q .lines)
-advanced m Short q = q ≡ halted m
+abbrev pub advanced : At → Step → At
+advanced m (Goes l) = gone m l (with-line (m .rounds) l (m .lines))
+advanced m Short = halted m
 
 -- ---- the chain to be tried next
 

@@ -10,9 +10,9 @@ use search::find::MaybeLook;
 use search::find::nowhere;
 ghost use mathlib.Core.Path.{_≡_};
 ghost use lib.ListN.{length};
-ghost use Rattle.driver.specs.Rounds.{Small, Put, first-at, Advancing, advanced, taken-up};
+ghost use Rattle.driver.specs.Rounds.{Small, with-line, first-at, Advancing, advanced, taken-up};
 
-// The answer, and a line of six words for each round: its number, from, into, moved, then registers and operands in use.
+// The answer, and a line of six words for each round: its number, from, into, moved, then registers and operands in use. Zeros behind.
 pub struct Ran {
     pub answer: Answer,
     pub lines: [u32; 48],
@@ -44,7 +44,7 @@ pub fn given(m: At) -> Ran
 
 // Before the first round.
 pub fn at_first(on: bool, answer: Answer, s: Sizes, opers: u32) -> At
-    ensures { λ q. ⌜ q ≡ first-at on (q .look) answer s opers ⌝ }
+    ensures { λ q. ⌜ q ≡ first-at on answer s opers ⌝ }
 {
     At {
         on: on,
@@ -60,7 +60,7 @@ pub fn at_first(on: bool, answer: Answer, s: Sizes, opers: u32) -> At
 // The lines with that of round i + 1.
 fn put_line(lines: [u32; 48], i: u32, l: Line) -> [u32; 48]
     requires { ⌜ Small i l × (length lines ≡ 48) ⌝ }
-    ensures { λ r. ⌜ Put i l lines r ⌝ }
+    ensures { λ r. ⌜ r ≡ with-line i l lines ⌝ }
 {
     let a = 6 * (i as usize);
     let mut r = lines;
@@ -76,7 +76,7 @@ fn put_line(lines: [u32; 48], i: u32, l: Line) -> [u32; 48]
 // One round on, by what its move came to.
 pub fn advance(m: At, r: Step) -> At
     requires { ⌜ Advancing m r ⌝ }
-    ensures { λ q. ⌜ advanced m r q ⌝ }
+    ensures { λ q. ⌜ q ≡ advanced m r ⌝ }
 {
     let n = m.rounds;
     let look = m.look;

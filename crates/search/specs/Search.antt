@@ -15,6 +15,8 @@ use Rattle.chains.specs.Chain.{Preds}
 use Rattle.chainwords.specs.declared.sizes.Sizes.{Sizes}
 use Rattle.chainwords.specs.Work.{Shown, Begun, Held, pred-words}
 use Rattle.worth.specs.Worth.{Chosen}
+use Rattle.inst.specs.declared.index.BlockId.{BlockId}
+use Rattle.search.specs.declared.find.Look.{Look}
 use Rattle.search.specs.declared.find.MaybeLook.{MaybeLook}
 use Rattle.search.specs.declared.find.MaybeLook.the-variants.{Is, Not}
 
@@ -58,6 +60,16 @@ pub record Sees (P : Picture) (bounds recs replay : List ℕ) (s : Sizes) (work3
 pub record Seeking (bounds recs replay : List ℕ) (s : Sizes) (work32 : List ℕ) : Type 0 where
   pub P : Picture
   pub sees : Sees P bounds recs replay s work32
+
+-- what stands where no chain is to be tried: a chain of no blocks
+abbrev pub first-block : BlockId
+first-block = record { 0 = 0 }
+
+abbrev pub nowhere : Look
+nowhere = record {
+  x = 0;
+  c = record { b0 = first-block; b1 = first-block; b2 = first-block; b3 = first-block; b4 = first-block; b5 = first-block; count = 0; t = first-block; f = first-block };
+}
 
 -- one block: its chain, or it has no move, whatever the facts are
 abbrev pub looked : Picture → ℕ → MaybeLook → Type 0

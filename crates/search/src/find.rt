@@ -15,7 +15,7 @@ use worth::look::worth_a_look;
 ghost use mathlib.Core.Path.{_≡_};
 ghost use Prim.Native.Nat.{_≤_, _<_};
 ghost use Rattle.inst.specs.Table.{rows};
-ghost use Rattle.search.specs.Search.{Looking, Seeking, Looked, Sought, Opened};
+ghost use Rattle.search.specs.Search.{Looking, Seeking, Looked, Sought, Opened, nowhere};
 
 // A block and the chain from it, which is worth a look.
 pub struct Look {
@@ -30,7 +30,7 @@ pub enum MaybeLook {
 
 // What stands where no chain is to be tried: a chain of no blocks, which no function takes.
 pub fn nowhere() -> Look
-    ensures { λ r. ⌜ r .c .count ≡ 0 ⌝ }
+    ensures { λ r. ⌜ r ≡ nowhere ⌝ }
 {
     let b = BlockId(0);
     Look {

@@ -1,5 +1,6 @@
 -- `driver::rounds::put_line` meets its contract. Assumes nothing.
-use Rattle.driver.proofs.Lines.{put-line}
+use Prim.Native.Nat.{_+_, _*_}
+use Rattle.driver.proofs.Lines.{six}
 use borrow.Author.Needs.{needs}
 use Rattle.driver.proofs.rounds.put_line.Statement.{statement}
 use Rattle.driver.proofs.rounds.put_line.Tie as tie
@@ -68,7 +69,7 @@ array-write-r-6 : tie.Need-array-write-r-6
 array-write-r-6 c = search needs
 
 returns : tie.Need-returns
-returns c = put-line (c .before .before .args .i) (c .before .before .args .l) (c .before .before .args .lines) (c .before .before .pre)
+returns c = let g = c .before .before .args in six (g .lines) (6 * g .i) (g .i + 1) (g .l .moved .from) (g .l .moved .into) (g .l .moved .moved) (g .l .registers) (g .l .operands)
 
 pub put-line-spec : {M : Type 1} → statement M
 put-line-spec =
