@@ -3,11 +3,12 @@
 use mathlib.Core.Path.{_≡_, refl, sym, ap, _∙_, subst}
 use mathlib.Core.Logic.{_⊎_, inl, inr, ⊎-elim}
 use mathlib.Core.Bool.{Bool, true, false}
-use mathlib.Core.List.{List, [], _∷_}
-use Prim.Native.Nat.{ℕ, zero, suc, _+_, _≤_}
+use mathlib.Core.List.{List, [], _∷_, _++_}
+use Prim.Native.Nat.{ℕ, zero, suc, _+_, _*_, _-_, _≤_}
 use native.Mathlib.Nat.{add-zero, suc-add, add-suc}
 use native.Mathlib.Omega.{arith}
-use lib.ListN.{length}
+use lib.ListN.{length, replicate}
+use Rattle.words.specs.Lists.{concat}
 use Rattle.words.proofs.Bools.{bool?}
 use Rattle.words.proofs.Each.{Each}
 use Rattle.model.specs.declared.Answer.{Answer}
@@ -23,7 +24,7 @@ use Rattle.driver.specs.declared.rounds.Ran.{Ran}
 use Rattle.driver.specs.Ended.{Did}
 use Rattle.sink.specs.Sink.{registers, operands}
 use Rattle.sink.proofs.Call.{Promised-here}
-use Rattle.host.specs.Host.{put-by, put-left, left-by, Ran-as, Roomy}
+use Rattle.host.specs.Host.{put-by, put-left, left-by, ran-by, Ran-as, Roomy}
 use Rattle.laws.proofs.Accepted.{Accepted, accepted}
 use Rattle.laws.proofs.Sizes.{regs-lent, opers-lent}
 use Rattle.laws.proofs.Keeps.{keeps}
@@ -215,7 +216,10 @@ did-of P work64 work32 n r p = record {
 }
 
 -- all of it, of the call on P
-pub ran-of : (P : Picture) (w64 w32 nf : ℕ) {a : Answer} {lines bounds recs locs vias types ops result after : List ℕ} → Did (sink P w64 w32 nf) a lines bounds recs locs vias types ops
-    → after ≡ put-by a (picture-bytes (left-by a bounds recs locs vias types ops (P .pairs) (P .targets) (P .replay))) result
-    → Ran-as (sink P w64 w32 nf) result a lines after
-ran-of P w64 w32 nf {result = result} d e = record { answer-is = d .answer-is; lines-are = d .lines-are; result-is = e ∙ put-same (d .holds) (came P w64 w32 nf) (d .answer-is) result }
+pub ran-of : (P : Picture) (w64 w32 nf : ℕ) {r : Ran} {bounds recs locs vias types ops result after : List ℕ} → Did (sink P w64 w32 nf) (r .answer) (r .lines) bounds recs locs vias types ops
+    → after ≡ put-by (r .answer) (picture-bytes (left-by (r .answer) bounds recs locs vias types ops (P .pairs) (P .targets) (P .replay))) result
+    → Ran-as (sink P w64 w32 nf) result r after
+ran-of P w64 w32 nf {r} {result = result} d e =
+    let o = sink P w64 w32 nf in
+    let l : r .lines ≡ ran-by o .lines = d .lines-are ∙ ap (λ (a : Answer). concat (o .lines) ++ replicate (48 - 6 * rounds a) 0) (d .answer-is) in
+    record { ran-is = λ i. record { answer = d .answer-is i; lines = l i }; result-is = e ∙ put-same (d .holds) (came P w64 w32 nf) (d .answer-is) result }

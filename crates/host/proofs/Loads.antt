@@ -2,19 +2,19 @@
 use mathlib.Core.Path.{_≡_, sym, ap, _∙_, subst}
 use mathlib.Core.Bool.{true}
 use mathlib.Core.List.{List, _++_}
-use Prim.Native.Nat.{ℕ, _+_, _*_, _≤_}
+use Prim.Native.Nat.{ℕ, _+_, _-_, _*_, _≤_}
 use native.Mathlib.Omega.{arith}
-use lib.ListN.{length, take, drop, length-append, length-take, length-drop}
+use lib.ListN.{length, take, drop, replicate, length-append, length-take, length-replicate}
 use lib.Seq.{length-take-le, take-at}
 use Rattle.words.specs.Bytes.{words-of}
-use Rattle.model.specs.declared.Answer.{Answer}
 use Rattle.model.specs.Picture.{Picture}
 use Rattle.model.specs.Pass.{sink}
 use Rattle.checks.specs.Causes.{picture-of}
 use Rattle.layout.specs.declared.Counts.{Counts}
 use Rattle.layout.specs.Layout.{readable, held, room, picture-in}
-use Rattle.layout.proofs.Reading.{Sizes, sizes, whole}
-use Rattle.host.specs.Host.{Ran-as, Roomy}
+use Rattle.layout.proofs.Reading.{Sizes, sizes, whole, drop-zeros}
+use Rattle.driver.specs.declared.rounds.Ran.{Ran}
+use Rattle.host.specs.Host.{Ran-as, Loaded, Roomy}
 
 -- ---- the head of a list
 
@@ -27,16 +27,26 @@ head-long n m xs e h = length-take-le n xs (head-fits n m xs e h)
 pub head-low : (n m : ℕ) (xs : List ℕ) → length xs ≡ m → length (take n xs) ≤ m
 head-low n m xs e = omega (arith, length-take n xs)
 
--- a new head
-pub filled : (n m : ℕ) (xs zs ys : List ℕ) → length zs ≡ m → n ≤ m → length xs ≡ length (take n zs) → xs ≡ ys
-    → (take n (xs ++ drop n zs) ≡ ys) × (length (xs ++ drop n zs) ≡ m)
-filled n m xs zs ys e h k p =
-    let l : length xs ≡ n = k ∙ head-long n m zs e h in
-    (take-at xs (drop n zs) n l ∙ p, omega (arith, length-append xs (drop n zs), length-drop n zs))
+-- a new head of zeros
+module _ (n m : ℕ) (xs : List ℕ) (h : n ≤ m) (k : length xs ≡ length {A = ℕ} (take n (replicate m 0))) where
+  zeros-long : length {A = ℕ} (take n (replicate m 0)) ≡ n
+  zeros-long = head-long n m (replicate m 0) (length-replicate m 0) h
 
-pub roomed : (n m : ℕ) (xs zs ps : List ℕ) → length zs ≡ m → n ≤ m → length xs ≡ length (take n zs) → xs ≡ room (length (take n zs)) ps
-    → (take n (xs ++ drop n zs) ≡ room n ps) × (length (xs ++ drop n zs) ≡ m)
-roomed n m xs zs ps e h k p = filled n m xs zs (room n ps) e h k (p ∙ ap (λ (l : ℕ). room l ps) (head-long n m zs e h))
+  pub filled : (ys : List ℕ) → xs ≡ ys → Loaded n m ys (xs ++ drop n (replicate m 0))
+  filled ys p =
+      let l : length xs ≡ n = k ∙ zeros-long in
+      let d : _≡_ {A = List ℕ} (drop n (replicate m 0)) (replicate (m - n) 0) = drop-zeros n m in
+      record {
+        is = ap (λ (t : List ℕ). xs ++ t) d ∙ ap (λ (y : List ℕ). y ++ replicate (m - n) 0) p;
+        long = sym (ap length p) ∙ l;
+        size = omega (arith, length-append xs (drop n (replicate m 0)), ap length d, length-replicate {A = ℕ} (m - n) 0);
+      }
+
+  pub roomed : (ps : List ℕ) → xs ≡ room (length {A = ℕ} (take n (replicate m 0))) ps → Loaded n m (room n ps) (xs ++ drop n (replicate m 0))
+  roomed ps p = filled (room n ps) (p ∙ ap (λ (l : ℕ). room l ps) zeros-long)
+
+pub loaded-head : {n m : ℕ} {xs r : List ℕ} → Loaded n m xs r → take n r ≡ xs
+loaded-head {n} {m} {xs} {r} d = ap (take n) (d .is) ∙ take-at xs (replicate (m - n) 0) n (d .long)
 
 -- ---- the sizes of what is read
 
@@ -97,8 +107,8 @@ in-picture bs k u c e b r l v t o p g y eb er el ev et eo ep eg ey =
       replay = ey z;
     }
 
-pub ran-same : (P Q : Picture) (w64 w32 nf : ℕ) {result lines result′ : List ℕ} {a : Answer} → P ≡ Q → Ran-as (sink P w64 w32 nf) result a lines result′ → Ran-as (sink Q w64 w32 nf) result a lines result′
-ran-same P Q w64 w32 nf {result} {lines} {result′} {a} e r = subst (λ (P : Picture). Ran-as (sink P w64 w32 nf) result a lines result′) e r
+pub ran-same : (P Q : Picture) (w64 w32 nf : ℕ) {result result′ : List ℕ} {ran : Ran} → P ≡ Q → Ran-as (sink P w64 w32 nf) result ran result′ → Ran-as (sink Q w64 w32 nf) result ran result′
+ran-same P Q w64 w32 nf {result} {result′} {ran} e r = subst (λ (P : Picture). Ran-as (sink P w64 w32 nf) result ran result′) e r
 
 -- ---- slices of the same lengths
 

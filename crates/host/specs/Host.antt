@@ -1,10 +1,10 @@
 -- 01, "One listing whole": the host's entry over numbers and bytes. Assumes nothing.
 use mathlib.Core.Path.{_≡_}
 use mathlib.Core.Bool.{Bool, true, false, _&&_}
-use mathlib.Core.List.{List}
-use Prim.Native.Nat.{ℕ, _*_, _≤_}
+use mathlib.Core.List.{List, _++_}
+use Prim.Native.Nat.{ℕ, _*_, _-_, _≤_}
 use lib.Dec.{leb}
-use lib.ListN.{length, take}
+use lib.ListN.{length, replicate}
 use lib.Seq.{sets}
 use Rattle.words.specs.Lists.{concat}
 use Rattle.words.specs.Bytes.{words-of}
@@ -14,7 +14,9 @@ use Rattle.model.specs.Pass.{Outcome, rounds, number, sink}
 use Rattle.model.specs.Picture.{Picture}
 use Rattle.model.specs.Refusal.{records}
 use Rattle.layout.specs.Layout.{readable, picture-in, picture-bytes, pictured}
+use Rattle.driver.specs.declared.rounds.Ran.{Ran}
 use Rattle.sink.specs.Sink.{registers, operands}
+use Rattle.host.specs.declared.run.Reply.{Reply}
 
 -- the program's work slices: 64-bit 4 × 64 × 8 + 2 × 512, 32-bit 8 × 512 + 16 × 64 + 8,000
 abbrev pub work64 : ℕ
@@ -50,11 +52,28 @@ written bs result registers operands =
 
 -- ---- the call in between
 
--- the answer, the lines, six words each, and the result are those of the outcome
-pub record Ran-as (o : Outcome) (result : List ℕ) (answer : Answer) (lines result′ : List ℕ) : Type 0 where
-  pub answer-is : answer ≡ o .answer
-  pub lines-are : take (6 * rounds answer) lines ≡ concat (o .lines)
+-- the answer of the outcome, and the lines of its rounds, six words each, then zeros
+abbrev pub ran-by : Outcome → Ran
+ran-by o = record { answer = o .answer; lines = concat (o .lines) ++ replicate (48 - 6 * rounds (o .answer)) 0 }
+
+-- what stands where nothing is run
+abbrev pub unread : Reply
+unread = record { read = false; ran = record { answer = Refused 0; lines = replicate 48 0 } }
+
+-- the call's answer and lines, if all is within the bounds
+abbrev pub replied : List ℕ → ℕ → ℕ → ℕ → Reply
+replied bs n registers operands =
+    elim (within-bounds bs n registers operands) [ true ↦ record { read = true; ran = ran-by (sunk bs registers operands) } | false ↦ unread ]
+
+pub record Ran-as (o : Outcome) (result : List ℕ) (ran : Ran) (result′ : List ℕ) : Type 0 where
+  pub ran-is : ran ≡ ran-by o
   pub result-is : result′ ≡ put-left o result
+
+-- an array of m words, of which the first n are these and the rest zeros
+pub record Loaded (n m : ℕ) (xs r : List ℕ) : Type 0 where
+  pub is : r ≡ xs ++ replicate (m - n) 0
+  pub long : length xs ≡ n
+  pub size : length r ≡ m
 
 -- the picture in these slices, with the registers and operands in use that the answer gives
 abbrev pub left-by : (a : Answer) (bounds recs locs vias types ops pairs targets replay : List ℕ) → Picture

@@ -1,10 +1,9 @@
 // The host's entry (01, "One listing whole": "The simulator's Rust host calls one entry over numbers and bytes"). specs/Host says
 // what it returns and writes.
-pub mod load; // load.rt: a picture's slices from its bytes
+mod load; // load.rt: a picture's slices from its bytes
 pub mod run; // run.rt: the call on a picture in bytes
 
-use crate::run::run;
-use layout::read::readable;
+use crate::run::sink_bytes;
 use model::Answer;
 ghost use mathlib.Core.Path.{_≡_};
 ghost use Prim.Native.Nat.{_≤_};
@@ -12,8 +11,11 @@ ghost use lib.ListN.{length};
 ghost use Rattle.model.specs.Pass.{number};
 ghost use Rattle.host.specs.Host.{returned, written};
 
+// The number for anything unread or past the bounds.
+const UNREAD: u32 = 300;
+
 // The number that an answer is for the host.
-pub fn number(answer: Answer) -> u32
+fn number(answer: Answer) -> u32
     requires { ⌜ number answer ≤ 300 ⌝ }
     ensures { λ r. ⌜ r ≡ number answer ⌝ }
 {
@@ -36,13 +38,11 @@ pub extern "C" fn virdzeba_sink(
     ensures { λ r. ⌜ r ≡ returned (now (picture .entry)) (length (now (result .entry))) registers operands ⌝ }
     ensures { λ _. ⌜ now (result .exit) ≡ written (now (picture .entry)) (now (result .entry)) registers operands ⌝ }
 {
-    if !readable(picture) {
-        return 300;
+    let r = sink_bytes(picture, result, registers as usize, operands as usize);
+    if !r.read {
+        return UNREAD;
     }
-    if (result.len() < 53024) | (512 < registers) | (2048 < operands) {
-        return 300;
-    }
-    let r = run(picture, result, registers as usize, operands as usize);
-    let answer = r.answer;
+    let ran = r.ran;
+    let answer = ran.answer;
     number(answer)
 }

@@ -1,4 +1,5 @@
-// The call on a picture in bytes, with a line for each round (01, "One listing whole").
+// The call on a picture in bytes, with a line for each round (01, "One listing whole"): `sink_bytes`, for bytes and numbers of any
+// value.
 use crate::load::load_bounds;
 use crate::load::load_locs;
 use crate::load::load_ops;
@@ -9,9 +10,15 @@ use crate::load::load_targets;
 use crate::load::load_types;
 use crate::load::load_vias;
 use driver::rounds::Ran;
+use layout::BLOCKS;
+use layout::OPERANDS;
+use layout::PICTURE_BYTES;
+use layout::REGISTERS;
 use layout::read::counts;
+use layout::read::readable;
 use layout::write::write_picture;
 use model::Answer;
+use model::CHAIN_WORDS;
 use sink::here::sink_here;
 ghost use mathlib.Core.Path.{_≡_};
 ghost use mathlib.Core.Bool.{true};
@@ -21,7 +28,18 @@ ghost use Rattle.layout.specs.Layout.{readable, picture-bytes, Fitting};
 ghost use Rattle.model.specs.Refusal.{records};
 ghost use Rattle.model.specs.Pass.{sink};
 ghost use Rattle.checks.specs.Causes.{picture-of};
-ghost use Rattle.host.specs.Host.{sunk, put-by, put-left, Ran-as, left-by, Roomy};
+ghost use Rattle.host.specs.Host.{sunk, put-by, put-left, Ran-as, left-by, Roomy, unread, replied, written};
+
+// The program's work slices: 64-bit words, eight a row of registers, and 32-bit words.
+const WORK64: usize = 4 * BLOCKS * 8 + 2 * REGISTERS;
+
+const WORK32: usize = 8 * REGISTERS + 16 * BLOCKS + CHAIN_WORDS;
+
+// The call's answer and lines; `read` is false where the picture is not read or something is past the bounds, and nothing was run.
+pub struct Reply {
+    pub read: bool,
+    pub ran: Ran,
+}
 
 // Done and Short: the picture at the head of `result`.
 fn put_left(
@@ -97,7 +115,7 @@ fn sink_into(
     requires { ⌜ Roomy (now bounds) (now recs) (now locs) (now vias) (now types) (now ops) (now pairs) (now targets) (now replay) (length (now result)) ⌝ }
     ensures { λ r. ⌜ (
         let P = picture-of (now (bounds .entry)) (now (recs .entry)) (now (locs .entry)) (now (vias .entry)) (now (types .entry)) regs (now (ops .entry)) opers (now (pairs .entry)) (now (targets .entry)) (now (replay .entry)) in
-        Ran-as (sink P (length (now (work64 .entry))) (length (now (work32 .entry))) records) (now (result .entry)) (r .answer) (r .lines) (now (result .exit))) ⌝ }
+        Ran-as (sink P (length (now (work64 .entry))) (length (now (work32 .entry))) records) (now (result .entry)) r (now (result .exit))) ⌝ }
 {
     let r = sink_here(
         bounds,
@@ -132,9 +150,9 @@ fn sink_into(
 }
 
 // The call on the picture in these bytes, with so many registers and operands lent.
-pub fn run(picture: &[u8], result: &mut [u8], registers: usize, operands: usize) -> Ran
+fn run(picture: &[u8], result: &mut [u8], registers: usize, operands: usize) -> Ran
     requires { ⌜ (readable (now picture) ≡ true) × (53024 ≤ length (now result)) × (registers ≤ 512) × (operands ≤ 2048) ⌝ }
-    ensures { λ r. ⌜ Ran-as (sunk (now (picture .entry)) registers operands) (now (result .entry)) (r .answer) (r .lines) (now (result .exit)) ⌝ }
+    ensures { λ r. ⌜ Ran-as (sunk (now (picture .entry)) registers operands) (now (result .entry)) r (now (result .exit)) ⌝ }
 {
     let c = counts(picture);
     let nb = 2 * c.blocks;
@@ -153,8 +171,8 @@ pub fn run(picture: &[u8], result: &mut [u8], registers: usize, operands: usize)
     let pairs = load_pairs(picture, np);
     let targets = load_targets(picture, ng);
     let replay = load_replay(picture, ny);
-    let mut work64 = [0u64; 3072];
-    let mut work32 = [0u32; 13120];
+    let mut work64 = [0u64; WORK64];
+    let mut work32 = [0u32; WORK32];
     sink_into(
         result,
         &mut bounds[..nb],
@@ -171,4 +189,37 @@ pub fn run(picture: &[u8], result: &mut [u8], registers: usize, operands: usize)
         &mut work64,
         &mut work32,
     )
+}
+
+// Nothing is run.
+fn unread() -> Reply
+    ensures { λ r. ⌜ r ≡ unread ⌝ }
+{
+    let ran = Ran {
+        answer: Answer::Refused(0),
+        lines: [0u32; 48],
+    };
+    Reply {
+        read: false,
+        ran: ran,
+    }
+}
+
+// The call, if the picture can be read and all is within the bounds. Done and Short write the new picture at the head of `result`;
+// nothing else is written.
+pub fn sink_bytes(picture: &[u8], result: &mut [u8], registers: usize, operands: usize) -> Reply
+    ensures { λ r. ⌜ r ≡ replied (now (picture .entry)) (length (now (result .entry))) registers operands ⌝ }
+    ensures { λ _. ⌜ now (result .exit) ≡ written (now (picture .entry)) (now (result .entry)) registers operands ⌝ }
+{
+    if !readable(picture) {
+        return unread();
+    }
+    if (result.len() < PICTURE_BYTES) | (REGISTERS < registers) | (OPERANDS < operands) {
+        return unread();
+    }
+    let ran = run(picture, result, registers, operands);
+    Reply {
+        read: true,
+        ran: ran,
+    }
 }

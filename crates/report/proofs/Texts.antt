@@ -2,24 +2,29 @@
 use mathlib.Core.Path.{_≡_, refl, sym, ap, ap₂, _∙_, subst}
 use mathlib.Core.Bool.{Bool, true, false}
 use mathlib.Core.List.{List, [], _∷_, _++_, map, append-assoc, append-nil}
-use Prim.Native.Nat.{ℕ, suc, _+_, _*_, _≤_}
-use native.Mathlib.Nat.{add-zero, zero-add}
+use Prim.Native.Nat.{ℕ, suc, _+_, _-_, _*_, _≤_}
+use native.Mathlib.Nat.{add-zero, zero-add, le-refl}
 use native.Mathlib.Numerals.{add-one}
 use native.Mathlib.Omega.{arith}
-use lib.ListN.{length, take, drop, getD, length-append, take-append-drop}
-use lib.Seq.{sets-eq, take-at, getD-append-add}
+use lib.ListN.{length, getD, replicate, length-append}
+use lib.Seq.{getD-append-add}
 use Rattle.words.specs.Bytes.{words-of}
 use Rattle.words.specs.Lists.{upto, range, concat}
 use Rattle.words.proofs.Lists.{map-map, range-snoc, shift-range, made-ext, map-append, concat-append}
+use Rattle.words.proofs.Bools.{clash}
 use Rattle.words.proofs.Each.{Each}
 use Rattle.model.specs.declared.Answer.{Answer}
 use Rattle.model.specs.declared.Answer.the-variants.{Done, Short, Refused}
 use Rattle.model.specs.Pass.{Outcome, rounds}
-use Rattle.layout.specs.Layout.{readable, picture-in}
+use Rattle.layout.specs.Layout.{readable, padded, picture-in}
 use Rattle.layout.specs.Text.{Put, digits, line, round-heading, answer-heading, last-line, text, unread-line, unread-text}
 use Rattle.layout.proofs.Placing.{put-then, short}
-use Rattle.host.specs.Host.{sunk, Ran-as}
+use Rattle.layout.proofs.Reading.{sets-zeros}
+use Rattle.host.specs.declared.run.Reply.{Reply}
+use Rattle.host.specs.Host.{sunk, within-bounds, ran-by, unread, replied}
 use Rattle.host.proofs.Left.{came, few-rounds, as-many, sixes-each, six}
+use Rattle.host.proofs.Entry.{as-readable}
+use Rattle.report.specs.declared.Text.{Text}
 use Rattle.report.specs.Report.{report-of, line-at, lines-text, ran-text, Placed}
 
 -- ---- how long
@@ -108,13 +113,12 @@ lines-of (l ∷ ls) rest e =
     ∙ lines-of ls rest (e .1))
 
 -- the text of what was run is that of the outcome
-text-is : (o : Outcome) (a : Answer) (ws : List ℕ) → a ≡ o .answer → take (6 * rounds a) ws ≡ concat (o .lines) → length (o .lines) ≡ rounds a → Each six (o .lines) → ran-text a ws ≡ text o
+text-is : (o : Outcome) → length (o .lines) ≡ rounds (o .answer) → Each six (o .lines) → ran-text (ran-by o .answer) (ran-by o .lines) ≡ text o
 unfolding lines-text
-text-is o a ws e t n s =
-    let w : ws ≡ concat (o .lines) ++ drop (6 * rounds a) ws = sym (take-append-drop (6 * rounds a) ws) ∙ ap (λ (l : List ℕ). l ++ drop (6 * rounds a) ws) t in
-    let m : map (line-at ws) (upto (rounds a)) ≡ o .lines =
-    ap₂ (λ (v : List ℕ) (k : ℕ). map (line-at v) (upto k)) w (sym n) ∙ lines-of (o .lines) (drop (6 * rounds a) ws) s in
-    ap₂ (λ (l : List (List ℕ)) (b : Answer). round-heading ++ concat (map line l) ++ answer-heading ++ last-line b) m e
+text-is o n s =
+    let m : map (line-at (ran-by o .lines)) (upto (rounds (o .answer))) ≡ o .lines =
+    ap (λ (k : ℕ). map (line-at (ran-by o .lines)) (upto k)) (sym n) ∙ lines-of (o .lines) (replicate (48 - 6 * rounds (o .answer)) 0) s in
+    ap (λ (l : List (List ℕ)). round-heading ++ concat (map line l) ++ answer-heading ++ last-line (o .answer)) m
 
 -- ---- the three parts of a text
 
@@ -135,25 +139,43 @@ unread-placed h y z = let w = put-then (put-then h y) z in record { made = w .ma
 
 -- ---- the whole
 
--- what is placed at the head is the head
-pub head-is : {b vs a : List ℕ} {k r : ℕ} → Placed b 0 vs k a r → k ≤ length b → take r a ≡ vs
-head-is {b} {vs} {a} {k} {r} h l =
+-- what is placed at the head of zeros
+pub whole-text : {vs a ys : List ℕ} {k r : ℕ} → Placed (replicate 640 0) 0 vs k a r → k ≤ 640 → vs ≡ ys
+    → (r ≤ 640) × (_≡_ {A = Text} (record { bytes = a; len = r }) (record { bytes = padded 640 ys; len = length ys }))
+whole-text {vs} {a} {ys} {k} {r} h m e =
     let s = h .short in
-    let e : r ≡ length vs = h .next ∙ zero-add (length vs) in
-    ap₂ (λ (n : ℕ) (xs : List ℕ). take n xs) e (h .made ∙ sets-eq vs b 0 (omega arith)) ∙ take-at vs (drop (0 + length vs) b) (length vs) refl
-
-pub whole-text : {b vs a ys : List ℕ} {k r : ℕ} → Placed b 0 vs k a r → k ≤ 640 → k ≤ length b → vs ≡ ys → (r ≤ 640) × (take r a ≡ ys)
-whole-text h m l e = (omega (arith, h .next, h .short), head-is h l ∙ e)
+    let l : r ≡ length ys = h .next ∙ zero-add (length vs) ∙ ap length e in
+    let b : a ≡ padded 640 ys = h .made ∙ sets-zeros vs 640 (omega arith) ∙ ap (padded 640) e in
+    (omega (arith, h .next), λ i. record { bytes = b i; len = l i })
 
 module _ (bs : List ℕ) where
-  pub unread-is : readable bs ≡ false → unread-text ≡ report-of bs
-  unread-is e = sym (ap (λ (b : Bool). elim b as (λ z. List ℕ) [ true ↦ text (sunk bs 512 2048) | false ↦ unread-text ]) e)
+  abbrev the-reply : Bool → Reply
+  the-reply b = elim b as (λ z. Reply) [ true ↦ record { read = true; ran = ran-by (sunk bs 512 2048) } | false ↦ unread ]
 
-  pub few : {result lines after : List ℕ} {a : Answer} → Ran-as (sunk bs 512 2048) result a lines after → rounds a ≤ 8
-  few r = subst (λ (a : Answer). rounds a ≤ 8) (sym (r .answer-is)) (few-rounds (came (picture-in (words-of bs) 512 2048) 3072 13120 800))
+  abbrev the-text : Bool → List ℕ
+  the-text b = elim b as (λ z. List ℕ) [ true ↦ text (sunk bs 512 2048) | false ↦ unread-text ]
 
-  pub read-is : {result lines after : List ℕ} {a : Answer} → readable bs ≡ true → Ran-as (sunk bs 512 2048) result a lines after → ran-text a lines ≡ report-of bs
-  read-is {lines = lines} {a = a} e r =
+  -- what is printed for a reply
+  abbrev Shows : Reply → List ℕ → Type 0
+  Shows r t = (r .read ≡ false → unread-text ≡ t) × (r .read ≡ true → (rounds (r .ran .answer) ≤ 8) × (ran-text (r .ran .answer) (r .ran .lines) ≡ t))
+
+  shows : (b : Bool) → Shows (the-reply b) (the-text b)
+  shows true =
       let k = came (picture-in (words-of bs) 512 2048) 3072 13120 800 in
-      text-is (sunk bs 512 2048) a lines (r .answer-is) (r .lines-are) (as-many k ∙ ap rounds (sym (r .answer-is))) (sixes-each k)
-      ∙ sym (ap (λ (b : Bool). elim b as (λ z. List ℕ) [ true ↦ text (sunk bs 512 2048) | false ↦ unread-text ]) e)
+      (λ y. clash refl y, λ y. (few-rounds k, text-is (sunk bs 512 2048) (as-many k) (sixes-each k)))
+  shows false = (λ y. refl, λ y. clash y refl)
+
+  module _ {n : ℕ} (h : 53024 ≤ n) {r : Reply} (e : r ≡ replied bs n 512 2048) where
+    shown : Shows r (report-of bs)
+    shown =
+        let f : within-bounds bs n 512 2048 ≡ readable bs = as-readable bs n 512 2048 (record { long = h; regs-few = le-refl 512; opers-few = le-refl 2048 }) in
+        subst (λ (z : Reply). Shows z (report-of bs)) (sym (e ∙ ap the-reply f)) (shows (readable bs))
+
+    pub unread-is : r .read ≡ false → unread-text ≡ report-of bs
+    unread-is y = shown .0 y
+
+    pub few : r .read ≡ true → rounds (r .ran .answer) ≤ 8
+    few y = shown .1 y .0
+
+    pub read-is : r .read ≡ true → ran-text (r .ran .answer) (r .ran .lines) ≡ report-of bs
+    read-is y = shown .1 y .1

@@ -8,14 +8,19 @@ use lib.Seq.{sets}
 use Rattle.words.specs.Lists.{upto, concat}
 use Rattle.model.specs.declared.Answer.{Answer}
 use Rattle.model.specs.Pass.{rounds}
-use Rattle.layout.specs.Layout.{readable}
+use Rattle.layout.specs.Layout.{readable, padded}
 use Rattle.layout.specs.Text.{line, round-heading, answer-heading, last-line, text, unread-text}
 use Rattle.host.specs.Host.{sunk}
+use Rattle.report.specs.declared.Text.{Text}
 
 -- with the program's registers and operands lent: a line for each round, then the answer; `unread 0` "where the input is cut short,
 -- longer than its counts say, or past the program's sizes"
 abbrev pub report-of : List ℕ → List ℕ
 report-of bs = elim (readable bs) [ true ↦ text (sunk bs 512 2048) | false ↦ unread-text ]
+
+-- as an array, zeros behind, and how long it is
+abbrev pub told : List ℕ → Text
+told bs = record { bytes = padded 640 (report-of bs); len = length (report-of bs) }
 
 -- ---- in between
 

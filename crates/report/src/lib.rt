@@ -1,7 +1,9 @@
 // The text of `sinkrounds` as a function from bytes to bytes (01, "One listing whole").
 use driver::rounds::Ran;
-use host::run::run;
-use layout::read::readable;
+use host::run::sink_bytes;
+use layout::OPERANDS;
+use layout::PICTURE_BYTES;
+use layout::REGISTERS;
 use layout::text::put_answer_heading;
 use layout::text::put_last;
 use layout::text::put_line;
@@ -10,14 +12,17 @@ use layout::text::put_unread;
 use model::Answer;
 ghost use mathlib.Core.Path.{_≡_};
 ghost use Prim.Native.Nat.{_+_, _*_, _≤_, _<_};
-ghost use lib.ListN.{length, take};
+ghost use lib.ListN.{length};
 ghost use Rattle.model.specs.Pass.{rounds};
 ghost use Rattle.layout.specs.Text.{Put, line, unread-text};
-ghost use Rattle.report.specs.Report.{report-of, line-at, lines-text, ran-text, Placed};
+ghost use Rattle.report.specs.Report.{told, line-at, lines-text, ran-text, Placed};
 
-// The text is the first `len` bytes: two headings, at most eight lines, and the answer take 602.
+// Room for a text: two headings, at most eight lines, and the answer take 602 bytes.
+pub const TEXT_BYTES: usize = 640;
+
+// The text is the first `len` bytes; zeros behind.
 pub struct Text {
-    pub bytes: [u8; 640],
+    pub bytes: [u8; TEXT_BYTES],
     pub len: usize,
 }
 
@@ -90,15 +95,16 @@ fn put_nothing(out: &mut [u8]) -> usize
 
 // What `sinkrounds` prints for this input.
 pub fn report(input: &[u8]) -> Text
-    ensures { λ r. ⌜ (r .len ≤ 640) × (take (r .len) (r .bytes) ≡ report-of (now (input .entry))) ⌝ }
+    ensures { λ r. ⌜ (r .len ≤ 640) × (r ≡ told (now (input .entry))) ⌝ }
 {
-    let mut out = [0u8; 640];
-    if !readable(input) {
+    let mut out = [0u8; TEXT_BYTES];
+    let mut result = [0u8; PICTURE_BYTES];
+    let r = sink_bytes(input, &mut result, REGISTERS, OPERANDS);
+    if !r.read {
         let n = put_nothing(&mut out);
         return Text { bytes: out, len: n };
     }
-    let mut result = [0u8; 53024];
-    let ran = run(input, &mut result, 512, 2048);
+    let ran = r.ran;
     let n = put_ran(&mut out, ran);
     Text { bytes: out, len: n }
 }

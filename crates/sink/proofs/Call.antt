@@ -1,11 +1,11 @@
 -- The call put together (01, "The call"): from the start through the loop to its end; and demand 3 of it. Assumes nothing.
 use mathlib.Core.Path.{_≡_, refl, sym, ap, _∙_, subst}
 use mathlib.Core.Bool.{true, false}
-use mathlib.Core.List.{List}
+use mathlib.Core.List.{List, _++_}
 use mathlib.Core.Logic.{⊎-elim}
-use Prim.Native.Nat.{ℕ, zero, suc, _*_, _≤_}
+use Prim.Native.Nat.{ℕ, zero, suc, _*_, _-_, _≤_}
 use native.Mathlib.Omega.{arith}
-use lib.ListN.{length, take}
+use lib.ListN.{length, replicate}
 use Rattle.words.specs.Lists.{concat}
 use Rattle.words.proofs.Bools.{bool?}
 use Rattle.model.specs.declared.Answer.{Answer}
@@ -143,7 +143,7 @@ Promised P work64 work32 fs r bounds recs locs vias types ops work64′ work32�
     (r .answer ≡ o .answer)
     × (number (r .answer) ≡ number (o .answer))
     × (values (r .answer) ≡ values (o .answer))
-    × (take (6 * rounds (r .answer)) (r .lines) ≡ concat (o .lines))
+    × (r .lines ≡ concat (o .lines) ++ replicate (48 - 6 * rounds (r .answer)) 0)
     × (bounds ≡ o .left .bounds)
     × (recs ≡ o .left .recs)
     × (locs ≡ o .left .locs)
@@ -162,7 +162,7 @@ Promised-here P work64 work32 n r bounds recs locs vias types ops work64′ work
     (r .answer ≡ o .answer)
     × (number (r .answer) ≡ number (o .answer))
     × (values (r .answer) ≡ values (o .answer))
-    × (take (6 * rounds (r .answer)) (r .lines) ≡ concat (o .lines))
+    × (r .lines ≡ concat (o .lines) ++ replicate (48 - 6 * rounds (r .answer)) 0)
     × (bounds ≡ o .left .bounds)
     × (recs ≡ o .left .recs)
     × (locs ≡ o .left .locs)

@@ -1,5 +1,5 @@
-// `sinkrounds` (01, "One listing whole"): a picture on standard input, its rounds on standard output. A picture has at most 53,024
-// bytes; one byte more shows that the input is longer.
+// `sinkrounds` (01, "One listing whole"): a picture on standard input, its rounds on standard output.
+use layout::PICTURE_BYTES;
 use libc::STDIN_FILENO;
 use libc::STDOUT_FILENO;
 
@@ -10,8 +10,11 @@ fn print(bytes: &[u8], k: usize) {
     }
 }
 
+// Room for the largest picture, and for one byte more, which shows that the input is longer.
+const INPUT_BYTES: usize = PICTURE_BYTES + 1;
+
 fn main() {
-    let mut input = [0u8; 53025];
+    let mut input = [0u8; INPUT_BYTES];
     let n = io::read_full(STDIN_FILENO, &mut input);
     let text = report::report(&input[..n]);
     let k = text.len;

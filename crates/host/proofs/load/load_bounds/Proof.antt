@@ -16,7 +16,7 @@ get-bounds-requires : tie.Need-get-bounds-requires
 get-bounds-requires c κs = (c .before .before .pre .0, head-long _ 128 _ refl (subst (λ (k : ℕ). k ≤ 128) (sym (c .before .before .pre .1)) (n-bounds (c .before .before .args .bytes .now) (c .before .before .pre .0) (held (c .before .before .args .bytes .now)) refl)) ∙ c .before .before .pre .1)
 
 returns : tie.Need-returns
-returns c = filled _ 128 _ _ _ refl (subst (λ (k : ℕ). k ≤ 128) (sym (c .before .before .before .before .pre .1)) (n-bounds (c .before .before .before .before .args .bytes .now) (c .before .before .before .before .pre .0) (held (c .before .before .before .before .args .bytes .now)) refl)) (c .before .get-bounds .kept .1 .0) (c .before .get-bounds .ensures)
+returns c = filled _ 128 _ (subst (λ (k : ℕ). k ≤ 128) (sym (c .before .before .before .before .pre .1)) (n-bounds (c .before .before .before .before .args .bytes .now) (c .before .before .before .before .pre .0) (held (c .before .before .before .before .args .bytes .now)) refl)) (c .before .get-bounds .kept .1 .0) _ (c .before .get-bounds .ensures)
 
 pub load-bounds-spec : {M : Type 1} → statement M
 load-bounds-spec =

@@ -16,7 +16,7 @@ get-ops-requires : tie.Need-get-ops-requires
 get-ops-requires c κs = c .before .before .pre .0
 
 returns : tie.Need-returns
-returns c = roomed _ 2048 _ _ (part (words-of (c .before .before .before .before .args .bytes .now)) (at-ops (held (c .before .before .before .before .args .bytes .now))) (held (c .before .before .before .before .args .bytes .now) .operands)) refl (c .before .before .before .before .pre .1) (c .before .get-ops .kept .1 .0) (c .before .get-ops .ensures)
+returns c = roomed _ 2048 _ (c .before .before .before .before .pre .1) (c .before .get-ops .kept .1 .0) (part (words-of (c .before .before .before .before .args .bytes .now)) (at-ops (held (c .before .before .before .before .args .bytes .now))) (held (c .before .before .before .before .args .bytes .now) .operands)) (c .before .get-ops .ensures)
 
 pub load-ops-spec : {M : Type 1} → statement M
 load-ops-spec =

@@ -16,7 +16,7 @@ get-pairs-requires : tie.Need-get-pairs-requires
 get-pairs-requires c κs = (c .before .before .pre .0, head-long _ 256 _ refl (subst (λ (k : ℕ). k ≤ 256) (sym (c .before .before .pre .1)) (n-pairs (c .before .before .args .bytes .now) (c .before .before .pre .0) (held (c .before .before .args .bytes .now)) refl)) ∙ c .before .before .pre .1)
 
 returns : tie.Need-returns
-returns c = filled _ 256 _ _ _ refl (subst (λ (k : ℕ). k ≤ 256) (sym (c .before .before .before .before .pre .1)) (n-pairs (c .before .before .before .before .args .bytes .now) (c .before .before .before .before .pre .0) (held (c .before .before .before .before .args .bytes .now)) refl)) (c .before .get-pairs .kept .1 .0) (c .before .get-pairs .ensures)
+returns c = filled _ 256 _ (subst (λ (k : ℕ). k ≤ 256) (sym (c .before .before .before .before .pre .1)) (n-pairs (c .before .before .before .before .args .bytes .now) (c .before .before .before .before .pre .0) (held (c .before .before .before .before .args .bytes .now)) refl)) (c .before .get-pairs .kept .1 .0) _ (c .before .get-pairs .ensures)
 
 pub load-pairs-spec : {M : Type 1} → statement M
 load-pairs-spec =

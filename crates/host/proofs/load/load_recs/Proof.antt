@@ -16,7 +16,7 @@ get-recs-requires : tie.Need-get-recs-requires
 get-recs-requires c κs = (c .before .before .pre .0, head-long _ 8192 _ refl (subst (λ (k : ℕ). k ≤ 8192) (sym (c .before .before .pre .1)) (n-recs (c .before .before .args .bytes .now) (c .before .before .pre .0) (held (c .before .before .args .bytes .now)) refl)) ∙ c .before .before .pre .1)
 
 returns : tie.Need-returns
-returns c = filled _ 8192 _ _ _ refl (subst (λ (k : ℕ). k ≤ 8192) (sym (c .before .before .before .before .pre .1)) (n-recs (c .before .before .before .before .args .bytes .now) (c .before .before .before .before .pre .0) (held (c .before .before .before .before .args .bytes .now)) refl)) (c .before .get-recs .kept .1 .0) (c .before .get-recs .ensures)
+returns c = filled _ 8192 _ (subst (λ (k : ℕ). k ≤ 8192) (sym (c .before .before .before .before .pre .1)) (n-recs (c .before .before .before .before .args .bytes .now) (c .before .before .before .before .pre .0) (held (c .before .before .before .before .args .bytes .now)) refl)) (c .before .get-recs .kept .1 .0) _ (c .before .get-recs .ensures)
 
 pub load-recs-spec : {M : Type 1} → statement M
 load-recs-spec =

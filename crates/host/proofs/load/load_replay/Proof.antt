@@ -16,7 +16,7 @@ get-replay-requires : tie.Need-get-replay-requires
 get-replay-requires c κs = (c .before .before .pre .0, head-long _ 64 _ refl (subst (λ (k : ℕ). k ≤ 64) (sym (c .before .before .pre .1)) (n-replay (c .before .before .args .bytes .now) (c .before .before .pre .0) (held (c .before .before .args .bytes .now)) refl)) ∙ c .before .before .pre .1)
 
 returns : tie.Need-returns
-returns c = filled _ 64 _ _ _ refl (subst (λ (k : ℕ). k ≤ 64) (sym (c .before .before .before .before .pre .1)) (n-replay (c .before .before .before .before .args .bytes .now) (c .before .before .before .before .pre .0) (held (c .before .before .before .before .args .bytes .now)) refl)) (c .before .get-replay .kept .1 .0) (c .before .get-replay .ensures)
+returns c = filled _ 64 _ (subst (λ (k : ℕ). k ≤ 64) (sym (c .before .before .before .before .pre .1)) (n-replay (c .before .before .before .before .args .bytes .now) (c .before .before .before .before .pre .0) (held (c .before .before .before .before .args .bytes .now)) refl)) (c .before .get-replay .kept .1 .0) _ (c .before .get-replay .ensures)
 
 pub load-replay-spec : {M : Type 1} → statement M
 load-replay-spec =

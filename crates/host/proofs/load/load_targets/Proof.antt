@@ -16,7 +16,7 @@ get-targets-requires : tie.Need-get-targets-requires
 get-targets-requires c κs = (c .before .before .pre .0, head-long _ 1024 _ refl (subst (λ (k : ℕ). k ≤ 1024) (sym (c .before .before .pre .1)) (n-targets (c .before .before .args .bytes .now) (c .before .before .pre .0) (held (c .before .before .args .bytes .now)) refl)) ∙ c .before .before .pre .1)
 
 returns : tie.Need-returns
-returns c = filled _ 1024 _ _ _ refl (subst (λ (k : ℕ). k ≤ 1024) (sym (c .before .before .before .before .pre .1)) (n-targets (c .before .before .before .before .args .bytes .now) (c .before .before .before .before .pre .0) (held (c .before .before .before .before .args .bytes .now)) refl)) (c .before .get-targets .kept .1 .0) (c .before .get-targets .ensures)
+returns c = filled _ 1024 _ (subst (λ (k : ℕ). k ≤ 1024) (sym (c .before .before .before .before .pre .1)) (n-targets (c .before .before .before .before .args .bytes .now) (c .before .before .before .before .pre .0) (held (c .before .before .before .before .args .bytes .now)) refl)) (c .before .get-targets .kept .1 .0) _ (c .before .get-targets .ensures)
 
 pub load-targets-spec : {M : Type 1} → statement M
 load-targets-spec =

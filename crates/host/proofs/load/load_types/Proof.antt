@@ -16,7 +16,7 @@ get-types-requires : tie.Need-get-types-requires
 get-types-requires c κs = c .before .before .pre .0
 
 returns : tie.Need-returns
-returns c = roomed _ 512 _ _ (part (words-of (c .before .before .before .before .args .bytes .now)) (at-types (held (c .before .before .before .before .args .bytes .now))) (held (c .before .before .before .before .args .bytes .now) .registers)) refl (c .before .before .before .before .pre .1) (c .before .get-types .kept .1 .0) (c .before .get-types .ensures)
+returns c = roomed _ 512 _ (c .before .before .before .before .pre .1) (c .before .get-types .kept .1 .0) (part (words-of (c .before .before .before .before .args .bytes .now)) (at-types (held (c .before .before .before .before .args .bytes .now))) (held (c .before .before .before .before .args .bytes .now) .registers)) (c .before .get-types .ensures)
 
 pub load-types-spec : {M : Type 1} → statement M
 load-types-spec =
