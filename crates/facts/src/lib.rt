@@ -52,10 +52,14 @@ pub fn clear_member(facts: &mut [Fact], p: usize)
     facts[p].member = false;
 }
 
-// Position p is in the set if b says so.
+// Position p is in the set if b says so, and else no longer.
 pub fn set_member(facts: &mut [Fact], p: usize, b: bool)
     requires { ⌜ p < length (now facts) ⌝ }
     ensures { λ _. ⌜ now (facts .exit) ≡ set (now (facts .entry)) p (marked (getD (now (facts .entry)) p no-fact) b) ⌝ }
 {
-    facts[p].member = b;
+    if b {
+        facts[p].member = true;
+        return;
+    }
+    clear_member(facts, p);
 }
