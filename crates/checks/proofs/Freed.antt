@@ -160,14 +160,27 @@ module _ (recs : List ℕ) (p R : ℕ) (w : Within recs p) where
 
 -- ---- the loop past them
 
+-- the records passed so far
+pub record Passed (R : ℕ) (recs : List ℕ) (n p q : ℕ) : Type 0 where
+  pub from : p ≤ q
+  pub upto : q ≤ n
+  pub plain : (j : ℕ) → p ≤ j → j < q → plain R (inst recs j) ≡ true
+
 module _ (R : ℕ) (recs : List ℕ) (n p : ℕ) where
-  pub skip-none : p ≤ n → Skipped R recs n p p
+  pub skip-none : p ≤ n → Passed R recs n p p
   skip-none h = record { from = omega arith; upto = h; plain = λ j l m. absurd (omega arith) }
 
-  pub skip-more : (q : ℕ) {b : Bool} → Skipped R recs n p q → q < n → b ≡ plain R (inst recs q) → not b ≡ false → Skipped R recs n p (q + 1)
+  pub skip-more : (q : ℕ) {b : Bool} → Passed R recs n p q → q < n → b ≡ plain R (inst recs q) → not b ≡ false → Passed R recs n p (q + 1)
   skip-more q {b} s h e t =
       record {
         from = let z = s .from in omega arith;
         upto = omega arith;
         plain = λ j l m. ⊎-elim (λ (k : j < q). s .plain j l k) (λ (k : q ≤ j). rw (le-antisymm (omega arith) k) (sym e ∙ not-false b t)) (lt? j q);
       }
+
+  -- one is not plain, or none is left
+  pub skip-stop : (q : ℕ) {b : Bool} → Passed R recs n p q → b ≡ plain R (inst recs q) → not b ≡ true → Skipped R recs n p q
+  skip-stop q {b} s e t = record { from = s .from; upto = s .upto; plain = s .plain; stops = λ h. sym e ∙ not-true b t }
+
+  pub skip-end : (q : ℕ) → Passed R recs n p q → n ≤ q → Skipped R recs n p q
+  skip-end q s h = record { from = s .from; upto = s .upto; plain = s .plain; stops = λ l. absurd (omega arith) }

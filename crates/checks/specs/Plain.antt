@@ -32,8 +32,9 @@ usual R u i = ltb u 256 && eqb (getD i 6 0) absent && not (odd-slot R u i 0 || (
 unfoldable pub plain : ℕ → Inst → Bool
 plain R i = cond (ltb 100 (getD i 0 0)) false (cond (simple (packed (kind i)) (form i) && bare i) (usual R (uses-of i) i) false)
 
--- of n records, all from p up to q are so; q need not be the first that is not: who stops early only looks at more records
+-- of n records, all from p up to q are so, and the one at q, if there is one, is not
 pub record Skipped (R : ℕ) (recs : List ℕ) (n p q : ℕ) : Type 0 where
   pub from : p ≤ q
   pub upto : q ≤ n
+  pub stops : q < n → plain R (inst recs q) ≡ false
   pub plain : (j : ℕ) → p ≤ j → j < q → plain R (inst recs j) ≡ true

@@ -76,7 +76,7 @@ pub fn plain(t: &[u32; 202], recs: &[u32], p: usize, regs: u32) -> bool
     false
 }
 
-// Past such records: of n, all from p up to the answer are so.
+// Past such records: of n, all from p up to the answer are so, and the next one, if there is one, is not.
 pub fn skip(t: &[u32; 202], recs: &[u32], n: usize, regs: u32, p: usize) -> usize
     requires { ⌜ (now t ≡ rows) × (16 * n ≤ length (now recs)) × (p ≤ n) ⌝ }
     ensures { λ q. ⌜ Skipped regs (now (recs .entry)) n p q ⌝ }
