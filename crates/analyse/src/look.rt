@@ -3,7 +3,8 @@
 // before round 1; 10 bits for the last writer's position and 1, or 0; and where there is a writer, what it left: 11 bits for
 // where that points, as an origin's number, 1 bit if it is a length, 1 bit if it points to a block whose maker is a layout.
 use model::ABSENT;
-use regfacts::flags::at;
+use regfacts::flags::FLAGS;
+use words::numbers::wide;
 ghost use mathlib.Core.Path.{_≡_};
 ghost use mathlib.Core.Bool.{cond};
 ghost use mathlib.Core.List.{List};
@@ -13,6 +14,14 @@ ghost use Rattle.model.specs.Analyse.{Facts, Fact, Known, Unknown, Ro, Frame, w
 ghost use Rattle.effects.specs.Origin.{org-at};
 ghost use Rattle.regfacts.specs.Flags.{flags-of, Seen};
 ghost use Rattle.analyse.specs.State.{Marked, Ranged, Reg?, Valued, left-in};
+
+// What the last writer left stands over it and the flags, by this; in it whether that is a length stands over where it points, and
+// whether it points to a layout over that.
+pub const LEFT: u64 = 16384;
+
+pub const LENGTH: u64 = 2048;
+
+pub const LAYOUT: u64 = 4096;
 
 // Where a register with these flags points.
 fn flags_org(f: u64) -> u32
@@ -38,11 +47,11 @@ pub struct Value {
 fn left_in(v: u64) -> Value
     ensures { λ x. ⌜ x ≡ left-in v ⌝ }
 {
-    let h = v / 16384;
+    let h = v / LEFT;
     Value {
-        org: (h % 2048) as u32,
-        len: h / 2048 % 2 == 1,
-        layout: h / 4096 % 2 == 1,
+        org: (h % LENGTH) as u32,
+        len: h / LENGTH % 2 == 1,
+        layout: h / LAYOUT % 2 == 1,
     }
 }
 
@@ -58,8 +67,8 @@ pub fn value_of(regs: &[u64], r: u32, count: usize) -> Value
             layout: false,
         };
     }
-    let v = regs[at(r)];
-    if v < 16 {
+    let v = regs[wide(r)];
+    if v < FLAGS {
         return Value {
             org: flags_org(v),
             len: v / 4 % 2 == 1,
@@ -77,5 +86,5 @@ pub fn is_divisor(regs: &[u64], r: u32, count: usize) -> bool
     if r == ABSENT {
         return false;
     }
-    regs[at(r)] / 8 % 2 == 1
+    regs[wide(r)] / 8 % 2 == 1
 }

@@ -1,9 +1,12 @@
 // The last writer of each register along a chain (01, "The legal set"; 000's `last`), and what it left there: in a register's
 // word, over its flags (see look.rt).
+use crate::look;
 use inst::access::Firsts;
 use inst::access::write_at;
 use model::ABSENT;
-use regfacts::flags::at;
+use regfacts::flags::FLAGS;
+use words::numbers::one;
+use words::numbers::wide;
 ghost use mathlib.Core.Path.{_≡_};
 ghost use mathlib.Core.Logic.{_⊎_};
 ghost use Prim.Native.Nat.{_≤_, _<_};
@@ -14,6 +17,14 @@ ghost use Rattle.effects.specs.Origin.{num};
 ghost use Rattle.regfacts.specs.Written.{put-in, Fits, Written};
 ghost use Rattle.analyse.specs.Step.{stamp, marked, Forgot};
 
+// As in look.rt.
+const LENGTH: u32 = look::LENGTH as u32;
+
+const LAYOUT: u32 = look::LAYOUT as u32;
+
+// Over a position and 1.
+const POSITIONS: u32 = 1024;
+
 // No register has a writer yet.
 pub fn forget(regs: &mut [u64], count: usize)
     requires { ⌜ count ≤ length (now regs) ⌝ }
@@ -21,18 +32,9 @@ pub fn forget(regs: &mut [u64], count: usize)
 {
     let mut r = 0usize;
     while r < count {
-        regs[r] = regs[r] % 16;
+        regs[r] = regs[r] % FLAGS;
         r += 1;
     }
-}
-
-fn one(b: bool) -> u32
-    ensures { λ r. ⌜ (r ≡ num b) × (r ≤ 1) ⌝ }
-{
-    if b {
-        return 1;
-    }
-    0
 }
 
 // What goes over the flags of a register that position p writes: p and 1, where the value points, whether it is a length, and
@@ -41,8 +43,8 @@ pub fn stamp(p: u32, org: u32, len: bool, layout: bool) -> u64
     requires { ⌜ (p < 1000) × (org < 2048) ⌝ }
     ensures { λ d. ⌜ (d ≡ stamp p org len layout) × (d < 16777216) ⌝ }
 {
-    let held = org + 2048 * one(len) + 4096 * one(layout);
-    (p + 1 + 1024 * held) as u64
+    let held = org + LENGTH * one(len) + LAYOUT * one(layout);
+    (p + 1 + POSITIONS * held) as u64
 }
 
 // Register r, if that is one, is written.
@@ -51,8 +53,8 @@ fn mark(regs: &mut [u64], r: u32, d: u64)
     ensures { λ _. ⌜ now (regs .exit) ≡ put-in (marked d) r (now (regs .entry)) ⌝ }
 {
     if r != ABSENT {
-        let k = at(r);
-        regs[k] = 16 * d + regs[k] % 16;
+        let k = wide(r);
+        regs[k] = FLAGS * d + regs[k] % FLAGS;
     }
 }
 

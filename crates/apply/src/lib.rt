@@ -2,12 +2,12 @@
 // leaves the state of the last round; `apply` then does it in place.
 pub mod needs;
 
-use inst::record::wide;
 use mover::bounds::count;
 use mover::bounds::move_bounds;
 use mover::moving::move_all;
 use pool::types::add_types;
 use rename::all::rename_all;
+use words::numbers::wide;
 ghost use mathlib.Core.Path.{_≡_};
 ghost use lib.ListN.{length};
 ghost use mathlib.Core.Bool.{Bool};

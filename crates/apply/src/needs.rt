@@ -1,8 +1,8 @@
 // Counting first (01, "Answers": "Short, exactly if the next round's move needs more registers or operands than the lent room"):
 // the registers and operands in use after a move. Only work words are written: the new registers, and names.
-use inst::record::wide;
 use pool::allot::allot;
 use rename::all::count_all;
+use words::numbers::wide;
 ghost use mathlib.Core.Path.{_≡_};
 ghost use lib.ListN.{length};
 ghost use Rattle.inst.specs.Table.{rows};

@@ -1,10 +1,10 @@
 // Where a block goes and where it is come from (01, "The walk": "A block's successors are those of its last instruction"; in
 // the Rust `succs`, `find_preds`). The successors lie in the lent words: in the record of the branch, or in the case targets.
 use inst::access::row_at;
-use inst::record::wide;
 use inst::record::word;
 use inst::table::shape;
 use words::copy::fill;
+use words::numbers::wide;
 ghost use mathlib.Core.Path.{_≡_};
 ghost use mathlib.Core.List.{[]};
 ghost use Prim.Native.Nat.{ℕ, _+_, _*_, _/_, _≤_, _<_};

@@ -1,6 +1,6 @@
 // The positions of a chain (01, "A round": "the chain, inner Brs dropped, may have 800"): block by block, as record numbers.
 use crate::chain::Chain;
-use inst::record::wide;
+use words::numbers::wide;
 ghost use mathlib.Core.Path.{_≡_};
 ghost use Prim.Native.Nat.{_+_, _*_, _≤_, _<_};
 ghost use lib.ListN.{length};

@@ -1,5 +1,5 @@
 // The sizes of what is lent, and where each part lies in the two work slices (docs/DESIGN.md, "The words of a chain").
-use inst::record::wide;
+use words::numbers::wide;
 ghost use mathlib.Core.Path.{_≡_};
 ghost use Prim.Native.Nat.{_+_, _*_, _/_, _≤_, _<_};
 ghost use Rattle.chainwords.specs.Work.{width};

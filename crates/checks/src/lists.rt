@@ -3,13 +3,14 @@
 use inst::record::kind;
 use inst::record::list_len;
 use inst::record::list_start;
-use inst::record::wide;
 use inst::table::has_list;
 use inst::table::row;
+use words::numbers::wide;
+use words::slices::first;
 ghost use mathlib.Core.Path.{_≡_};
 ghost use Prim.Native.Nat.{_≤_};
 ghost use lib.Dec.{leb};
-ghost use lib.ListN.{length, take};
+ghost use lib.ListN.{length};
 ghost use Rattle.words.specs.Lists.{any};
 ghost use Rattle.model.specs.Picture.{inst};
 ghost use Rattle.model.specs.Refusal.{bad-list};
@@ -42,14 +43,6 @@ pub fn any_from(xs: &[u32], m: usize) -> bool
         i += 1;
     }
     false
-}
-
-// The first n words.
-fn first(xs: &[u32], n: usize) -> &[u32]
-    requires { ⌜ n ≤ length (now xs) ⌝ }
-    ensures { λ r. ⌜ now r ≡ take n (now (xs .entry)) ⌝ }
-{
-    &xs[..n]
 }
 
 // 6: a record's list is bad, or an operand in use is no register.

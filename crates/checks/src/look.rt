@@ -6,7 +6,7 @@ use crate::plain::skip;
 use crate::records::bad_kind;
 use crate::records::bad_regs_at;
 use crate::records::long_cat;
-use inst::record::wide;
+use words::numbers::wide;
 ghost use mathlib.Core.Path.{_≡_};
 ghost use Prim.Native.Nat.{_*_, _≤_};
 ghost use lib.ListN.{length};

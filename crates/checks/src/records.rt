@@ -24,6 +24,12 @@ ghost use Rattle.inst.specs.Table.{rows};
 ghost use Rattle.inst.specs.Record.{Within, Known, asks-of, bad-at};
 ghost use Rattle.checks.specs.Causes.{bad-regs, long-cat};
 
+// The greatest word of a Cat's scalars, a bit a piece.
+const SCALARS: u32 = 65535;
+
+// How many operands a Cat's list may have.
+const CAT_LIST: usize = 33;
+
 // 4: its kind, form or scalars are not allowed.
 pub fn bad_kind(t: &[u32; 202], recs: &[u32], p: usize) -> bool
     requires { ⌜ (now t ≡ rows) × Within (now recs) p ⌝ }
@@ -35,7 +41,7 @@ pub fn bad_kind(t: &[u32; 202], recs: &[u32], p: usize) -> bool
     }
     let f = form(recs, p);
     let x = row(t, k);
-    (f < least(x)) | (most(x) < f) | ((k == CAT) & (65535 < word(recs, p, 9)))
+    (f < least(x)) | (most(x) < f) | ((k == CAT) & (SCALARS < word(recs, p, 9)))
 }
 
 // 5: a slot that asks this may not hold r, of that many registers.
@@ -97,5 +103,5 @@ pub fn long_cat(recs: &[u32], p: usize) -> bool
     requires { ⌜ Within (now recs) p ⌝ }
     ensures { λ r. ⌜ r ≡ long-cat (inst (now (recs .entry)) p) ⌝ }
 {
-    (kind(recs, p) == CAT) & (33 < list_len(recs, p))
+    (kind(recs, p) == CAT) & (CAT_LIST < list_len(recs, p))
 }

@@ -4,6 +4,7 @@ use mathlib.Core.List.{List, [], _∷_}
 use mathlib.Core.Option.{Option, none, some}
 use Prim.Native.Nat.{ℕ, zero, suc, _/_, _%_}
 use lib.Dec.{eqb}
+use Rattle.words.specs.Lists.{hit}
 use Rattle.model.specs.Analyse.{Org, Unknown, Ro, Heap, Frame, Temp, Img, Class, No, Movable, Free}
 
 -- 0 Unknown, 1 Ro, 2 Heap, 3 Frame, 4 + 2 k Temp k, 5 + 2 k Img k
@@ -29,7 +30,6 @@ unfoldable pub from-at : ℕ → List Org → List Org
 from-at zero cat = []
 from-at (suc n) cat = cond (eqb (suc n) 4294967295) cat (org-at n ∷ [])
 
--- a flag
+-- a flag: `hit`, kept shut
 unfoldable pub num : Bool → ℕ
-num true = 1
-num false = 0
+num b = hit b

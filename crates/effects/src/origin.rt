@@ -4,30 +4,8 @@ ghost use mathlib.Core.Path.{_≡_};
 ghost use mathlib.Core.Bool.{cond, _||_};
 ghost use Prim.Native.Nat.{_≤_, _<_};
 ghost use lib.Dec.{eqb};
-ghost use Rattle.model.specs.Analyse.{Unknown, Ro, Frame, alias, same-org, inside, sized};
-ghost use Rattle.model.specs.Legal.{readable, steady};
+ghost use Rattle.model.specs.Analyse.{Unknown, Ro, Frame, same-org, inside, sized};
 ghost use Rattle.effects.specs.Origin.{org-at};
-
-// May a write to w reach what lies at r?
-pub fn alias(w: u32, r: u32) -> bool
-    ensures { λ b. ⌜ b ≡ alias (org-at w) (org-at r) ⌝ }
-{
-    (w == 0) | (r == 0) | ((3 <= w) & (r == w))
-}
-
-// May what is moved read there: is it Ro, Frame, Temp or Img?
-pub fn is_readable(o: u32) -> bool
-    ensures { λ b. ⌜ b ≡ readable (org-at o) ⌝ }
-{
-    (o == 1) | (3 <= o)
-}
-
-// Does a barrier leave it as it is: is it Ro or Heap?
-pub fn is_steady(o: u32) -> bool
-    ensures { λ b. ⌜ b ≡ steady (org-at o) ⌝ }
-{
-    (o == 1) | (o == 2)
-}
 
 // Where a word read from o points: into o, if that is an image.
 pub fn inside(o: u32) -> u32

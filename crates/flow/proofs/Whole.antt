@@ -4,11 +4,11 @@ use mathlib.Core.Path.{_≡_, refl, ap, _∙_}
 use mathlib.Core.Bool.{false}
 use mathlib.Core.List.{List, [], map}
 use Prim.Native.Nat.{ℕ, _<_}
-use Rattle.words.specs.Lists.{upto, any, mem, iterate, member}
+use Rattle.words.specs.Lists.{upto, mem, iterate, member}
 use Rattle.words.proofs.Lists.{map-ext}
-use Rattle.words.proofs.Members.{any-on, filter-on}
+use Rattle.words.proofs.Members.{filter-on}
 use Rattle.model.specs.Picture.{Picture, End, goes, parts, cases, stops, nblocks, code, ending, end-succs, succs, preds}
-use Rattle.model.specs.Live.{Node, node, live-at, live-in, live-out, read-first, written}
+use Rattle.model.specs.Live.{Node, node, live-at, live-in, read-first, written}
 use Rattle.cfg.specs.Drawn.{drawn}
 use Rattle.flow.specs.Live.{Live, Wrote, Rows}
 use Rattle.cfg.proofs.Successors.{end-same}
@@ -47,11 +47,6 @@ module _ (P : Picture) where
   live-in-whole b r =
       ap (λ (ns : List Node). member (iterate (λ S. map (live-at S) ns) (nblocks P) (map (λ n. false) ns)) b)
       (map-ext (node (Q (P .ops)) r) (node P r) (node-whole r) (upto (nblocks P)))
-
-  pub live-out-whole : (b r : ℕ) → live-out (Q (P .ops)) b r ≡ live-out P b r
-  live-out-whole b r =
-      ap (any (λ s. live-in (Q (P .ops)) s r)) (succs-whole (P .ops) b)
-      ∙ any-on (λ s. live-in (Q (P .ops)) s r) (λ s. live-in P s r) (succs P b) (λ s i. live-in-whole s r)
 
   -- so rows of the one are rows of the other
   pub live-rows-whole : (w : ℕ) (bits : List ℕ) → Live (Q (P .ops)) w bits → Live P w bits

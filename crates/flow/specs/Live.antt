@@ -1,6 +1,5 @@
 -- The n rows of w words at the head of the slice are live-in (01, "A round"), the n behind them what each block writes, then
--- one row that is not ours, and n of what each block reads before it writes it. And a row is live-out of a block: what is
--- live into one of its successors. Assumes nothing.
+-- one row that is not ours, and n of what each block reads before it writes it. Assumes nothing.
 use mathlib.Core.Path.{_≡_}
 use mathlib.Core.Logic.{_⊎_}
 use mathlib.Core.List.{List, [], _∷_}
@@ -9,7 +8,7 @@ use lib.Bits.{bitOr}
 use lib.ListN.{length, getD}
 use Rattle.words.specs.Bits.{is-in}
 use Rattle.model.specs.Picture.{Picture, nblocks, code}
-use Rattle.model.specs.Live.{live-in, live-out, read-first, written}
+use Rattle.model.specs.Live.{live-in, read-first, written}
 
 -- register r is in block b's row exactly if it is live into b
 pub record Live (P : Picture) (w : ℕ) (bits : List ℕ) : Type 0 where
@@ -33,9 +32,6 @@ pub record OnlyRows (n w b : ℕ) (before after : List ℕ) : Type 0 where
   pub size : length after ≡ length before
   pub same : (i : ℕ) → (i < (n + b) * w) ⊎ ((n + b) * w + w ≤ i) → (i < (2 * n + 1 + b) * w) ⊎ ((2 * n + 1 + b) * w + w ≤ i)
       → getD after i 0 ≡ getD before i 0
-
-pub record LiveOut (P : Picture) (w b : ℕ) (out : List ℕ) : Type 0 where
-  pub row : (r : ℕ) → r < 64 * w → is-in out r ≡ live-out P b r
 
 -- x with word i of each listed row
 unfoldable pub gathered : List ℕ → ℕ → ℕ → ℕ → List ℕ → ℕ

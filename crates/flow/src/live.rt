@@ -1,27 +1,23 @@
-// Live-in and live-out (01, "A round": "Live-in is the least solution of: read before written, or live into a successor and
-// not written"; in the Rust `liveness`, `live_out`). The row of a block begins as what it reads first, and takes over what is
+// Live-in (01, "A round": "Live-in is the least solution of: read before written, or live into a successor and
+// not written"; in the Rust `liveness`). The row of a block begins as what it reads first, and takes over what is
 // live into each successor and not written, in sweeps from the last block to the first and from the first to the last by
 // turns, so that a chain of blocks settles in one sweep whichever way its numbers go, until nothing changes.
 use cfg::graph::succs;
-use inst::record::wide;
-use words::bits::bit_in;
+use words::numbers::wide;
 ghost use mathlib.Core.Path.{_≡_};
 ghost use mathlib.Core.Bool.{not};
-ghost use mathlib.Core.List.{List, [], map};
+ghost use mathlib.Core.List.{[]};
 ghost use Prim.Native.Nat.{ℕ, _+_, _*_, _/_, _^_, _≤_, _<_};
 ghost use lib.Dec.{eqb};
 ghost use lib.ListN.{length, getD, set, take, drop};
 ghost use lib.Seq.{sets};
-ghost use Rattle.words.specs.Bits.{is-in};
-ghost use Rattle.words.specs.Lists.{upto, any};
 ghost use Rattle.model.specs.Picture.{succs};
-ghost use Rattle.model.specs.Live.{live-out};
 ghost use Rattle.inst.specs.Table.{rows};
 ghost use Rattle.cfg.specs.Drawn.{drawn};
 ghost use Rattle.cfg.specs.Graph.{Graph};
 ghost use Rattle.defuse.specs.Sets.{Room};
 ghost use Rattle.flow.specs.Progress.{raised, Among, Edges, Progress, Solved};
-ghost use Rattle.flow.specs.Live.{RowRoom, Rows, Live, LiveOut, gathered};
+ghost use Rattle.flow.specs.Live.{RowRoom, Rows, Live, gathered};
 
 // One word: a takes what stands at c and not at d. Tells whether it changed.
 fn raise(bits: &mut [u64], a: usize, c: usize, d: usize) -> bool
@@ -191,71 +187,4 @@ pub fn gather(bits: &[u64], list: &[u32], w: usize, i: usize) -> u64
         j += 1;
     }
     x
-}
-
-// All words of `out`, a row of as many words as the others have, gathered from the rows of the list.
-fn gather_all(out: &mut [u64], bits: &[u64], list: &[u32])
-    requires { ⌜ ((j : ℕ) → j < length (now list) → getD (now list) j 0 * length (now out) + length (now out) ≤ length (now bits)) ⌝ }
-    ensures { λ _. ⌜ now (out .exit) ≡ map (λ i. gathered (now (bits .entry)) (length (now (out .entry))) i 0 (now (list .entry))) (upto (length (now (out .entry)))) ⌝ }
-{
-    let w = out.len();
-    let mut i = 0usize;
-    while i < w {
-        out[i] = gather(bits, list, w, i);
-        i += 1;
-    }
-}
-
-// Live-out of block b, from the rows of live-in: `out` is a row of w words.
-pub fn live_out<'a>(
-    out: &mut [u64],
-    bits: &[u64],
-    t: &[u32; 202],
-    bounds: &[u32],
-    recs: &'a [u32],
-    pairs: &[u32],
-    targets: &'a [u32],
-    b: usize,
-)
-    requires { ⌜ (now t ≡ rows) × Graph (now bounds) (now recs) (now pairs) (now targets) × (b < length (now bounds) / 2)
-        × Room (length (now bounds) / 2) (length (now out)) (now bits) ⌝ }
-    ensures { λ _. ⌜ ((ops : List ℕ) → Live (drawn (now (bounds .entry)) (now (recs .entry)) ops (now (pairs .entry)) (now (targets .entry))) (length (now (out .entry))) (now (bits .entry))
-        → LiveOut (drawn (now (bounds .entry)) (now (recs .entry)) ops (now (pairs .entry)) (now (targets .entry))) (length (now (out .entry))) b (now (out .exit))) ⌝ }
-{
-    gather_all(out, bits, succs(t, bounds, recs, pairs, targets, b));
-}
-
-// Is r in one of the listed rows of w words?
-fn in_one(bits: &[u64], list: &[u32], w: usize, r: usize) -> bool
-    requires { ⌜ ((j : ℕ) → j < length (now list) → getD (now list) j 0 * w + w ≤ length (now bits)) ⌝ }
-    ensures { λ x. ⌜ x ≡ any (λ s. is-in (now (bits .entry)) (64 * (s * w) + r)) (now (list .entry)) ⌝ }
-{
-    let mut j = 0usize;
-    while j < list.len() {
-        if bit_in(bits, wide(list[j]) * w, r) {
-            return true;
-        }
-        j += 1;
-    }
-    false
-}
-
-// Is register r live out of block b?
-pub fn lives_out<'a>(
-    bits: &[u64],
-    t: &[u32; 202],
-    bounds: &[u32],
-    recs: &'a [u32],
-    pairs: &[u32],
-    targets: &'a [u32],
-    w: usize,
-    b: usize,
-    r: usize,
-) -> bool
-    requires { ⌜ (now t ≡ rows) × Graph (now bounds) (now recs) (now pairs) (now targets) × (b < length (now bounds) / 2) × (r < 64 * w)
-        × Room (length (now bounds) / 2) w (now bits) ⌝ }
-    ensures { λ x. ⌜ ((ops : List ℕ) → Live (drawn (now (bounds .entry)) (now (recs .entry)) ops (now (pairs .entry)) (now (targets .entry))) w (now (bits .entry))
-        → x ≡ live-out (drawn (now (bounds .entry)) (now (recs .entry)) ops (now (pairs .entry)) (now (targets .entry))) b r) ⌝ }
-{
-    in_one(bits, succs(t, bounds, recs, pairs, targets, b), w, r)
 }

@@ -1,7 +1,7 @@
 // The rows of what each block reads before it writes it and of what it writes (01, "A round"), w words a row: of n blocks,
 // block b's are rows 2 n + 1 + b and n + b. They stand between rounds, and are made anew for a block whose code changed.
 use defuse::sets::block_sets;
-use inst::record::wide;
+use words::numbers::wide;
 ghost use mathlib.Core.Path.{_≡_};
 ghost use mathlib.Core.List.{[]};
 ghost use Prim.Native.Nat.{ℕ, _+_, _*_, _/_, _≤_, _<_};

@@ -1,16 +1,12 @@
--- Laws on lists beside those of `words`: membership, places in ranges and maps. Assumes nothing.
-use mathlib.Core.Bool.{Bool, true, false, _&&_, _||_}
+-- Laws on lists beside those of `words`: places in ranges and maps. Assumes nothing.
+use mathlib.Core.Bool.{Bool, true, false, _&&_}
 use mathlib.Core.Path.{_≡_, refl, ap, sym, _∙_}
-use mathlib.Core.List.{List, [], _∷_, _++_, map}
-use Prim.Native.Nat.{ℕ, zero, suc, _+_, _-_, _<_, _≤_}
+use mathlib.Core.List.{List, [], _∷_, map}
+use Prim.Native.Nat.{ℕ, zero, suc, _+_, _-_, _<_}
 use native.Mathlib.Omega.{arith}
 use native.Mathlib.Nat.{not-suc-le-zero, le-of-suc-le-suc}
-use native.Mathlib.Numerals.{add-one}
-use lib.Dec.{eqb}
-use lib.ListN.{length, getD, take, drop, drop-of-length-le}
-use lib.Seq.{drop-cons}
-use borrow.Author.Tests.{eq-eqb, ne-eqb}
-use Rattle.words.specs.Lists.{range, upto, all, conj, mem}
+use lib.ListN.{length, getD, take, drop}
+use Rattle.words.specs.Lists.{range, upto, all, conj}
 
 pub and-left : (a b : Bool) → (a && b) ≡ true → a ≡ true
 and-left true b e = refl
@@ -47,28 +43,6 @@ pub getD-any : {A : Type 0} (l : List A) (k : ℕ) (a b : A) → k < length l �
 getD-any [] k a b h = absurd (not-suc-le-zero h)
 getD-any (x ∷ l) zero a b h = refl
 getD-any (x ∷ l) (suc k) a b h = getD-any l k a b (le-of-suc-le-suc h)
-
-pub mem-append : (r : ℕ) (xs ys : List ℕ) → mem r (xs ++ ys) ≡ (mem r xs || mem r ys)
-mem-append r [] ys = refl
-mem-append r (x ∷ xs) ys = ap (λ (b : Bool). eqb r x || b) (mem-append r xs ys) ∙ sym (or-assoc (eqb r x) (mem r xs) (mem r ys))
-  where
-    or-assoc : (a b c : Bool) → ((a || b) || c) ≡ (a || (b || c))
-    or-assoc true b c = refl
-    or-assoc false b c = refl
-
--- r among what is left from k on
-mem-drop : (r k : ℕ) (xs : List ℕ) → k < length xs → mem r (drop k xs) ≡ (eqb r (getD xs k 0) || mem r (drop (k + 1) xs))
-mem-drop r k xs h = ap (mem r) (drop-cons xs k 0 h) ∙ ap (λ (n : ℕ). eqb r (getD xs k 0) || mem r (drop n xs)) (sym (add-one k))
-
-module _ (r k : ℕ) (xs : List ℕ) where
-  pub mem-here : k < length xs → getD xs k 0 ≡ r → mem r (drop k xs) ≡ true
-  mem-here h e = mem-drop r k xs h ∙ ap (λ (b : Bool). b || mem r (drop (k + 1) xs)) (eq-eqb r (getD xs k 0) (sym e))
-
-  pub mem-on : k < length xs → (getD xs k 0 ≡ r → ⊥) → mem r (drop (k + 1) xs) ≡ mem r (drop k xs)
-  mem-on h n = sym (mem-drop r k xs h ∙ ap (λ (b : Bool). b || mem r (drop (k + 1) xs)) (ne-eqb r (getD xs k 0) (λ q. n (sym q))))
-
-  pub mem-end : length xs ≤ k → mem r (drop k xs) ≡ false
-  mem-end h = ap (mem r) (drop-of-length-le xs {i = k} h)
 
 getD-range : (s n k d : ℕ) → k < n → getD (range s n) k d ≡ s + k
 getD-range s zero k d h = absurd (not-suc-le-zero h)

@@ -7,10 +7,8 @@ use native.Mathlib.Omega.{arith}
 use borrow.Author.Tests.{eq-eqb, ne-eqb}
 use lib.Dec.{eqb}
 use Rattle.words.specs.Lists.{mem}
-use Rattle.model.specs.Picture.{Inst, absent, reads, list-of}
-use Rattle.inst.specs.Record.{present, rest-reads}
-use Rattle.inst.proofs.Lists.{mem-append}
-use Rattle.inst.proofs.Rest.{reads-all}
+use Rattle.model.specs.Picture.{absent}
+use Rattle.inst.specs.Record.{present}
 
 -- ---- r among the present ones
 
@@ -28,14 +26,3 @@ mem-miss {g} r ys n = go (eqb g absent)
     go : (b : Bool) → mem r (cond b [] (g ∷ []) ++ ys) ≡ mem r ys
     go true = refl
     go false = ap (λ (b : Bool). b || mem r ys) (ne-eqb r g (λ q. n (sym q)))
-
--- in the slots, or else in the list
-module _ (r : ℕ) (ops : List ℕ) (i : Inst) where
-  split : mem r (reads ops i) ≡ (mem r (rest-reads i 0) || mem r (list-of ops i))
-  split = ap (mem r) (sym (reads-all ops i)) ∙ mem-append r (rest-reads i 0) (list-of ops i)
-
-  pub slots-hit : mem r (rest-reads i 0) ≡ true → mem r (reads ops i) ≡ true
-  slots-hit e = split ∙ ap (λ (b : Bool). b || mem r (list-of ops i)) e
-
-  pub slots-miss : mem r (rest-reads i 0) ≡ false → mem r (reads ops i) ≡ mem r (list-of ops i)
-  slots-miss e = split ∙ ap (λ (b : Bool). b || mem r (list-of ops i)) e

@@ -14,7 +14,6 @@ ghost use mathlib.Core.Path.{_≡_};
 ghost use mathlib.Core.List.{List, [], _++_};
 ghost use lib.ListN.{getD};
 ghost use Prim.Native.Nat.{ℕ, _+_, _<_};
-ghost use Rattle.words.specs.Lists.{mem};
 ghost use Rattle.model.specs.Picture.{inst, kind, absent, list-of, reads, writes};
 ghost use Rattle.inst.specs.Table.{rows, packed};
 ghost use Rattle.inst.specs.Record.{Known, Used, Listed, uses-of, asks-of, read-at, write-at, later, present, rest-reads, rest-writes};
@@ -82,61 +81,6 @@ pub fn list<'a>(ops: &'a [u32], recs: &[u32], p: usize) -> &'a [u32]
     let a = list_start(recs, p);
     let e = a + list_len(recs, p);
     &ops[a..e]
-}
-
-// Does record p write register r?
-pub fn writes_reg(recs: &[u32], p: usize, uses: u32, r: u32) -> bool
-    requires { ⌜ Used (now recs) p uses × (r < absent) ⌝ }
-    ensures { λ b. ⌜ b ≡ mem r (writes (inst (now (recs .entry)) p)) ⌝ }
-{
-    let mut s = 0usize;
-    while s < 5 {
-        if write_at(recs, p, uses, s) == r {
-            return true;
-        }
-        s += 1;
-    }
-    false
-}
-
-// Does one of its slots read register r?
-fn slots_read(recs: &[u32], p: usize, uses: u32, r: u32) -> bool
-    requires { ⌜ Used (now recs) p uses × (r < absent) ⌝ }
-    ensures { λ b. ⌜ b ≡ mem r (rest-reads (inst (now (recs .entry)) p) 0) ⌝ }
-{
-    let mut s = 0usize;
-    while s < 5 {
-        if read_at(recs, p, uses, s) == r {
-            return true;
-        }
-        s += 1;
-    }
-    false
-}
-
-// Does r stand among these words?
-fn holds(xs: &[u32], r: u32) -> bool
-    ensures { λ b. ⌜ b ≡ mem r (now (xs .entry)) ⌝ }
-{
-    let mut k = 0usize;
-    while k < xs.len() {
-        if xs[k] == r {
-            return true;
-        }
-        k += 1;
-    }
-    false
-}
-
-// Does record p read register r, in a slot or in its list?
-pub fn reads_reg(ops: &[u32], recs: &[u32], p: usize, uses: u32, r: u32) -> bool
-    requires { ⌜ Used (now recs) p uses × Listed (now recs) (now ops) p × (r < absent) ⌝ }
-    ensures { λ b. ⌜ b ≡ mem r (reads (now (ops .entry)) (inst (now (recs .entry)) p)) ⌝ }
-{
-    if slots_read(recs, p, uses, r) {
-        return true;
-    }
-    holds(list(ops, recs, p), r)
 }
 
 // The k-th of these words, or absent.

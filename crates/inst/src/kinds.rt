@@ -3,6 +3,8 @@ pub const CONST: u32 = 0;
 
 pub const CONST_F: u32 = 1;
 
+pub const ADDR_OF: u32 = 3;
+
 pub const CAT: u32 = 39;
 
 pub const BR: u32 = 52;
@@ -10,6 +12,8 @@ pub const BR: u32 = 52;
 pub const COND_BR: u32 = 53;
 
 pub const CALL: u32 = 57;
+
+pub const CALL_NATIVE: u32 = 58;
 
 pub const CALL_INDIRECT: u32 = 60;
 

@@ -1,15 +1,9 @@
 // A record's words (01, "The call": word 0 kind, word 1 form, words 2 to 6 registers, words 7 and 8 the list, 9 to 15
 // payload). Record p takes sixteen words from 16 p on.
+use words::numbers::wide;
 ghost use mathlib.Core.Path.{_≡_};
 ghost use Prim.Native.Nat.{_+_, _<_};
 ghost use Rattle.inst.specs.Record.{word, Within};
-
-// A word as an index.
-pub fn wide(x: u32) -> usize
-    ensures { λ r. ⌜ r ≡ x ⌝ }
-{
-    x as usize
-}
 
 // Word k of record p.
 pub fn word(recs: &[u32], p: usize, k: usize) -> u32

@@ -2,7 +2,7 @@
 // kind, packed into one number as specs/Table.antt says, and behind the rows, for each kind, what its slots do at each form,
 // so that this is one look. It is made once, at the entry, and lent: a const array is built anew on the stack at each call
 // that indexes it.
-use crate::record::wide;
+use words::numbers::wide;
 ghost use mathlib.Core.Path.{_≡_};
 ghost use Prim.Native.Nat.{_<_, _*_, _/_, _%_};
 ghost use Rattle.model.specs.Kinds.{kind-of};

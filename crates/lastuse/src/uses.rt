@@ -30,7 +30,7 @@ fn note(st: &[u64], lasts: &mut [u32; RECORDS], r: u32, q: u32)
     if r == ABSENT {
         return;
     }
-    let k = inst::record::wide(r);
+    let k = words::numbers::wide(r);
     let d = st[k];
     if d == 0 {
         return;

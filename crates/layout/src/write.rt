@@ -2,9 +2,9 @@
 // of each slice. Each function writes at a place, the last one at 0, keeps all other bytes, and returns the place behind what it wrote.
 use words::bytes::put_word;
 use words::bytes::put_words;
-ghost use mathlib.Core.Path.{_≡_};
+use words::slices::first;
 ghost use mathlib.Core.List.{[], _∷_, _++_};
-ghost use Prim.Native.Nat.{_+_, _*_, _≤_, _<_};
+ghost use Prim.Native.Nat.{_+_, _*_, _≤_};
 ghost use lib.ListN.{length, take};
 ghost use Rattle.words.specs.Bytes.{bytes-of};
 ghost use Rattle.layout.specs.Text.{Put};
@@ -26,13 +26,6 @@ fn put_all(out: &mut [u8], at: usize, words: &[u32]) -> usize
 {
     put_words(out, at, words);
     at + 4 * words.len()
-}
-
-fn first(words: &[u32], n: usize) -> &[u32]
-    requires { ⌜ n ≤ length (now words) ⌝ }
-    ensures { λ r. ⌜ now r ≡ take n (now (words .entry)) ⌝ }
-{
-    &words[0..n]
 }
 
 // The first n words.

@@ -5,6 +5,9 @@ use crate::rules::rule5;
 use crate::rules::rule6;
 use facts::Fact;
 use summary::notes::forget;
+use summary::stamps::MEMBER_AT;
+use summary::stamps::ORIGIN;
+use summary::stamps::WRITER;
 use summary::stamps::put_writes;
 ghost use mathlib.Core.Path.{_≡_};
 ghost use mathlib.Core.Bool.{not, _&&_};
@@ -12,6 +15,9 @@ ghost use Prim.Native.Nat.{_*_, _<_};
 ghost use lib.ListN.{length};
 ghost use Rattle.inst.specs.Table.{rows};
 ghost use Rattle.summary.specs.Passes.{fact-word, stay-test, Near, Forwarded, Written, Readable, Small};
+
+// What is stamped of a member, beside its origin.
+const IN_SET: u64 = WRITER + MEMBER_AT;
 
 // A member that keeps rules 3 to 6, the cheap ones first.
 fn may_stay(
@@ -49,11 +55,11 @@ fn stamp_of(f: Fact, member: bool) -> u64
     requires { ⌜ f .org < 2004 ⌝ }
     ensures { λ r. ⌜ r ≡ 2048 * fact-word f member ⌝ }
 {
-    let o = 8192 * (f.org as u64);
+    let o = ORIGIN * (f.org as u64);
     if member {
-        return o + 6144;
+        return o + IN_SET;
     }
-    o + 2048
+    o + WRITER
 }
 
 // Position p, of fact f: dropped if it is a member that breaks one of rules 3 to 6. Its writes are noted. Says whether it is in the set.
@@ -75,6 +81,6 @@ pub fn forth(
     let stays = may_stay(t, ops, recs, f, regs, st, lasts, sus, bar, p);
     forget(lasts, f.member & !stays, p);
     let v = stamp_of(f, stays);
-    put_writes(t, recs, f.rec, f.def, f.more, st, 2048, 0, v);
+    put_writes(t, recs, f.rec, f.def, f.more, st, WRITER, 0, v);
     stays
 }

@@ -1,12 +1,17 @@
 // The six rules that a member keeps, each a function of its own (01, "The legal set"), against what the kept positions do. `st` holds a
-// word a register: below 1024 its last kept writer, 1024 if it is awaited, from 2048 on what is asked of its last writer, of `backward` and
-// `forward`.
+// word a register: below AWAITED its last kept writer, AWAITED if it is awaited, from WRITER on what is asked of its last writer, of
+// `backward` and `forward`.
 // `sus`, `bar` and `lasts` are of `notes`. Rules 1 to 3 ask of the fact where it has all that the position writes and reads, else of the record.
 use effects::arms::PIECES;
 use facts::Fact;
 use model::ABSENT;
 use summary::chain::places;
 use summary::chain::read_place;
+use summary::notes::MEMBER;
+use summary::stamps::AWAITED;
+use summary::stamps::MEMBER_AT;
+use summary::stamps::ORIGIN;
+use summary::stamps::WRITER;
 ghost use mathlib.Core.Path.{_≡_};
 ghost use mathlib.Core.Logic.{_⊎_};
 ghost use mathlib.Core.Bool.{not, _||_};
@@ -21,6 +26,9 @@ ghost use Rattle.legalset.specs.Chain.{picked, Fits, Good};
 ghost use Rattle.legalset.specs.Rules.{still-fine};
 ghost use Rattle.summary.specs.Passes.{result-test, read-test, place-test, word-org, org-test, piece-test, from-test, memory-test, own-test, Near, Written, Readable};
 
+// The greatest word of a register that is not awaited.
+const NOT_AWAITED: u64 = AWAITED - 1;
+
 // Is register r, if it is one, not awaited?
 fn free(st: &[u64], r: u32) -> bool
     requires { ⌜ (r ≡ absent) ⊎ (r < length (now st)) ⌝ }
@@ -29,8 +37,8 @@ fn free(st: &[u64], r: u32) -> bool
     if r == ABSENT {
         return true;
     }
-    let k = inst::record::wide(r);
-    st[k] <= 1023
+    let k = words::numbers::wide(r);
+    st[k] <= NOT_AWAITED
 }
 
 // Rule 1 for what record g writes, slot by slot.
@@ -57,7 +65,7 @@ pub fn rule1(t: &[u32; 202], recs: &[u32], f: Fact, st: &[u64]) -> bool
     if !f.more {
         return free(st, f.def);
     }
-    let g = inst::record::wide(f.rec);
+    let g = words::numbers::wide(f.rec);
     free_slots(recs, g, inst::access::uses(t, recs, g), st)
 }
 
@@ -69,7 +77,7 @@ fn unneeded(regs: &[u32], bits: &[u64], o: usize, r: u32, p: usize) -> bool
     if r == ABSENT {
         return true;
     }
-    let k = inst::record::wide(r);
+    let k = words::numbers::wide(r);
     !(words::bits::bit_in(bits, o, k) & (regs[k] / 16 == p as u32 + 1))
 }
 
@@ -113,7 +121,7 @@ pub fn rule2(
     if !f.more {
         return unneeded(regs, bits, o, f.def, p);
     }
-    let g = inst::record::wide(f.rec);
+    let g = words::numbers::wide(f.rec);
     unneeded_slots(recs, g, inst::access::uses(t, recs, g), regs, bits, o, p)
 }
 
@@ -125,9 +133,9 @@ fn read_ok(st: &[u64], r: u32, p: usize) -> bool
     if r == ABSENT {
         return true;
     }
-    let k = inst::record::wide(r);
+    let k = words::numbers::wide(r);
     let v = st[k];
-    (v / 4096 % 2 == 1) | (v % 1024 <= p as u64 + 1)
+    (v / MEMBER_AT % 2 == 1) | (v % AWAITED <= p as u64 + 1)
 }
 
 // Rule 3 for what record g, at p, reads, place by place.
@@ -155,7 +163,7 @@ pub fn rule3(t: &[u32; 202], ops: &[u32], recs: &[u32], f: Fact, st: &[u64], p: 
     if !f.more {
         return read_ok(st, f.use0, p) & read_ok(st, f.use1, p);
     }
-    let g = inst::record::wide(f.rec);
+    let g = words::numbers::wide(f.rec);
     places_ok(ops, recs, g, inst::access::uses(t, recs, g), st, p)
 }
 
@@ -173,11 +181,11 @@ fn org_ok(lasts: &[u32; 2008], bar: u32, p: usize, o: u32) -> bool
     ensures { λ b. ⌜ b ≡ org-test (now (lasts .entry)) bar p o ⌝ }
 {
     let e = p as u32 + 1;
-    let k = inst::record::wide(o) + 1;
+    let k = words::numbers::wide(o) + 1;
     ((o == 1) | (3 <= o))
         & ((bar <= e) | (o == 1))
-        & (lasts[1] % 1024 <= e)
-        & ((o <= 2) | (lasts[k] % 1024 <= e))
+        & (lasts[1] % MEMBER <= e)
+        & ((o <= 2) | (lasts[k] % MEMBER <= e))
 }
 
 // Where register r points that is read at this place.
@@ -185,10 +193,10 @@ fn reg_org(regs: &[u32], st: &[u64], r: u32) -> u32
     requires { ⌜ Near (now st) × (r < length (now st)) × (length (now regs) ≡ length (now st)) ⌝ }
     ensures { λ o. ⌜ (o ≡ word-org (now (regs .entry)) r (getD (now (st .entry)) r 0)) × (o < 2005) ⌝ }
 {
-    let k = inst::record::wide(r);
+    let k = words::numbers::wide(r);
     let v = st[k];
-    if 2048 <= v {
-        return (v / 8192) as u32;
+    if WRITER <= v {
+        return (v / ORIGIN) as u32;
     }
     if regs[k] % 2 == 1 {
         return 1;
@@ -267,7 +275,7 @@ fn froms_ok(
     if x != PIECES {
         return org_ok(lasts, bar, p, x - 1);
     }
-    let g = inst::record::wide(f.rec);
+    let g = words::numbers::wide(f.rec);
     let xs = inst::access::list(ops, recs, g);
     pieces_ok(xs, regs, st, lasts, bar, p, inst::record::word(recs, g, 9))
 }
@@ -307,6 +315,6 @@ pub fn rule6(f: Fact, lasts: &[u32; 2008]) -> bool
     ensures { λ b. ⌜ b ≡ own-test (now (lasts .entry)) (f .wrote) ⌝ }
 {
     let o = f.wrote;
-    let k = inst::record::wide(o);
-    (o == 0) | (1024 <= lasts[k])
+    let k = words::numbers::wide(o);
+    (o == 0) | (MEMBER <= lasts[k])
 }

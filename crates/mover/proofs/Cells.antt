@@ -10,7 +10,7 @@ use borrow.Author.Tests.{eq-eqb, ne-eqb, eqb-true, eqb-false}
 use lib.Dec.{eqb}
 use lib.ListN.{length, take, drop, length-drop, length-append}
 use lib.Seq.{sets, length-sets, drop-drop, take-add, length-take-le}
-use Rattle.words.specs.Lists.{range, upto, filter, concat}
+use Rattle.words.specs.Lists.{range, upto, filter, concat, hit}
 use Rattle.words.proofs.Lists.{map-append, range-snoc, filter-append, concat-append}
 use Rattle.words.proofs.Copying.{front-sets, drop-sets}
 use Rattle.mover.specs.Order.{cell, cells, mark-at, stays, goes, kept, gone, One, Gathered}
@@ -164,12 +164,12 @@ gathered-end {w} {lo} {p} {m} {s} {chain} {xs} {ys} {saved} {sv} g h k = subst (
 
 -- ---- how many go
 
-pub counted : (f : ℕ → Bool) (p : ℕ) → length (filter f (upto (p + 1))) ≡ length (filter f (upto p)) + cond (f p) 1 0
+pub counted : (f : ℕ → Bool) (p : ℕ) → length (filter f (upto (p + 1))) ≡ length (filter f (upto p)) + hit (f p)
 counted f p =
     ap (λ (l : List ℕ). length (filter f l)) (ap upto (add-one p) ∙ range-snoc 0 p ∙ ap (λ (k : ℕ). upto p ++ (k ∷ [])) (zero-add p))
     ∙ ap length (filter-append f (upto p) (p ∷ [])) ∙ length-append (filter f (upto p)) (filter f (p ∷ []))
     ∙ ap (λ (k : ℕ). length (filter f (upto p)) + k) (last (f p))
   where
-    last : (b : Bool) → length (cond b (p ∷ []) []) ≡ cond b 1 0
+    last : (b : Bool) → length (cond b (p ∷ []) []) ≡ hit b
     last true = refl
     last false = refl

@@ -1,10 +1,9 @@
 // Block bounds after c instructions went from one block to another (01, "The move"; blocks lie end to end): all words between
 // the one's end and the other's start, both included, shift by c, those of empty blocks too.
+use words::numbers::one;
 ghost use mathlib.Core.Path.{_≡_};
 ghost use Prim.Native.Nat.{ℕ, _+_, _-_, _*_, _≤_, _<_};
 ghost use lib.ListN.{length, getD};
-ghost use mathlib.Core.Bool.{cond, not};
-ghost use lib.Dec.{eqb};
 ghost use Rattle.words.specs.Lists.{upto, filter};
 ghost use Rattle.mover.specs.Order.{goes};
 ghost use Rattle.mover.specs.Spans.{Mapped, Shifted, ShiftAsk};
@@ -45,16 +44,6 @@ pub fn move_bounds(bounds: &mut [u32], x: usize, t: usize, c: u32)
     up(bounds, 2 * t + 1, 2 * x + 1, c);
 }
 
-// 1 for a mark that is not 0.
-fn one(mark: u32) -> u32
-    ensures { λ r. ⌜ (r ≡ cond (not (eqb mark 0)) 1 0) × (r ≤ 1) ⌝ }
-{
-    if mark == 0 {
-        return 0;
-    }
-    1
-}
-
 // How many of the first m positions of the chain are members.
 pub fn count(chain: &[u32], m: usize) -> u32
     requires { ⌜ (10 * m ≤ length (now chain)) × (m ≤ 800) ⌝ }
@@ -63,7 +52,7 @@ pub fn count(chain: &[u32], m: usize) -> u32
     let mut n = 0u32;
     let mut p = 0usize;
     while p < m {
-        n = n + one(chain[10 * p + 6]);
+        n = n + one(chain[10 * p + 6] != 0);
         p += 1;
     }
     n

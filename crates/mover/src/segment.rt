@@ -9,11 +9,14 @@ ghost use Prim.Native.Nat.{_+_, _*_, _≤_, min};
 ghost use lib.ListN.{length, drop};
 ghost use Rattle.mover.specs.Order.{Ask, cells, gone, sunk, raised};
 
+// The most records of a segment.
+pub const SEGMENT: usize = 64;
+
 // How many of n positions make the next segment.
 pub fn few(n: usize) -> usize
     ensures { λ r. ⌜ r ≡ min n 64 ⌝ }
 {
-    if n < 64 { n } else { 64 }
+    if n < SEGMENT { n } else { SEGMENT }
 }
 
 // The work words of the positions from p on.

@@ -1,5 +1,5 @@
 // Cause 3 (01, "The call": blocks lie end to end over all instructions, no end below its start).
-use inst::record::wide;
+use words::numbers::wide;
 ghost use mathlib.Core.Path.{_≡_};
 ghost use Rattle.model.specs.Refusal.{gaps};
 

@@ -3,7 +3,7 @@
 use inst::kinds::CAT;
 use inst::record::form;
 use inst::record::kind;
-use inst::record::wide;
+use words::numbers::wide;
 ghost use mathlib.Core.Path.{_≡_};
 ghost use mathlib.Core.List.{[]};
 ghost use Prim.Native.Nat.{_*_, _/_, _≤_};

@@ -1,11 +1,24 @@
 // Causes 1, 2 and 10 (01, "The call", the table; work sizes under "Port order and sizes", records under "What changes
 // shape"), by lengths alone: they are tested before anything is indexed, and no product can wrap.
-use inst::record::wide;
 use model::CHAIN_WORDS;
 use model::RECORDS;
+use words::numbers::wide;
 ghost use mathlib.Core.Path.{_≡_};
 ghost use Prim.Native.Nat.{_/_, _≤_};
 ghost use Rattle.checks.specs.Causes.{too-many, unlike, too-short};
+
+// The most blocks, instructions, registers, operands, pair words and target words that may be lent.
+const BLOCKS: usize = 4096;
+
+const INSTRUCTIONS: usize = 32768;
+
+const REGISTERS: usize = 65536;
+
+const OPERANDS: usize = 131072;
+
+const PAIRS: usize = 65536;
+
+const TARGETS: usize = 65536;
 
 // 1: of the lengths of bounds, locs, types, operands, pairs and targets, and of the counts in use.
 pub fn too_many(
@@ -20,12 +33,12 @@ pub fn too_many(
 ) -> bool
     ensures { λ r. ⌜ r ≡ too-many nb nl nt nq np ng regs opers ⌝ }
 {
-    (4096 < nb / 2)
-        | (32768 < nl)
-        | (65536 < nt)
-        | (131072 < nq)
-        | (65536 < np)
-        | (65536 < ng)
+    (BLOCKS < nb / 2)
+        | (INSTRUCTIONS < nl)
+        | (REGISTERS < nt)
+        | (OPERANDS < nq)
+        | (PAIRS < np)
+        | (TARGETS < ng)
         | (nt < wide(regs))
         | (nq < wide(opers))
 }

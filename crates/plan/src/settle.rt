@@ -4,6 +4,9 @@ use crate::sweep::Sweep;
 use crate::sweep::Tally;
 use crate::sweep::run;
 use facts::Fact;
+use summary::notes::BARRIER;
+use summary::notes::MEMBER;
+use summary::notes::SUSPENSION;
 ghost use mathlib.Core.Path.{_≡_};
 ghost use mathlib.Core.Bool.{true, false, cond};
 ghost use Prim.Native.Nat.{_+_, _-_, _≤_};
@@ -31,7 +34,7 @@ pub struct Cycle {
 
 // Nothing is counted.
 pub fn zero() -> Tally
-    ensures { λ r. ⌜ r .count ≡ 0 ⌝ }
+    ensures { λ r. ⌜ (r .keep ≡ false) × (r .count ≡ 0) ⌝ }
 {
     Tally {
         keep: false,
@@ -60,8 +63,8 @@ fn sweep_of(c: Cycle, lasts: &[u32; 2008]) -> Sweep
         m: c.m,
         n: c.n,
         k: pick(c.ahead, c.m, c.n),
-        sus: lasts[2007] % 1024,
-        bar: lasts[2006] % 1024,
+        sus: lasts[SUSPENSION] % MEMBER,
+        bar: lasts[BARRIER] % MEMBER,
     }
 }
 

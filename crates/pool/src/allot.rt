@@ -3,17 +3,11 @@
 use crate::turn::Count;
 use crate::turn::turn;
 use model::ABSENT;
+use words::numbers::narrow;
 ghost use mathlib.Core.Path.{_≡_};
 ghost use Prim.Native.Nat.{_+_, _*_, _≤_, _<_};
 ghost use lib.ListN.{length};
 ghost use Rattle.pool.specs.Pool.{Ready, Positioned, Allots};
-
-fn narrow(x: usize) -> u32
-    requires { ⌜ x < 4294967296 ⌝ }
-    ensures { λ r. ⌜ r ≡ x ⌝ }
-{
-    x as u32
-}
 
 // Position p's turn, if it is marked. Its new register is noted.
 fn position(

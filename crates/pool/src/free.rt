@@ -1,5 +1,7 @@
 // The registers that are free (01, "The move": "reused, last freed first"): the search from the top for one of a type, and
 // the closing up where one is taken out.
+use crate::held::FREE;
+use crate::held::UNTIL;
 ghost use mathlib.Core.Path.{_≡_};
 ghost use Prim.Native.Nat.{_-_, _≤_, _<_};
 ghost use lib.ListN.{length};
@@ -9,7 +11,7 @@ ghost use Rattle.pool.specs.Pool.{free-of, Top, Removed};
 fn type_of(w: u32) -> u32
     ensures { λ r. ⌜ r ≡ free-of w .0 ⌝ }
 {
-    w % 1048576 % 8
+    w % UNTIL % 8
 }
 
 // One above the place of the topmost free word of type ty, or 0.
@@ -19,7 +21,7 @@ pub fn find(pool: &[u32], nf: usize, ty: u32) -> usize
 {
     let mut i = nf;
     while 0 < i {
-        let t = type_of(pool[800 + (i - 1)]);
+        let t = type_of(pool[FREE + (i - 1)]);
         if t == ty {
             return i;
         }
@@ -35,7 +37,7 @@ pub fn remove(pool: &mut [u32], nf: usize, a: usize)
 {
     let mut i = a;
     while i + 1 < nf {
-        pool[800 + i] = pool[800 + (i + 1)];
+        pool[FREE + i] = pool[FREE + (i + 1)];
         i += 1;
     }
 }

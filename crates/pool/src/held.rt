@@ -6,11 +6,17 @@ ghost use Prim.Native.Nat.{_+_, _≤_};
 ghost use lib.ListN.{length};
 ghost use Rattle.pool.specs.Pool.{Released, past, one-if};
 
+// Where the last reader stands in a word, over register and type.
+pub const UNTIL: u32 = 1048576;
+
+// Where those free begin.
+pub const FREE: usize = 800;
+
 // 1 if the held word w's last reader is before p.
 fn is_past(w: u32, p: u32) -> usize
     ensures { λ r. ⌜ (r ≡ one-if (past p w)) × (r ≤ 1) ⌝ }
 {
-    if w / 1048576 < p {
+    if w / UNTIL < p {
         return 1;
     }
     0
@@ -26,7 +32,7 @@ pub fn release(pool: &mut [u32], nh: usize, nf: usize, p: u32) -> usize
     while i < nh {
         let w = pool[i];
         pool[i - g] = w;
-        pool[800 + (nf + g)] = w;
+        pool[FREE + (nf + g)] = w;
         g = g + is_past(w, p);
         i += 1;
     }

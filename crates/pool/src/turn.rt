@@ -2,8 +2,11 @@
 // that it writes.
 use crate::free::find;
 use crate::free::remove;
+use crate::held::FREE;
+use crate::held::UNTIL;
 use crate::held::release;
 use model::ABSENT;
+use words::numbers::wide;
 ghost use mathlib.Core.Path.{_≡_};
 ghost use Prim.Native.Nat.{_+_, _≤_, _<_};
 ghost use lib.ListN.{length, getD};
@@ -20,12 +23,6 @@ pub struct Count {
 pub struct Given {
     pub reg: u32,
     pub n: Count,
-}
-
-pub fn wide(x: u32) -> usize
-    ensures { λ r. ⌜ r ≡ x ⌝ }
-{
-    x as usize
 }
 
 // A signal reference takes the next register as well.
@@ -48,7 +45,7 @@ fn give(pool: &mut [u32], n: Count, until: u32, ty: u32) -> Given
     let next = n.next;
     let at = find(pool, nf, ty);
     if at == 0 {
-        pool[nh] = until * 1048576 + (next * 8 + ty);
+        pool[nh] = until * UNTIL + (next * 8 + ty);
         return Given {
             reg: next,
             n: Count {
@@ -58,9 +55,9 @@ fn give(pool: &mut [u32], n: Count, until: u32, ty: u32) -> Given
             },
         };
     }
-    let w = pool[800 + (at - 1)] % 1048576;
+    let w = pool[FREE + (at - 1)] % UNTIL;
     remove(pool, nf, at - 1);
-    pool[nh] = until * 1048576 + w;
+    pool[nh] = until * UNTIL + w;
     Given {
         reg: w / 8,
         n: Count {

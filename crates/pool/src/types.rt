@@ -1,6 +1,6 @@
 // The new registers' types, written behind those in use once it is known that they fit (01, "The move"; "room past the counts in
 // use keeps what it held"). A member that was given the register next in line made it, and any other got one that was free.
-use crate::turn::wide;
+use words::numbers::wide;
 ghost use mathlib.Core.Path.{_≡_};
 ghost use Prim.Native.Nat.{_+_, _*_, _≤_, _<_};
 ghost use lib.ListN.{length, getD, take};

@@ -1,6 +1,6 @@
 -- 01, "A round", the facts on registers: the only writer of a register as a number, and the facts as flags. Assumes nothing.
 use mathlib.Core.Path.{_≡_}
-use mathlib.Core.Bool.{cond}
+use mathlib.Core.Bool.{Bool, false, cond}
 use mathlib.Core.List.{List, map}
 use Prim.Native.Nat.{ℕ, zero, suc, _+_, _*_, _%_, _≤_, _<_}
 use lib.Dec.{eqb}
@@ -34,6 +34,13 @@ pub record Soles (recs : List ℕ) (n K : ℕ) (words : List ℕ) : Type 0 where
 -- read-only 1, frame 2, a length 4, above zero 8
 unfoldable pub flags-of : Known → ℕ
 flags-of k = num (k .ro) + 2 * num (k .frame) + 4 * num (when-some small (k .konst)) + 8 * num (when-some positive (k .konst))
+
+-- a constant that is a length
+unfoldable pub is-length : Constant → Bool
+is-length (Whole z) = small z
+is-length (Float x) = false
+is-length (Nan n) = false
+is-length Not = false
 
 -- of a constant
 unfoldable pub flags-in : Constant → ℕ

@@ -6,9 +6,14 @@ use inst::access::uses;
 use inst::access::write_at;
 use inst::constant::Constant;
 use inst::constant::decode;
+use inst::kinds::ADDR_OF;
 use inst::record::form;
 use inst::record::kind;
 use model::ABSENT;
+use words::numbers::full;
+use words::numbers::long;
+use words::numbers::one;
+use words::numbers::wide;
 ghost use mathlib.Core.Path.{_≡_};
 ghost use mathlib.Core.Logic.{_⊎_};
 ghost use Prim.Native.Nat.{ℕ, _*_, _≤_, _<_};
@@ -18,25 +23,18 @@ ghost use Rattle.model.specs.Analyse.{known, small, positive};
 ghost use Rattle.inst.specs.Table.{rows};
 ghost use Rattle.inst.specs.Record.{Within, Used};
 ghost use Rattle.regfacts.specs.Written.{put-in, Fits, Written};
-ghost use Rattle.effects.specs.Origin.{num};
-ghost use Rattle.regfacts.specs.Flags.{noted, many, Soles, flags-of, flags-in, sole-of, Found};
+ghost use Rattle.regfacts.specs.Flags.{noted, many, Soles, flags-of, flags-in, is-length, sole-of, Found};
+
+// A register's word counts what stands over its flags by this.
+pub const FLAGS: u64 = 16;
 
 // The word of a register that more than one record writes.
 const SEVERAL: u64 = 4294967295;
 
-// A register.
-pub fn at(r: u32) -> usize
-    ensures { λ n. ⌜ n ≡ r ⌝ }
-{
-    r as usize
-}
+// The least and the greatest length, -2^40 and 2^40.
+const LEAST: i64 = -1099511627776;
 
-// A word for a number of records.
-pub fn long(p: usize) -> u64
-    ensures { λ n. ⌜ n ≡ p ⌝ }
-{
-    p as u64
-}
+const GREATEST: i64 = 1099511627776;
 
 // A writer's word after a write by record p: 0 none, q + 1 record q, SEVERAL more than one.
 fn next(v: u64, p: u64) -> u64
@@ -58,7 +56,7 @@ fn note(regs: &mut [u64], w: u32, p: u64)
     ensures { λ _. ⌜ now (regs .exit) ≡ put-in (noted p) w (now (regs .entry)) ⌝ }
 {
     if w != ABSENT {
-        let r = at(w);
+        let r = wide(w);
         regs[r] = next(regs[r], p);
     }
 }
@@ -68,7 +66,7 @@ fn note_all(recs: &[u32], regs: &mut [u64], p: usize, uses: u32)
     requires { ⌜ Used (now recs) p uses × (p < 32768) × Fits (now recs) (length (now regs)) p ⌝ }
     ensures { λ _. ⌜ Written (noted p) (inst (now (recs .entry)) p) (now (regs .entry)) (now (regs .exit)) ⌝ }
 {
-    let n = long(p);
+    let n = full(p);
     let mut s = 0usize;
     while s < 5 {
         note(regs, write_at(recs, p, uses, s), n);
@@ -86,7 +84,7 @@ fn note_record(t: &[u32; 202], recs: &[u32], regs: &mut [u64], p: usize)
         note_all(recs, regs, p, u);
         return;
     }
-    note(regs, write_at(recs, p, u, 0), long(p));
+    note(regs, write_at(recs, p, u, 0), full(p));
 }
 
 fn clear(regs: &mut [u64])
@@ -113,10 +111,10 @@ fn find_soles(t: &[u32; 202], recs: &[u32], regs: &mut [u64], n: usize)
 }
 
 // Is it a length: from -2^40 to 2^40, both included?
-pub fn is_small(z: i64) -> bool
+fn is_small(z: i64) -> bool
     ensures { λ b. ⌜ b ≡ small z ⌝ }
 {
-    (-1099511627776 <= z) & (z <= 1099511627776)
+    (LEAST <= z) & (z <= GREATEST)
 }
 
 fn is_positive(z: i64) -> bool
@@ -125,13 +123,16 @@ fn is_positive(z: i64) -> bool
     0 < z
 }
 
-fn one(b: bool) -> u64
-    ensures { λ r. ⌜ (r ≡ num b) × (r ≤ 1) ⌝ }
+// Is the constant a length?
+pub fn is_length(c: Constant) -> bool
+    ensures { λ b. ⌜ b ≡ is-length c ⌝ }
 {
-    if b {
-        return 1;
+    match c {
+        Constant::Whole(z) => is_small(z),
+        Constant::Float(_) => false,
+        Constant::Nan(_) => false,
+        Constant::Not => false,
     }
-    0
 }
 
 // The flags of a constant.
@@ -139,7 +140,7 @@ fn constant_flags(c: Constant) -> u64
     ensures { λ r. ⌜ r ≡ flags-in c ⌝ }
 {
     match c {
-        Constant::Whole(z) => 4 * one(is_small(z)) + 8 * one(is_positive(z)),
+        Constant::Whole(z) => long(4 * one(is_small(z)) + 8 * one(is_positive(z))),
         Constant::Float(_) => 0,
         Constant::Nan(_) => 0,
         Constant::Not => 0,
@@ -151,9 +152,9 @@ fn record_flags(recs: &[u32], q: usize) -> u64
     requires { ⌜ Within (now recs) q ⌝ }
     ensures { λ r. ⌜ r ≡ flags-of (known (inst (now (recs .entry)) q)) ⌝ }
 {
-    if kind(recs, q) == 3 {
+    if kind(recs, q) == ADDR_OF {
         let f = form(recs, q);
-        return one((f == 2) | (f == 4)) + 2 * one(f == 0);
+        return long(one((f == 2) | (f == 4)) + 2 * one(f == 0));
     }
     constant_flags(decode(recs, q))
 }

@@ -1,7 +1,8 @@
 // A word for each register, its new name or absent (01, "The move").
 use inst::access::write_at;
-use inst::record::wide;
 use model::ABSENT;
+use words::numbers::long;
+use words::numbers::wide;
 ghost use mathlib.Core.Path.{_≡_};
 ghost use Prim.Native.Nat.{ℕ, _%_, _<_};
 ghost use lib.ListN.{length, replicate};
@@ -9,19 +10,16 @@ ghost use Rattle.model.specs.Picture.{inst};
 ghost use Rattle.inst.specs.Record.{Used, write-at};
 ghost use Rattle.rename.specs.Names.{reg-or, named, put-name, Forgot};
 
+// How many words of 32 bits there are.
+const WORDS: u64 = 4294967296;
+
 // No new name.
 const NONE: u64 = ABSENT as u64;
 
 fn low(x: u64) -> u32
     ensures { λ r. ⌜ r ≡ x % 4294967296 ⌝ }
 {
-    (x % 4294967296) as u32
-}
-
-fn long(x: u32) -> u64
-    ensures { λ r. ⌜ r ≡ x ⌝ }
-{
-    x as u64
+    (x % WORDS) as u32
 }
 
 // w, or x where w is absent.

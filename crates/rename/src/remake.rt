@@ -5,16 +5,10 @@ use crate::lists::changes;
 use crate::slots::rename_slots;
 use inst::record::list_len;
 use inst::record::list_start;
+use words::numbers::narrow;
 ghost use mathlib.Core.Path.{_≡_};
 ghost use Prim.Native.Nat.{_<_};
 ghost use Rattle.rename.specs.Names.{Fit, Remade};
-
-fn narrow(x: usize) -> u32
-    requires { ⌜ x < 4294967296 ⌝ }
-    ensures { λ r. ⌜ r ≡ x ⌝ }
-{
-    x as u32
-}
 
 // Record p, where u operands were in use at first and o are now. Returns how many are in use then.
 pub fn remake(

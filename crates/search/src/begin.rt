@@ -4,9 +4,9 @@
 use cfg::graph::find_preds;
 use chainwords::sizes::width;
 use flow::rows::all_rows;
-use inst::record::wide;
 use model::CHAIN_WORDS;
 use regfacts::flags::find_facts;
+use words::numbers::wide;
 ghost use mathlib.Core.Path.{_≡_};
 ghost use Rattle.inst.specs.Table.{rows};
 ghost use Rattle.search.specs.Search.{Beginning, Began};

@@ -14,6 +14,16 @@ ghost use Rattle.inst.specs.Record.{Used};
 ghost use Rattle.legalset.specs.Chain.{Fits, Good};
 ghost use Rattle.summary.specs.Passes.{over, put-in, Stamped, Beside, Written, Readable};
 
+// While the set is found, a register's word has its last kept writer and 1, and AWAITED if it is awaited. Of its last writer so far it
+// has WRITER, MEMBER_AT beside it if that is in the set, and over both its origin.
+pub const AWAITED: u64 = 1024;
+
+pub const WRITER: u64 = 2048;
+
+pub const MEMBER_AT: u64 = 4096;
+
+pub const ORIGIN: u64 = 8192;
+
 // The word x when it is stamped.
 fn over(x: u64, keep: u64, lo: u64, v: u64) -> u64
     requires { ⌜ Beside keep lo v ⌝ }
@@ -32,7 +42,7 @@ fn put(st: &mut [u64], r: u32, keep: u64, lo: u64, v: u64)
     ensures { λ _. ⌜ now (st .exit) ≡ put-in keep lo v r (now (st .entry)) ⌝ }
 {
     if r != ABSENT {
-        let k = inst::record::wide(r);
+        let k = words::numbers::wide(r);
         st[k] = over(st[k], keep, lo, v);
     }
 }
@@ -69,7 +79,7 @@ pub fn put_writes(
         put(st, def, keep, lo, v);
         return;
     }
-    let g = inst::record::wide(rec);
+    let g = words::numbers::wide(rec);
     put_slots(recs, g, inst::access::uses(t, recs, g), st, keep, lo, v);
 }
 
@@ -115,7 +125,7 @@ pub fn put_reads(
         put(st, f.use1, keep, lo, v);
         return;
     }
-    let g = inst::record::wide(f.rec);
+    let g = words::numbers::wide(f.rec);
     put_places(
         ops,
         recs,

@@ -5,7 +5,7 @@ use chains::chain::Chain;
 use chains::pass::Sink;
 use chainwords::sizes::Sizes;
 use facts::Fact;
-use inst::record::wide;
+use words::numbers::wide;
 use worth::look::replays;
 ghost use mathlib.Core.Path.{_≡_};
 ghost use mathlib.Core.Bool.{_||_};

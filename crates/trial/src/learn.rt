@@ -1,6 +1,7 @@
 // The facts along the chain (01, "The legal set"), a record a position in the lent list, and a copy of the words of the registers in
 // use, last writers and flags, which the set is found by while the 64-bit slice takes its stamps.
 use analyse::along::analyse;
+use analyse::look::LEFT;
 use chains::chain::Chain;
 use chainwords::sizes::Sizes;
 use chainwords::sizes::at_regs;
@@ -20,7 +21,7 @@ fn copy_regs(work64: &[u64], work32: &mut [u32], a: usize, r: usize)
 {
     let mut i = 0usize;
     while i < r {
-        work32[CHAIN_WORDS + i] = (work64[a + i] % 16384) as u32;
+        work32[CHAIN_WORDS + i] = (work64[a + i] % LEFT) as u32;
         i += 1;
     }
 }

@@ -114,9 +114,6 @@ row-word at r = omega arith
 pub row-place : (at r : ℕ) → (64 * at + r) % 64 ≡ r % 64
 row-place at r = omega arith
 
-pub first-row : (r : ℕ) → 64 * 0 + r ≡ r
-first-row r = omega arith
-
 pub digit-row : (ws : List ℕ) (at n r : ℕ) → r < 64 * n → digit-in (take n (drop at ws)) r ≡ digit-in ws (64 * at + r)
 unfolding digit-in
 digit-row ws at n r h =

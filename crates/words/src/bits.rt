@@ -2,9 +2,8 @@
 // the row's end is not in it, and cannot be put in.
 //
 // The rows of several blocks lie in one slice, a block's row from word `at` on. Bit r of that row is bit 64 * at + r of the
-// slice, so `bit_in`, `set_in` and `unset_in` keep the definitions of the plain functions, and every law holds for them too.
-// A caller of `set_in` needs no proof file for it; lending `&mut words[a..e]` to `set` leaves the caller the part's start, end and
-// sizes to show, and the whole to put together again.
+// slice, so the definitions speak of one row, and every law holds for each. A caller of `set_in` needs no proof file for it; a part
+// lent as `&mut words[a..e]` leaves the caller its start, end and sizes to show, and the whole to put together again.
 ghost use mathlib.Core.Path.{_≡_};
 ghost use Prim.Native.Nat.{_+_, _*_, _^_, _≤_};
 ghost use lib.ListN.{length, replicate};
@@ -44,27 +43,6 @@ pub fn unset_in(words: &mut [u64], at: usize, r: usize)
         return;
     }
     words[i] = words[i] & !(1 << (r % 64));
-}
-
-// Is r in the row?
-pub fn bit(row: &[u64], r: usize) -> bool
-    ensures { λ x. ⌜ x ≡ is-in (now (row .entry)) r ⌝ }
-{
-    bit_in(row, 0, r)
-}
-
-// Puts r into the row.
-pub fn set(row: &mut [u64], r: usize)
-    ensures { λ _. ⌜ now (row .exit) ≡ set-bit (now (row .entry)) r ⌝ }
-{
-    set_in(row, 0, r);
-}
-
-// Takes r out of the row.
-pub fn unset(row: &mut [u64], r: usize)
-    ensures { λ _. ⌜ now (row .exit) ≡ unset-bit (now (row .entry)) r ⌝ }
-{
-    unset_in(row, 0, r);
 }
 
 // Takes everything out of the row.

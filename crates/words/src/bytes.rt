@@ -1,4 +1,5 @@
 // 32-bit words in lent bytes, little-endian.
+use crate::numbers::byte;
 ghost use mathlib.Core.Path.{_≡_};
 ghost use mathlib.Core.List.{[], _∷_};
 ghost use Prim.Native.Nat.{_+_, _*_, _<_, _≤_};
@@ -6,21 +7,15 @@ ghost use lib.ListN.{length, take, drop};
 ghost use lib.Seq.{sets};
 ghost use Rattle.words.specs.Bytes.{word, words-of, bytes-of};
 
-fn wide(x: u8) -> u32
-    ensures { λ r. ⌜ (r ≡ x) × (r < 256) ⌝ }
-{
-    x as u32
-}
-
 // The word whose four bytes begin at `at`.
 pub fn word_at(bytes: &[u8], at: usize) -> u32
     requires { ⌜ at + 4 ≤ length (now bytes) ⌝ }
     ensures { λ w. ⌜ w ≡ word (now (bytes .entry)) at ⌝ }
 {
-    wide(bytes[at])
-        + 256 * wide(bytes[at + 1])
-        + 65536 * wide(bytes[at + 2])
-        + 16777216 * wide(bytes[at + 3])
+    byte(bytes[at])
+        + 256 * byte(bytes[at + 1])
+        + 65536 * byte(bytes[at + 2])
+        + 16777216 * byte(bytes[at + 3])
 }
 
 // The four bytes from `at` on become those of w.

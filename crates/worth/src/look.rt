@@ -3,8 +3,8 @@
 use chains::chain::Chain;
 use chains::pass::Sink;
 use chains::places::chain_len;
-use inst::record::wide;
 use picture::gates::plain_cat;
+use words::numbers::wide;
 ghost use mathlib.Core.Path.{_≡_};
 ghost use mathlib.Core.Bool.{_||_};
 ghost use mathlib.Core.List.{map};

@@ -8,8 +8,8 @@ use borrow.Author.Needs.{needs}
 use Rattle.analyse.proofs.marks.mark.Statement.{statement}
 use Rattle.analyse.proofs.marks.mark.Tie as tie
 
-at-requires : tie.Need-at-requires
-at-requires c κs = search needs
+wide-requires : tie.Need-wide-requires
+wide-requires c κs = search needs
 
 mul-regs : tie.Need-mul-regs
 mul-regs c = search needs
@@ -18,7 +18,7 @@ mul-regs-2 : tie.Need-mul-regs-2
 mul-regs-2 c = search needs
 
 slice-read-regs : tie.Need-slice-read-regs
-slice-read-regs c = ⊎-elim (λ e. absurd (c .before .before .if1 .taken e)) (λ h. omega (arith, c .before .at .ensures)) (c .before .before .before .before .pre .1)
+slice-read-regs c = ⊎-elim (λ e. absurd (c .before .before .if1 .taken e)) (λ h. omega (arith, c .before .wide .ensures)) (c .before .before .before .before .pre .1)
 
 add-regs : tie.Need-add-regs
 add-regs c = search needs
@@ -27,14 +27,14 @@ mul-regs-3 : tie.Need-mul-regs-3
 mul-regs-3 c = search needs
 
 slice-write-regs : tie.Need-slice-write-regs
-slice-write-regs c = ⊎-elim (λ e. absurd (c .before .before .if1 .taken e)) (λ h. omega (arith, c .before .at .ensures)) (c .before .before .before .before .pre .1)
+slice-write-regs c = ⊎-elim (λ e. absurd (c .before .before .if1 .taken e)) (λ h. omega (arith, c .before .wide .ensures)) (c .before .before .before .before .pre .1)
 
 same-length : tie.Need-same-length
 same-length c = search needs
 
 returns : tie.Need-returns
 unfolding put-in marked
-returns c = simp (ne-eqb _ _ (c .before .before .if1 .taken), c .before .at .ensures)
+returns c = simp (ne-eqb _ _ (c .before .before .if1 .taken), c .before .wide .ensures)
 
 returns-2 : tie.Need-returns-2
 unfolding put-in
@@ -44,7 +44,7 @@ pub mark-spec : {M : Type 1} → statement M
 mark-spec =
     tie.close
     (tie.spec
-    at-requires
+    wide-requires
     mul-regs
     mul-regs-2
     slice-read-regs

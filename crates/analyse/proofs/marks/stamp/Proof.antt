@@ -1,5 +1,6 @@
 -- `analyse::marks::stamp` meets its contract. Assumes nothing.
 use native.Mathlib.Omega.{arith}
+use Rattle.effects.specs.Origin.{num}
 use Rattle.analyse.specs.Step.{stamp}
 use borrow.Author.Needs.{needs}
 use Rattle.analyse.proofs.marks.stamp.Statement.{statement}
@@ -36,7 +37,7 @@ cast-result : tie.Need-cast-result
 cast-result c = search needs
 
 returns : tie.Need-returns
-unfolding stamp
+unfolding stamp num
 returns c = (omega (arith, c .before .one .ensures .0, c .one2 .ensures .0), omega (arith, c .before .one .ensures .1, c .one2 .ensures .1, c .before .before .pre .0, c .before .before .pre .1))
 
 pub stamp-spec : {M : Type 1} → statement M

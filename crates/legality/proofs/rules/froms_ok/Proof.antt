@@ -13,7 +13,7 @@ use Rattle.legality.proofs.rules.froms_ok.Tie as tie
 use Rattle.legality.proofs.rules.froms_ok.Reads as reads
 use Rattle.legality.proofs.rules.froms_ok.Lts as lts
 use Rattle.inst.proofs.access.list.Reads as list-reads
-use Rattle.inst.proofs.record.wide.Reads as wide-reads
+use Rattle.words.proofs.numbers.wide.Reads as wide-reads
 use Rattle.inst.proofs.record.word.Reads as word-reads
 use Rattle.legality.proofs.rules.org_ok.Reads as org-ok-reads
 use Rattle.legality.proofs.rules.pieces_ok.Reads as pieces-ok-reads

@@ -9,7 +9,7 @@ use Rattle.legality.proofs.rules.rule1.Tie as tie
 use Rattle.legality.proofs.rules.rule1.Reads as reads
 use Rattle.legality.proofs.rules.rule1.Lts as lts
 use Rattle.inst.proofs.access.uses.Reads as uses-reads
-use Rattle.inst.proofs.record.wide.Reads as wide-reads
+use Rattle.words.proofs.numbers.wide.Reads as wide-reads
 use Rattle.legality.proofs.rules.free.Reads as free-reads
 use Rattle.legality.proofs.rules.free_slots.Reads as free-slots-reads
 

@@ -7,7 +7,7 @@ use Rattle.legality.proofs.rules.rule2.Tie as tie
 use Rattle.legality.proofs.rules.rule2.Reads as reads
 use Rattle.legality.proofs.rules.rule2.Lts as lts
 use Rattle.inst.proofs.access.uses.Reads as uses-reads
-use Rattle.inst.proofs.record.wide.Reads as wide-reads
+use Rattle.words.proofs.numbers.wide.Reads as wide-reads
 use Rattle.legality.proofs.rules.unneeded.Reads as unneeded-reads
 use Rattle.legality.proofs.rules.unneeded_slots.Reads as unneeded-slots-reads
 

@@ -9,7 +9,7 @@ use Rattle.legality.proofs.rules.rule3.Tie as tie
 use Rattle.legality.proofs.rules.rule3.Reads as reads
 use Rattle.legality.proofs.rules.rule3.Lts as lts
 use Rattle.inst.proofs.access.uses.Reads as uses-reads
-use Rattle.inst.proofs.record.wide.Reads as wide-reads
+use Rattle.words.proofs.numbers.wide.Reads as wide-reads
 use Rattle.legality.proofs.rules.places_ok.Reads as places-ok-reads
 use Rattle.legality.proofs.rules.read_ok.Reads as read-ok-reads
 

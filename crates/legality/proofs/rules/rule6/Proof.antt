@@ -5,7 +5,7 @@ use Rattle.legality.proofs.rules.rule6.Statement.{statement}
 use Rattle.legality.proofs.rules.rule6.Tie as tie
 use Rattle.legality.proofs.rules.rule6.Reads as reads
 use Rattle.legality.proofs.rules.rule6.Lts as lts
-use Rattle.inst.proofs.record.wide.Reads as wide-reads
+use Rattle.words.proofs.numbers.wide.Reads as wide-reads
 
 wide-requires : tie.Need-wide-requires
 wide-requires c κs = search needs

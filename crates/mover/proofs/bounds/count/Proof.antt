@@ -4,9 +4,8 @@ use native.Mathlib.Omega.{arith}
 use Prim.Native.Nat.{_-_, _≤_, _+_}
 use mathlib.Core.Path.{_≡_, sym, ap, _∙_}
 use lib.ListN.{length}
-use Rattle.words.specs.Lists.{upto, filter}
+use Rattle.words.specs.Lists.{upto, filter, hit}
 use Rattle.mover.specs.Order.{goes}
-use mathlib.Core.Bool.{cond}
 use Rattle.mover.proofs.Cells.{counted}
 use native.Mathlib.Nat.{le-antisymm}
 use Rattle.mover.proofs.bounds.count.Statement.{statement}
@@ -46,7 +45,7 @@ loop-less : tie.Need-loop-less Inv-loop μ-loop
 loop-less c = search needs
 
 loop-again : tie.Need-loop-again Inv-loop μ-loop
-loop-again c = let i = c .before .before .before .loop .inv in (omega arith, ap (λ x. c .before .before .before .loop .n + x) (c .one .ensures .0) ∙ ap (λ x. x + cond (goes (c .before .before .before .before .before .args .chain .now) (c .before .before .before .loop .p)) 1 0) (i .1) ∙ sym (counted (goes (c .before .before .before .before .before .args .chain .now)) (c .before .before .before .loop .p)), omega (arith, c .one .ensures .1))
+loop-again c = let i = c .before .before .before .loop .inv in (omega arith, ap (λ x. c .before .before .before .loop .n + x) (c .one .ensures .0) ∙ ap (λ x. x + hit (goes (c .before .before .before .before .before .args .chain .now) (c .before .before .before .loop .p))) (i .1) ∙ sym (counted (goes (c .before .before .before .before .before .args .chain .now)) (c .before .before .before .loop .p)), omega (arith, c .one .ensures .1))
 
 returns : tie.Need-returns Inv-loop μ-loop
 returns c = c .before .loop .inv .1 ∙ ap (λ x. length (filter (goes (c .before .before .before .args .chain .now)) (upto x))) (le-antisymm (c .before .loop .inv .0) (c .loop-test .left))

@@ -199,7 +199,7 @@ module _ {M : Type 1} (𝓤 : URA M) (H : Heap 𝓤) (A : Atoms 𝓤) (W : Given
     zero-args = []
 
     abbrev Zero-says : Tally → Lasts 𝓤 H A zero-args → Type 0
-    Zero-says r y = r .count ≡ 0
+    Zero-says r y = (r .keep ≡ false) × (r .count ≡ 0)
 
     zero-call : ent 𝓤 (⋆ 𝓤 H A (G.hads 𝓤 H A zero-args)) (H .⇛ (C #plan·zero (G.flat 𝓤 H A zero-args) (G.Then 𝓤 H A W zero-args B.the-row Zero-says)))
     zero-call = calls-of 𝓤 H A W C fm #plan·zero (Zeros 𝓤 H A mem run) known-zero zero-args (λ g. ((G.lfts 𝓤 H A zero-args g, G.shares 𝓤 H A zero-args, tt, G.values 𝓤 H A zero-args g, G.machs 𝓤 H A zero-args), tt)) (λ g. refl)
@@ -380,7 +380,7 @@ module _ {M : Type 1} (𝓤 : URA M) (H : Heap 𝓤) (A : Atoms 𝓤) (W : Given
           calls-with zero-args B.the-row Zero-says fm zero-call ! (no-more !) (λ w r a.
           land ! (from ! (stop !)) (init ! 28 refl (LL.lawful B.the-type B′.the-laws 𝓤 H A W .typed (r .0) (w ∷ []) (a .0) .0)) $ rewrite ! 28 (λ (v : Val). ‵ (fat fullShare B′.mir (l 9) 0 v)) (ap only (LL.tells B.the-type B′.the-laws (r .0) (w ∷ []) (a .0))) refl $
           assigns ! (of-opd ! (load ! (from ! (stop !)) (look ! 30 refl))) (from ! (stop !)) (init ! 26 refl (LL.lawful K.the-type K′.the-laws 𝓤 H A W .typed z _ z-is .0)) $
-          move ! (48 ∷ 49 ∷ 50 ∷ 51 ∷ 52 ∷ 53 ∷ 54 ∷ []) $ cut (Held ws₀ js₀ fs₀ ++ cells 𝓤 H En (room ∷ filled (given ++ (B′.lowered (r .0) ∷ K′.lowered z ∷ [])))) (Held ws₀ js₀ fs₀ ++ cells 𝓤 H En (room ∷ filled (given ++ (B′.lowered (r .0) ∷ K′.lowered z ∷ [])))) [] (id⊢ 𝓤 _) $ by ! (loops (r .0) (tally-is (r .0) w (a .0)) (a .1 .0)))
+          move ! (48 ∷ 49 ∷ 50 ∷ 51 ∷ 52 ∷ 53 ∷ 54 ∷ []) $ cut (Held ws₀ js₀ fs₀ ++ cells 𝓤 H En (room ∷ filled (given ++ (B′.lowered (r .0) ∷ K′.lowered z ∷ [])))) (Held ws₀ js₀ fs₀ ++ cells 𝓤 H En (room ∷ filled (given ++ (B′.lowered (r .0) ∷ K′.lowered z ∷ [])))) [] (id⊢ 𝓤 _) $ by ! (loops (r .0) (tally-is (r .0) w (a .0)) (a .1 .0 .1)))
 
     -- the arguments are of their locals' types
     typed : (homes : Homes (code.function .locals)) → TypedIn 𝓤 H (envOf 𝓤 H (code.function .locals) homes) given

@@ -11,7 +11,7 @@ use Rattle.probe.proofs.attempt.seek.Tie as tie
 use Rattle.probe.proofs.attempt.seek.Reads as reads
 use Rattle.probe.proofs.attempt.seek.Lts as lts
 use Rattle.flow.proofs.live.live_in.Reads as live-in-reads
-use Rattle.inst.proofs.record.wide.Reads as wide-reads
+use Rattle.words.proofs.numbers.wide.Reads as wide-reads
 use Rattle.search.proofs.begin.begin.Reads as begin-reads
 use Rattle.search.proofs.find.look_from.Reads as look-from-reads
 use Rattle.chainwords.proofs.sizes.width.Reads as width-reads

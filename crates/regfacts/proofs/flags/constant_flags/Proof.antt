@@ -2,6 +2,7 @@
 use mathlib.Core.Path.{ap, sym}
 use mir.Facts.{toZ-ofZ}
 use mir.Syntax.{w64}
+use Rattle.effects.specs.Origin.{num}
 use Rattle.regfacts.specs.Flags.{flags-in}
 use borrow.Author.Needs.{needs}
 use Rattle.regfacts.proofs.flags.constant_flags.Statement.{statement}
@@ -16,8 +17,8 @@ is-small-requires c κs = search needs
 one-requires : tie.Need-one-requires
 one-requires c κs = search needs
 
-mul-result : tie.Need-mul-result
-mul-result c = search needs
+mul-long : tie.Need-mul-long
+mul-long c = search needs
 
 is-positive-requires : tie.Need-is-positive-requires
 is-positive-requires c κs = search needs
@@ -25,11 +26,14 @@ is-positive-requires c κs = search needs
 one-requires-2 : tie.Need-one-requires-2
 one-requires-2 c κs = search needs
 
-mul-result-2 : tie.Need-mul-result-2
-mul-result-2 c = search needs
+mul-long-2 : tie.Need-mul-long-2
+mul-long-2 c = search needs
 
-add-result : tie.Need-add-result
-add-result c = search needs
+add-long : tie.Need-add-long
+add-long c = search needs
+
+long-requires : tie.Need-long-requires
+long-requires c κs = search needs
 
 enum-told : tie.Need-enum-told
 enum-told c = search needs
@@ -41,8 +45,8 @@ enum-told-3 : tie.Need-enum-told-3
 enum-told-3 c = search needs
 
 returns : tie.Need-returns
-unfolding flags-in
-returns c = rw (c .before .before .one .ensures .0, c .one2 .ensures .0, c .before .before .before .is-small .ensures, c .before .is-positive .ensures, toZ-ofZ {w = w64} (record { sfits = c .before .before .before .before .known-told .given .0 .1 })) (sym (ap flags-in (c .before .before .before .before .before .c .given .1)))
+unfolding flags-in num
+returns c = rw (c .long .ensures, c .before .before .before .one .ensures .0, c .before .one2 .ensures .0, c .before .before .before .before .is-small .ensures, c .before .before .is-positive .ensures, toZ-ofZ {w = w64} (record { sfits = c .before .before .before .before .before .known-told .given .0 .1 })) (sym (ap flags-in (c .before .before .before .before .before .before .c .given .1)))
 
 returns-2 : tie.Need-returns-2
 unfolding flags-in
@@ -63,11 +67,12 @@ constant-flags-spec =
     enum-known-c
     is-small-requires
     one-requires
-    mul-result
+    mul-long
     is-positive-requires
     one-requires-2
-    mul-result-2
-    add-result
+    mul-long-2
+    add-long
+    long-requires
     enum-told
     enum-told-2
     enum-told-3

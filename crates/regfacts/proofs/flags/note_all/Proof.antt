@@ -14,8 +14,8 @@ Inv-loop recs regs₀ p uses n s₀ regs s = Writing (noted p) recs p s regs₀ 
 abbrev μ-loop : tie.MeasureT-loop
 μ-loop recs regs₀ p uses n s₀ regs s = 5 - s
 
-long-requires : tie.Need-long-requires Inv-loop μ-loop
-long-requires c κs = search needs
+full-requires : tie.Need-full-requires Inv-loop μ-loop
+full-requires c κs = search needs
 
 loop-holds : tie.Need-loop-holds Inv-loop μ-loop
 loop-holds c = writing-none _ _ _ _
@@ -24,7 +24,7 @@ write-at-requires : tie.Need-write-at-requires Inv-loop μ-loop
 write-at-requires c κs = (c .before .before .before .before .before .before .pre .0, c .before .loop-test .taken)
 
 note-requires : tie.Need-note-requires Inv-loop μ-loop
-note-requires c κs = (omega (arith, c .before .before .before .before .long .ensures, c .before .before .before .before .before .before .before .pre .1), rw (c .write-at .ensures, c .before .before .before .loop .inv .size) (c .before .before .before .before .before .before .before .pre .2 .slot _ (c .before .before .loop-test .taken)))
+note-requires c κs = (omega (arith, c .before .before .before .before .full .ensures, c .before .before .before .before .before .before .before .pre .1), rw (c .write-at .ensures, c .before .before .before .loop .inv .size) (c .before .before .before .before .before .before .before .pre .2 .slot _ (c .before .before .loop-test .taken)))
 
 add-s : tie.Need-add-s Inv-loop μ-loop
 add-s c = search needs
@@ -33,7 +33,7 @@ loop-less : tie.Need-loop-less Inv-loop μ-loop
 loop-less c = search needs
 
 loop-again : tie.Need-loop-again Inv-loop μ-loop
-loop-again c = writing-more _ (λ v. noted-twice _ v (c .before .before .before .before .before .before .before .before .before .before .pre .1)) _ _ _ _ _ (c .before .before .before .before .before .loop-test .taken) (c .before .before .before .before .before .before .before .before .before .before .pre .2) (c .before .before .before .before .before .before .loop .inv) _ (c .before .before .before .write-at .ensures) (rw (c .before .before .before .before .before .before .before .long .ensures) at (c .before .before .note .ensures))
+loop-again c = writing-more _ (λ v. noted-twice _ v (c .before .before .before .before .before .before .before .before .before .before .pre .1)) _ _ _ _ _ (c .before .before .before .before .before .loop-test .taken) (c .before .before .before .before .before .before .before .before .before .before .pre .2) (c .before .before .before .before .before .before .loop .inv) _ (c .before .before .before .write-at .ensures) (rw (c .before .before .before .before .before .before .before .full .ensures) at (c .before .before .note .ensures))
 
 same-length : tie.Need-same-length Inv-loop μ-loop
 same-length c = c .before .loop .inv .size
@@ -47,7 +47,7 @@ note-all-spec =
     (tie.spec
     Inv-loop
     μ-loop
-    long-requires
+    full-requires
     loop-holds
     write-at-requires
     note-requires

@@ -26,11 +26,11 @@ returns c = c .before .before .note-all .ensures
 write-at-requires : tie.Need-write-at-requires
 write-at-requires c κs = (record { within = c .before .before .before .before .before .before .pre .2 .whole .within; uses = c .before .before .before .uses .ensures }, omega arith)
 
-long-requires : tie.Need-long-requires
-long-requires c κs = search needs
+full-requires : tie.Need-full-requires
+full-requires c κs = search needs
 
 note-requires : tie.Need-note-requires
-note-requires c κs = (omega (arith, c .long .ensures, c .before .before .before .before .before .before .before .before .pre .1), rw (c .before .write-at .ensures) (c .before .before .before .before .before .before .before .before .pre .2 .slot 0 (omega arith)))
+note-requires c κs = (omega (arith, c .full .ensures, c .before .before .before .before .before .before .before .before .pre .1), rw (c .before .write-at .ensures) (c .before .before .before .before .before .before .before .before .pre .2 .slot 0 (omega arith)))
 
 same-length-2 : tie.Need-same-length-2
 same-length-2 c = c .before .before .note .kept .0
@@ -41,7 +41,7 @@ returns-2 c =
     (one-write _ _ _ (record { within = c .before .before .before .before .before .before .before .before .before .before .before .pre .2 .whole .within; uses = c .before .before .before .before .before .before .before .before .uses .ensures }) (sym (c .before .before .before .before .before .before .before .later .ensures) ∙ c .before .before .before .before .before .before .if1 .left) _ (c .before .before .before .before .write-at .ensures))
     (rw (c .before .before .before .before .write-at .ensures) (c .before .before .before .before .before .before .before .before .before .before .before .pre .2 .slot 0 (omega arith)))
     (c .before .before .before .before .before .before .before .before .before .before .before .pre .2 .room)
-    (rw (c .before .before .before .long .ensures) at (c .before .before .note .ensures))
+    (rw (c .before .before .before .full .ensures) at (c .before .before .note .ensures))
 
 pub note-record-spec : {M : Type 1} → statement M
 note-record-spec =
@@ -53,7 +53,7 @@ note-record-spec =
     same-length
     returns
     write-at-requires
-    long-requires
+    full-requires
     note-requires
     same-length-2
     returns-2)

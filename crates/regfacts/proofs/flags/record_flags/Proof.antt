@@ -2,6 +2,7 @@
 use mathlib.Core.Path.{_∙_, ap}
 use denote.Ref.{now}
 use Rattle.model.specs.Picture.{inst}
+use Rattle.effects.specs.Origin.{num}
 use Rattle.regfacts.specs.Flags.{flags-in}
 use Rattle.regfacts.proofs.Turned.{address-flags, constant-flags}
 use borrow.Author.Needs.{needs}
@@ -20,14 +21,19 @@ one-requires c κs = search needs
 one-requires-2 : tie.Need-one-requires-2
 one-requires-2 c κs = search needs
 
-mul-result : tie.Need-mul-result
-mul-result c = search needs
+mul-long : tie.Need-mul-long
+mul-long c = search needs
 
-add-result : tie.Need-add-result
-add-result c = search needs
+add-long : tie.Need-add-long
+add-long c = search needs
+
+long-requires : tie.Need-long-requires
+long-requires c κs = search needs
 
 returns : tie.Need-returns
-returns c = address-flags (inst (now (c .before .before .before .before .before .before .args .recs)) (c .before .before .before .before .before .before .args .q)) (c .before .before .before .before .kind .ensures) (c .before .before .before .if1 .taken) (c .before .before .form .ensures) (c .before .one .ensures .0) (c .one2 .ensures .0)
+unfolding num
+returns c = let at-one = c .before .before in
+    c .long .ensures ∙ address-flags (inst (now (at-one .before .before .before .before .before .args .recs)) (at-one .before .before .before .before .before .args .q)) (at-one .before .before .before .kind .ensures) (at-one .before .before .if1 .taken) (at-one .before .form .ensures) (at-one .one .ensures .0) (c .before .one2 .ensures .0)
 
 decode-requires : tie.Need-decode-requires
 decode-requires c κs = search needs
@@ -46,8 +52,9 @@ record-flags-spec =
     form-requires
     one-requires
     one-requires-2
-    mul-result
-    add-result
+    mul-long
+    add-long
+    long-requires
     returns
     decode-requires
     constant-flags-requires

@@ -5,7 +5,7 @@ use Rattle.summary.proofs.notes.note_all.Statement.{statement}
 use Rattle.summary.proofs.notes.note_all.Tie as tie
 use Rattle.summary.proofs.notes.note_all.Reads as reads
 use Rattle.summary.proofs.notes.note_all.Lts as lts
-use Rattle.inst.proofs.record.wide.Reads as wide-reads
+use Rattle.words.proofs.numbers.wide.Reads as wide-reads
 use Rattle.summary.proofs.notes.note.Reads as note-reads
 use Rattle.summary.proofs.notes.note_where.Reads as note-where-reads
 

@@ -8,7 +8,7 @@ use Rattle.summary.proofs.stamps.put_reads.Tie as tie
 use Rattle.summary.proofs.stamps.put_reads.Reads as reads
 use Rattle.summary.proofs.stamps.put_reads.Lts as lts
 use Rattle.inst.proofs.access.uses.Reads as uses-reads
-use Rattle.inst.proofs.record.wide.Reads as wide-reads
+use Rattle.words.proofs.numbers.wide.Reads as wide-reads
 use Rattle.summary.proofs.stamps.put.Reads as put-reads
 use Rattle.summary.proofs.stamps.put_places.Reads as put-places-reads
 

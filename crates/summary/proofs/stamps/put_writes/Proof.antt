@@ -7,7 +7,7 @@ use Rattle.summary.proofs.stamps.put_writes.Tie as tie
 use Rattle.summary.proofs.stamps.put_writes.Reads as reads
 use Rattle.summary.proofs.stamps.put_writes.Lts as lts
 use Rattle.inst.proofs.access.uses.Reads as uses-reads
-use Rattle.inst.proofs.record.wide.Reads as wide-reads
+use Rattle.words.proofs.numbers.wide.Reads as wide-reads
 use Rattle.summary.proofs.stamps.put.Reads as put-reads
 use Rattle.summary.proofs.stamps.put_slots.Reads as put-slots-reads
 

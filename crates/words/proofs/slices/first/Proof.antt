@@ -1,9 +1,9 @@
--- `checks::lists::first` meets its contract. Assumes nothing.
+-- `slices::first` meets its contract. Assumes nothing.
 use mathlib.Core.Path.{sym}
 use lib.Seq.{length-take-le}
 use borrow.Author.Needs.{needs}
-use Rattle.checks.proofs.lists.first.Statement.{statement}
-use Rattle.checks.proofs.lists.first.Tie as tie
+use Rattle.words.proofs.slices.first.Statement.{statement}
+use Rattle.words.proofs.slices.first.Tie as tie
 
 slice-aggregate-result : tie.Need-slice-aggregate-result
 slice-aggregate-result c = sym (length-take-le _ _ (c .before .pre))
