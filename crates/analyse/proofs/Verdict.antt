@@ -8,22 +8,25 @@ use Prim.Native.Nat.{ℕ, zero, suc, _≤_, _<_}
 use native.Mathlib.Nat.{le-of-suc-le-suc, lt-of-not-le}
 use native.Mathlib.Decide.{decLt}
 use native.Mathlib.Omega.{arith}
-use borrow.Author.Tests.{ne-eqb}
+use borrow.Author.Tests.{eq-eqb, ne-eqb}
 use lib.Dec.{eqb}
 use lib.ListN.{getD, length, drop, List·getD-eq-default}
 use Rattle.model.specs.Kinds.{row, cat}
 use Rattle.model.specs.Picture.{Inst, inst, absent, reads, kind}
 use Rattle.model.specs.Analyse as M
-use Rattle.model.specs.Analyse.{Facts, Fact, Org, Unknown, Read, unread, last-writer, org-of, len-of, is-layout, when-some, known-of, positive, arm, pieces, placed, movable, sized, fact}
+use Rattle.model.specs.Analyse.{Facts, Fact, Org, Unknown, Read, unread, last-writer, org-of, len-of, is-layout, when-some, known-of, positive, arm, pieces, placed, movable, sized, small, whole, fact}
 use Rattle.inst.specs.Table.{packed, arm-at}
 use Rattle.inst.specs.Table as T
 use Rattle.inst.specs.declared.access.Firsts.{Firsts}
 use Rattle.inst.specs.Firsts.{Heads}
-use Rattle.inst.proofs.Rows.{arm-is, arm-back, quiet-is}
+use Rattle.inst.specs.Constant.{constant-of}
+use Rattle.inst.proofs.Rows.{arm-is, arm-back, quiet-is, first-arm}
+use Rattle.inst.proofs.Constants.{whole-constant}
 use Rattle.effects.specs.Origin.{org-at, class-at, wrote-at, from-at}
 use Rattle.effects.specs.Arms.{does, three, three-tests, asked, Right, leads}
 use Rattle.effects.specs.declared.arms.Effect.{Effect}
 use Rattle.effects.specs.declared.arms.Input.{Input}
+use Rattle.regfacts.specs.Flags.{is-length}
 use Rattle.analyse.specs.State.{org-reg, len-reg, Reg?, Below, Readable, Asked, Low, Judged, fill-in}
 use Rattle.analyse.proofs.Alike.{arm-ext}
 use Rattle.analyse.proofs.Layouts.{after-fact}
@@ -106,6 +109,11 @@ from-self (suc n) ps X e = go (eqb (suc n) 4294967295) e
     go true e = refl
     go false e = e
 
+-- of a record of the first arm, a Const, the constant is its whole number
+first-length : (i : Inst) → T.arm (packed (kind i)) ≡ 0 → small (whole i) ≡ is-length (constant-of i)
+unfolding is-length
+first-length i z = sym (ap is-length (whole-constant i (eq-eqb (getD i 0 0) 0 (first-arm (getD i 0 0) z))))
+
 module _ (G : Facts) (past : List Fact) (ops : List ℕ) (R : ℕ) (i : Inst) (x : Input) (small-R : R ≤ 65536) (rd : (k : ℕ) → k < length (reads ops i) → getD (reads ops i) k absent < R) (q : Asked G past ops i x) where
   us : List Read
   us = map (λ r. record { reg = r; writer = last-writer 0 past r }) (reads ops i)
@@ -141,7 +149,7 @@ module _ (G : Facts) (past : List Fact) (ops : List ℕ) (R : ℕ) (i : Inst) (x
     stands : does r (pieces (getD i 9 0) (drop 3 (map (org-of G past) us))) ≡ effect
     unfolding asked three three-tests us effect
     stands =
-        t .right i (drop 3 (map (org-of G past) us)) (q .form) (q .list) (q .small)
+        t .right i (drop 3 (map (org-of G past) us)) (q .form) (q .list) (λ z. first-length i z ∙ q .small)
         ∙ ap (arm i (x .p) (x .divisor) (three (x .o0) (x .o1) (x .o2)) (three-tests (x .l0) (x .l1) (x .l2)) (λ k. x .layout) (drop 3 (map (org-of G past) us))) (arm-back (getD i 0 0))
         ∙ arm-ext i (x .p) (drop 3 (map (org-of G past) us)) (x .divisor) (when-some positive (known-of G (getD us 1 unread .reg) .konst))
         (three (x .o0) (x .o1) (x .o2)) (λ k. getD (map (org-of G past) us) k Unknown) (three-tests (x .l0) (x .l1) (x .l2)) (λ k. getD (map (len-of G past) us) k false) (λ k. x .layout) (is-layout past)

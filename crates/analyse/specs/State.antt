@@ -10,14 +10,15 @@ use lib.Dec.{eqb}
 use lib.ListN.{getD, length, drop}
 use Rattle.model.specs.Kinds.{row, cat}
 use Rattle.model.specs.Picture.{Inst, inst, absent, kind, reads, list-of}
-use Rattle.model.specs.Analyse.{Facts, Fact, Org, Unknown, no-fact, last-writer, org-of, len-of, is-layout, when-some, known-of, positive, small, whole, sized}
+use Rattle.model.specs.Analyse.{Facts, Fact, Org, Unknown, no-fact, last-writer, org-of, len-of, is-layout, when-some, known-of, positive, sized}
 use Rattle.inst.specs.Record as I
 use Rattle.inst.specs.Record.{Listed}
+use Rattle.inst.specs.Constant.{constant-of}
 use Rattle.inst.specs.declared.access.Firsts.{Firsts}
 use Rattle.effects.specs.Origin.{org-at, class-at, wrote-at, from-at, num}
 use Rattle.effects.specs.declared.arms.Input.{Input}
 use Rattle.effects.specs.declared.arms.Effect.{Effect}
-use Rattle.regfacts.specs.Flags.{Seen}
+use Rattle.regfacts.specs.Flags.{Seen, is-length}
 use Rattle.analyse.specs.declared.look.Value.{Value}
 
 -- ---- a position's words
@@ -134,7 +135,7 @@ pub record Readable (recs ops : List ℕ) (R g : ℕ) : Type 0 where
 pub record Asked (G : Facts) (past : List Fact) (ops : List ℕ) (i : Inst) (x : Input) : Type 0 where
   pub form : getD i 1 0 ≡ x .form
   pub list : getD i 8 0 ≡ x .list
-  pub small : small (whole i) ≡ x .small
+  pub small : is-length (constant-of i) ≡ x .small
   pub p : x .p ≡ length past
   pub o0 : org-at (x .o0) ≡ org-reg G past (getD (reads ops i) 0 absent)
   pub o1 : org-at (x .o1) ≡ org-reg G past (getD (reads ops i) 1 absent)

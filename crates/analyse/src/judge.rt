@@ -4,34 +4,36 @@ use crate::look::value_of;
 use effects::arms::Effect;
 use effects::arms::Input;
 use inst::access::Firsts;
-use inst::constant::bits;
-use inst::constant::signed;
+use inst::constant::decode;
+use inst::kinds::CALL_NATIVE;
 use inst::record::form;
 use inst::record::kind;
 use inst::record::word;
 use inst::table::arm;
 use inst::table::quiet;
-use regfacts::flags::is_small;
+use regfacts::flags::is_length;
 ghost use mathlib.Core.Path.{_≡_};
 ghost use mathlib.Core.Bool.{_||_};
 ghost use mathlib.Core.List.{List};
 ghost use Prim.Native.Nat.{ℕ, _≤_};
 ghost use lib.ListN.{length};
 ghost use Rattle.model.specs.Picture.{inst, kind, reads, writes};
-ghost use Rattle.model.specs.Analyse.{Facts, Fact, fact, movable, small, whole};
+ghost use Rattle.model.specs.Analyse.{Facts, Fact, fact, movable};
 ghost use Rattle.inst.specs.Table.{packed};
 ghost use Rattle.inst.specs.Record.{Within, Known};
 ghost use Rattle.inst.specs.Firsts.{Heads};
+ghost use Rattle.inst.specs.Constant.{constant-of};
 ghost use Rattle.effects.specs.Origin.{class-at, wrote-at};
 ghost use Rattle.effects.specs.Arms.{Small};
+ghost use Rattle.regfacts.specs.Flags.{is-length};
 ghost use Rattle.analyse.specs.State.{Marked, Ranged, Below, Readable, Asked, fill-in, Low, Judged};
 
-// Is record g's constant a length?
+// Does record g hold a constant that is a length?
 fn holds_length(recs: &[u32], g: usize) -> bool
     requires { ⌜ Within (now recs) g ⌝ }
-    ensures { λ b. ⌜ b ≡ small (whole (inst (now (recs .entry)) g)) ⌝ }
+    ensures { λ b. ⌜ b ≡ is-length (constant-of (inst (now (recs .entry)) g)) ⌝ }
 {
-    is_small(signed(bits(recs, g)))
+    is_length(decode(recs, g))
 }
 
 // What the arm of record g asks, at position p; x has what it reads.
@@ -78,7 +80,7 @@ pub fn judge(recs: &[u32], g: usize, m: u32, y: Input) -> Effect
     ensures { λ e. ⌜ Low (y .p) (inst (now (recs .entry)) g) e × ((ops : List ℕ) (G : Facts) (past : List Fact) (R : ℕ) → R ≤ 65536 → Readable (now (recs .entry)) ops R g → Asked G past ops (inst (now (recs .entry)) g) y → Judged e (fact G ops past (inst (now (recs .entry)) g))) ⌝ }
 {
     let e = effects::arms::arm(arm(m), y);
-    let wrote = placed(e, quiet(m), kind(recs, g) == 58);
+    let wrote = placed(e, quiet(m), kind(recs, g) == CALL_NATIVE);
     Effect {
         class: e.class,
         org: e.org,

@@ -31,14 +31,14 @@ from-one n ps h = ap (λ (x : ℕ). from-at x ps) (add-one n) ∙ ap (λ (b : Bo
 
 -- a rule for each arm, at the number itself
 abbrev At : Effect → ℕ → Input → Type 0
-At r a x = (i : Inst) (list : List Org) → form i ≡ x .form → getD i 8 0 ≡ x .list → small (whole i) ≡ x .small → does r (pieces (getD i 9 0) list) ≡ asked i a x list
+At r a x = (i : Inst) (list : List Org) → form i ≡ x .form → getD i 8 0 ≡ x .list → (a ≡ 0 → small (whole i) ≡ x .small) → does r (pieces (getD i 9 0) list) ≡ asked i a x list
 
 known : {r : Effect} {a n : ℕ} {x : Input} → a ≡ n → r .org < 6 + 2 * x .p → r .wrote ≤ 2004 → (r .from ≤ 2004) ⊎ ((r .from ≡ 4294967295) × (arm-at n ≡ cat)) → At r n x → Right r a x
 known {r} {a} {n} {x} e l w c h = record {
   near = l;
   wrote = w;
   from = subst (λ (m : ℕ). (r .from ≤ 2004) ⊎ ((r .from ≡ 4294967295) × (arm-at m ≡ cat))) (sym e) c;
-  right = λ i list f g s. h i list f g s ∙ ap (λ (m : ℕ). asked i m x list) (sym e);
+  right = λ i list f g s. h i list f g (λ z. s (e ∙ z)) ∙ ap (λ (m : ℕ). asked i m x list) (sym e);
 }
 
 past-arms : (a : ℕ) → 21 ≤ a → arm-at a ≡ other
@@ -54,7 +54,7 @@ module _ (x : Input) (sm : Small x) where
 
   pub arm-0 : {a : ℕ} → a ≡ 0 → Right (effect-of 2 0 (x .small) false false 0 false 0) a x
   unfolding asked does three three-tests class-at effect-of wrote-at from-at org-at
-  arm-0 e = known e (omega (arith, sm .first, sm .place)) (omega (arith, sm .first, sm .place)) (inl (omega (arith, sm .first, sm .place))) (λ i list f g8 s. simp (s))
+  arm-0 e = known e (omega (arith, sm .first, sm .place)) (omega (arith, sm .first, sm .place)) (inl (omega (arith, sm .first, sm .place))) (λ i list f g8 s. simp (s refl))
 
   pub arm-1 : {a : ℕ} → a ≡ 1 → Right (effect-of 2 0 false false false 0 false 0) a x
   unfolding asked does three three-tests class-at effect-of wrote-at from-at org-at

@@ -33,13 +33,13 @@ three-tests a b c k = getD (a ∷ b ∷ c ∷ []) k false
 unfoldable pub asked : Inst → ℕ → Input → List Org → M.Effect
 asked i a x list = arm i (x .p) (x .divisor) (three (x .o0) (x .o1) (x .o2)) (three-tests (x .l0) (x .l1) (x .l2)) (λ k. x .layout) list (arm-at a)
 
--- r is what `analyse` says of an instruction of arm number a; its numbers are small, but for the code of a Cat, and its
--- origin is of a position up to this one
+-- r is what `analyse` says of an instruction of arm number a, where x holds what that asks (of a constant, which is arm 0, whether it
+-- is a length); its numbers are small, but for the code of a Cat, and its origin is of a position up to this one
 pub record Right (r : Effect) (a : ℕ) (x : Input) : Type 0 where
   pub near : r .org < 6 + 2 * x .p
   pub wrote : r .wrote ≤ 2004
   pub from : (r .from ≤ 2004) ⊎ ((r .from ≡ 4294967295) × (arm-at a ≡ cat))
-  pub right : (i : Inst) (list : List Org) → form i ≡ x .form → getD i 8 0 ≡ x .list → small (whole i) ≡ x .small → does r (pieces (getD i 9 0) list) ≡ asked i a x list
+  pub right : (i : Inst) (list : List Org) → form i ≡ x .form → getD i 8 0 ≡ x .list → (a ≡ 0 → small (whole i) ≡ x .small) → does r (pieces (getD i 9 0) list) ≡ asked i a x list
 
 -- the position is small, and origins are of earlier ones
 pub record Small (x : Input) : Type 0 where

@@ -1,14 +1,15 @@
 -- The table's rule: each field of a packed row is what `model`'s Kinds says of the kind, by one test that antt computes over
--- all kinds. Assumes nothing.
-use mathlib.Core.Bool.{Bool, true, false}
-use mathlib.Core.Path.{_≡_, refl, ap, _∙_}
+-- all kinds; and that Const alone is of the first arm. Assumes nothing.
+use mathlib.Core.Bool.{Bool, true, false, not}
+use mathlib.Core.Path.{_≡_, refl, sym, ap, _∙_}
 use mathlib.Core.List.{List, [], _∷_, map}
-use Prim.Native.Nat.{ℕ, _+_, _/_, _%_, _<_}
+use Prim.Native.Nat.{ℕ, zero, suc, _+_, _/_, _%_, _<_}
 use lib.Dec.{eqb}
-use lib.ListN.{getD, List·getD-append}
+use lib.ListN.{getD, drop, List·getD-append}
 use lib.Seq.{getD-append-add}
 use borrow.Author.Tests.{eqb-true}
 use Rattle.words.specs.Lists.{all, conj}
+use Rattle.words.proofs.Bools.{clash}
 use Rattle.model.specs.Kinds.{Kind, Stmt, Slot, Row, row, kinds, kind-of}
 use Rattle.inst.specs.Table.{slot-code, arm-code, arm-at, shape-code, bit, packed, used, rows, has-list, shape, arm, quiet, least, most}
 use Rattle.inst.proofs.Arms.{arm-kept}
@@ -108,3 +109,13 @@ module _ (w : ℕ) where
   pub slot-4 : x / 4096 % 8 ≡ code-at (r .slots) 4
   unfolding tests
   slot-4 = eqb-true _ _ (passed w 4)
+
+-- ---- Const alone is of the first arm
+
+later-arm : Kind → Bool
+later-arm k = not (eqb (arm-code (row k .arm)) 0)
+
+pub first-arm : (w : ℕ) → arm (packed (kind-of w)) ≡ 0 → w ≡ 0
+unfolding later-arm
+first-arm zero e = refl
+first-arm (suc n) e = clash (all-at later-arm (drop 1 kinds) Stmt refl refl n) (ap (λ (c : ℕ). not (eqb c 0)) (sym (arm-is (suc n)) ∙ e))
