@@ -3,14 +3,17 @@ pub mod Args
 pub mod Both
 pub mod Cells
 pub mod Element
+pub mod Frame
 pub mod Lent
 pub mod Local
 pub mod Own
 pub mod OwnRef
 pub mod Params
+pub mod Passing
 pub mod Part
 pub mod PartAs
 pub mod Refs
 pub mod Spots
+pub mod Statements
 pub mod Turns
 pub mod Walks
