@@ -4,4 +4,3 @@ pub mod Wording
 pub mod Planned
 pub mod Moves
 pub mod Trials
-pub mod Spots
