@@ -15,6 +15,8 @@ use Rattle.crossed.specs.Rows8.{rows8}
 use Rattle.crossed.specs.Rows9.{rows9}
 use Rattle.crossed.specs.Rows10.{rows10}
 use Rattle.crossed.specs.Rows11.{rows11}
+use Rattle.crossed.specs.Rows12.{rows12}
+use Rattle.crossed.specs.Rows13.{rows13}
 
 abbrev answered : Row → Outcome
 answered w = sink (w .what) (w .w64) (w .w32) (w .nf)
@@ -51,3 +53,9 @@ page10 = refl
 
 pub page11 : map answered rows11 ≡ map (λ w. w .gives) rows11
 page11 = refl
+
+pub page12 : map answered rows12 ≡ map (λ w. w .gives) rows12
+page12 = refl
+
+pub page13 : map answered rows13 ≡ map (λ w. w .gives) rows13
+page13 = refl

@@ -10,3 +10,5 @@ pub mod Rows8
 pub mod Rows9
 pub mod Rows10
 pub mod Rows11
+pub mod Rows12
+pub mod Rows13

@@ -5,7 +5,9 @@ use Prim.Native.Nat.{ℕ}
 use Rattle.words.specs.Lists.{concat, spans}
 use Rattle.model.specs.declared.Answer.{Answer}
 use Rattle.model.specs.declared.Answer.the-variants.{Done, Short, Refused}
+use Rattle.model.specs.Kinds.{Kind, Br, CondBr, Const}
 use Rattle.model.specs.Picture.{Picture, Inst}
+use Rattle.model.specs.Build.{op}
 use Rattle.model.specs.Pass.{Outcome, ends-in}
 
 -- the picture lent, the lengths of the two work slices, the records lent, and what the call gives: the answer, the lines, and the
@@ -43,6 +45,37 @@ operands n ops = record { used = n; words = ops }
 
 abbrev pub beside : List ℕ → List ℕ → List ℕ → Beside
 beside ps ts rs = record { pairs = ps; targets = ts; replay = rs }
+
+-- ---- the commonest instructions: of form 0, with so many registers and nothing else; branches to t, or to t and f; a constant
+
+abbrev pub op0 : Kind → Inst
+op0 k = op k 0 [] [] []
+
+abbrev pub op1 : Kind → ℕ → Inst
+op1 k a = op k 0 (a ∷ []) [] []
+
+abbrev pub op2 : Kind → ℕ → ℕ → Inst
+op2 k a b = op k 0 (a ∷ b ∷ []) [] []
+
+abbrev pub op3 : Kind → ℕ → ℕ → ℕ → Inst
+op3 k a b c = op k 0 (a ∷ b ∷ c ∷ []) [] []
+
+abbrev pub op4 : Kind → ℕ → ℕ → ℕ → ℕ → Inst
+op4 k a b c d = op k 0 (a ∷ b ∷ c ∷ d ∷ []) [] []
+
+abbrev pub op5 : Kind → ℕ → ℕ → ℕ → ℕ → ℕ → Inst
+op5 k a b c d e = op k 0 (a ∷ b ∷ c ∷ d ∷ e ∷ []) [] []
+
+abbrev pub br : ℕ → Inst
+br t = op Br 0 [] [] (t ∷ [])
+
+abbrev pub fork : ℕ → ℕ → ℕ → Inst
+fork r t f = op CondBr 0 (r ∷ []) [] (t ∷ f ∷ [])
+
+abbrev pub const : ℕ → ℕ → Inst
+const r v = op Const 0 (r ∷ []) [] (v ∷ [])
+
+-- ---- pictures
 
 -- a picture of these blocks, end to end
 abbrev pub pic : List (List Inst) → At → Lent → Lent → Beside → Picture

@@ -1,242 +1,375 @@
--- Pictures by seed and what the Rust makes of them, page 11: of the first 4000 seeds of the generator, those that show
--- something new. Printed by `compare crossed` in tests/rust, and again by its compare.sh: not to be edited.
--- Assumes nothing.
-use mathlib.Core.List.{List, [], _∷_}
-use Rattle.words.specs.Lists.{upto}
-use Rattle.model.specs.Kinds.{Alloc, Bin, Br, CallIndirect, CallNative, Case, Cat, Check, CondBr, Const}
-use Rattle.model.specs.Kinds.{Index, LayoutOf, Output, Ret, SigVal, Store}
-use Rattle.model.specs.Picture.{Picture, absent}
+-- Pictures at the bounds of document 01, page 11: what the Rust makes of them, and tests/rust's judgement of refused ones. Printed by
+-- `compare crossed` in tests/rust, and again by its compare.sh: not to be edited. Assumes nothing.
+use mathlib.Core.List.{List, [], _∷_, _++_}
+use lib.ListN.{replicate}
+use Rattle.words.specs.Lists.{range, upto}
+use Rattle.model.specs.Kinds.{AddrOf, Alloc, Call, CallForeign, CallNative, CallProt, Cat, Cmp, Copy, CopyConst}
+use Rattle.model.specs.Kinds.{Cover, Drive, Fill, Free, LCopy, LFill, LSet, LayoutOf, Load, LogicOp}
+use Rattle.model.specs.Kinds.{New, NewFill, NewFrame, Output, PkgAlloc, Report, Ret, SigAttr, Stmt, TempRoot}
+use Rattle.model.specs.Kinds.{Zero}
+use Rattle.model.specs.Picture.{absent}
 use Rattle.model.specs.Build.{op}
-use Rattle.crossed.specs.Row.{Row, pic, at, registers, operands, beside, stays, refused}
+use Rattle.crossed.specs.Row.{Row, pic, at, registers, operands, beside, op0, op1, op2, op3, op4, op5, br, fork, const, moves, stays, done}
 
--- seed 4, an operand R: refused 6
-abbrev pub d45-lent : Picture
-d45-lent =
-    pic (
-    (op Const 0 (8 ∷ []) [] (absent ∷ 4294967039 ∷ 0 ∷ 1 ∷ 8 ∷ 3 ∷ 5 ∷ []) ∷ op Alloc 0 (4 ∷ 8 ∷ []) [] []
-    ∷ op Cat 0 (4 ∷ 8 ∷ 8 ∷ []) (0 ∷ 3 ∷ []) (45817 ∷ []) ∷ op SigVal 0 (7 ∷ 8 ∷ 8 ∷ []) [] []
-    ∷ op Store 2 (4 ∷ 8 ∷ []) [] [] ∷ op Index 0 (3 ∷ 4 ∷ 8 ∷ []) [] [] ∷ op Bin 4 (2 ∷ 8 ∷ 0 ∷ []) [] []
-    ∷ op CondBr 0 (1 ∷ []) [] (1 ∷ []) ∷ [])
-    ∷ (op Bin 4 (0 ∷ 8 ∷ 4 ∷ []) [] [] ∷ op CallNative 0 [] (3 ∷ 1 ∷ []) [] ∷ op Ret 0 (8 ∷ []) [] [] ∷ [])
-    ∷ (op Cat 0 (1 ∷ 1 ∷ 1 ∷ []) [] [] ∷ [])
-    ∷ [])
-    (at (upto 12) [])
-    (registers 9 (1 ∷ 0 ∷ 0 ∷ 0 ∷ 2 ∷ 0 ∷ 0 ∷ 1 ∷ 0 ∷ []))
-    (operands 4 (8 ∷ 4 ∷ 4 ∷ 9 ∷ []))
-    (beside [] [] (1 ∷ []))
+-- a Cat's odd operand, the frame written behind it: 1
+abbrev pub b194 : Row
+b194 =
+    moves (pic ((op1 AddrOf 9 ∷ const 1 8 ∷ op2 Alloc 2 1 ∷ op3 Cmp 3 1 1 ∷ op3 Cmp 4 1 3 ∷ op3 Cmp 5 1 4
+    ∷ op3 Cmp 6 1 5 ∷ op3 Cmp 7 1 6 ∷ op3 Cmp 8 1 7 ∷ op Cat 0 (2 ∷ 1 ∷ 1 ∷ []) (0 ∷ 1 ∷ []) [] ∷ op3 Fill 9 1 1
+    ∷ fork 0 1 2 ∷ []) ∷ (op2 Output 2 1 ∷ op0 Ret ∷ []) ∷ (op0 Ret ∷ []) ∷ []) (at (upto 15) []) (registers 10 (0 ∷ 0
+    ∷ 1 ∷ replicate 7 0 ++ 77 ∷ 77 ∷ 77 ∷ 77 ∷ [])) (operands 2 (9 ∷ 1 ∷ 77 ∷ [])) (beside [] [] [])) 40 8160 800
+    (done 1 13 2) ((1 ∷ 0 ∷ 1 ∷ 8 ∷ 13 ∷ 2 ∷ []) ∷ [])
+    (pic ((op1 AddrOf 9 ∷ const 1 8 ∷ op3 Fill 9 1 1 ∷ fork 0 1 2 ∷ []) ∷ (op2 Alloc 10 1 ∷ op3 Cmp 11 1 1
+    ∷ op3 Cmp 12 1 11 ∷ op3 Cmp 11 1 12 ∷ op3 Cmp 12 1 11 ∷ op3 Cmp 11 1 12 ∷ op3 Cmp 12 1 11 ∷ op Cat 0 (10 ∷ 1 ∷ 1
+    ∷ []) (0 ∷ 1 ∷ []) [] ∷ op2 Output 10 1 ∷ op0 Ret ∷ []) ∷ (op0 Ret ∷ []) ∷ []) (at (0 ∷ 1 ∷ 10 ∷ 11
+    ∷ range 2 8 ++ 12 ∷ 13 ∷ 14 ∷ []) []) (registers 13 (0 ∷ 0 ∷ 1 ∷ replicate 7 0 ++ 1 ∷ 0 ∷ 0 ∷ 77 ∷ []))
+    (operands 2 (9 ∷ 1 ∷ 77 ∷ [])) (beside [] [] []))
 
-abbrev pub d45 : Row
-d45 = stays d45-lent 30 8120 800 (refused 6)
+-- a Cmp and two Cmps before a Stmt: 1
+abbrev pub b195 : Row
+b195 =
+    moves (pic ((const 1 8 ∷ op3 Cmp 2 1 1 ∷ op3 Cmp 3 1 1 ∷ op3 Cmp 4 1 3 ∷ op0 Stmt ∷ fork 0 1 2 ∷ [])
+    ∷ (op2 Output 5 5 ∷ []) ∷ (op3 Cat 1 1 1 ∷ []) ∷ []) (at (upto 8) []) (registers 11 (0 ∷ 0 ∷ 1
+    ∷ replicate 8 0 ++ 77 ∷ 77 ∷ 77 ∷ 77 ∷ [])) (operands 1 (1 ∷ 77 ∷ [])) (beside [] [] (1 ∷ []))) 42 8168 800
+    (done 1 14 1) ((1 ∷ 0 ∷ 1 ∷ 3 ∷ 14 ∷ 1 ∷ []) ∷ [])
+    (pic ((const 1 8 ∷ op0 Stmt ∷ fork 0 1 2 ∷ []) ∷ (op3 Cmp 11 1 1 ∷ op3 Cmp 12 1 1 ∷ op3 Cmp 13 1 12
+    ∷ op2 Output 5 5 ∷ []) ∷ (op3 Cat 1 1 1 ∷ []) ∷ []) (at (0 ∷ 4 ∷ 5 ∷ 1 ∷ 2 ∷ 3 ∷ 6 ∷ 7 ∷ []) []) (registers 14 (0
+    ∷ 0 ∷ 1 ∷ replicate 8 0 ++ 1 ∷ 0 ∷ 0 ∷ 77 ∷ [])) (operands 1 (1 ∷ 77 ∷ [])) (beside [] [] (1 ∷ [])))
 
--- seed 5, a Br to no block: refused 7
-abbrev pub d47-lent : Picture
-d47-lent =
-    pic (
-    (op Const 0 (8 ∷ []) [] (45 ∷ 0 ∷ 5 ∷ 7 ∷ 0 ∷ 0 ∷ 7 ∷ []) ∷ op Br 0 [] [] (4 ∷ 8 ∷ 2 ∷ 8 ∷ 5 ∷ 3 ∷ []) ∷ [])
-    ∷ (op CallIndirect 0 (0 ∷ []) (0 ∷ 1 ∷ []) [] ∷ op Output 0 (3 ∷ 4 ∷ []) [] [] ∷ op Case 0 (8 ∷ []) [] (95 ∷ []) ∷ [])
-    ∷ (op Cat 0 (1 ∷ 1 ∷ 1 ∷ []) [] [] ∷ [])
-    ∷ (op Alloc 0 (3 ∷ 8 ∷ []) [] [] ∷ op Cat 0 (3 ∷ 8 ∷ 8 ∷ []) [] [] ∷ op Check 3 (8 ∷ 8 ∷ 3 ∷ []) [] []
-    ∷ op Bin 1 (4 ∷ 8 ∷ 8 ∷ []) [] [] ∷ op LayoutOf 0 (4 ∷ 3 ∷ []) [] [] ∷ op CondBr 0 (8 ∷ []) [] (3 ∷ 1 ∷ []) ∷ [])
-    ∷ [])
-    (at (upto 12) (9 ∷ 0 ∷ 0 ∷ 0 ∷ 0 ∷ 0 ∷ 0 ∷ 0 ∷ 0 ∷ 0 ∷ 27 ∷ 0 ∷ []))
-    (registers 9 (0 ∷ 4 ∷ 0 ∷ 6 ∷ 4 ∷ 1 ∷ 1 ∷ 4 ∷ 0 ∷ 77 ∷ 9 ∷ 9 ∷ []))
-    (operands 1 (3 ∷ []))
-    (beside [] [] (3 ∷ []))
+-- an Alloc and two Cmps before a Stmt: 0
+abbrev pub b196 : Row
+b196 =
+    stays (pic ((const 1 8 ∷ op2 Alloc 2 1 ∷ op3 Cmp 3 1 1 ∷ op3 Cmp 4 1 3 ∷ op0 Stmt ∷ fork 0 1 2 ∷ [])
+    ∷ (op2 Output 5 5 ∷ []) ∷ (op3 Cat 1 1 1 ∷ []) ∷ []) (at (upto 8) []) (registers 11 (0 ∷ 0 ∷ 1
+    ∷ replicate 8 0 ++ 77 ∷ [])) (operands 1 (1 ∷ 77 ∷ [])) (beside [] [] (1 ∷ []))) 36 8144 800 (done 0 11 1)
 
-abbrev pub d47 : Row
-d47 = stays d47-lent 40 8160 800 (refused 7)
+-- a layout and two Cmps before a Stmt: 0
+abbrev pub b197 : Row
+b197 =
+    stays (pic ((const 1 8 ∷ op AddrOf 4 (9 ∷ []) [] [] ∷ op2 LayoutOf 2 9 ∷ op3 Cmp 3 1 1 ∷ op3 Cmp 4 1 3 ∷ op0 Stmt
+    ∷ fork 0 1 2 ∷ []) ∷ (op2 Output 5 5 ∷ []) ∷ (op3 Cat 1 1 1 ∷ []) ∷ []) (at (upto 9) []) (registers 11 (0 ∷ 0 ∷ 1
+    ∷ replicate 8 0 ++ 77 ∷ [])) (operands 1 (1 ∷ 77 ∷ [])) (beside [] [] (1 ∷ []))) 36 8144 800 (done 0 11 1)
 
--- seed 4, a CondBr's t to no block: refused 7
-abbrev pub d48-lent : Picture
-d48-lent =
-    pic (
-    (op Const 0 (8 ∷ []) [] (absent ∷ 4294967039 ∷ 0 ∷ 1 ∷ 8 ∷ 3 ∷ 5 ∷ []) ∷ op Alloc 0 (4 ∷ 8 ∷ []) [] []
-    ∷ op Cat 0 (4 ∷ 8 ∷ 8 ∷ []) (0 ∷ 3 ∷ []) (45817 ∷ []) ∷ op SigVal 0 (7 ∷ 8 ∷ 8 ∷ []) [] []
-    ∷ op Store 2 (4 ∷ 8 ∷ []) [] [] ∷ op Index 0 (3 ∷ 4 ∷ 8 ∷ []) [] [] ∷ op Bin 4 (2 ∷ 8 ∷ 0 ∷ []) [] []
-    ∷ op CondBr 0 (1 ∷ []) [] (3 ∷ []) ∷ [])
-    ∷ (op Bin 4 (0 ∷ 8 ∷ 4 ∷ []) [] [] ∷ op CallNative 0 [] (3 ∷ 1 ∷ []) [] ∷ op Ret 0 (8 ∷ []) [] [] ∷ [])
-    ∷ (op Cat 0 (1 ∷ 1 ∷ 1 ∷ []) [] [] ∷ [])
-    ∷ [])
-    (at (upto 12) [])
-    (registers 9 (1 ∷ 0 ∷ 0 ∷ 0 ∷ 2 ∷ 0 ∷ 0 ∷ 1 ∷ 0 ∷ []))
-    (operands 4 (8 ∷ 4 ∷ 4 ∷ 7 ∷ []))
-    (beside [] [] (1 ∷ []))
+-- an image and two Cmps before a Stmt: 0
+abbrev pub b198 : Row
+b198 =
+    stays (pic ((const 1 8 ∷ op CallNative 1 (2 ∷ []) (0 ∷ 1 ∷ []) [] ∷ op3 Cmp 3 1 1 ∷ op3 Cmp 4 1 3 ∷ op0 Stmt
+    ∷ fork 0 1 2 ∷ []) ∷ (op2 Output 5 5 ∷ []) ∷ (op3 Cat 1 1 1 ∷ []) ∷ []) (at (upto 8) []) (registers 11 (0 ∷ 0 ∷ 1
+    ∷ replicate 8 0 ++ 77 ∷ [])) (operands 1 (1 ∷ 77 ∷ [])) (beside [] [] (1 ∷ []))) 36 8144 800 (done 0 11 1)
 
-abbrev pub d48 : Row
-d48 = stays d48-lent 30 8120 800 (refused 7)
+-- a read of the pool and two Cmps before a Stmt: 1
+abbrev pub b199 : Row
+b199 =
+    moves (pic ((const 1 8 ∷ op AddrOf 4 (9 ∷ []) [] [] ∷ op Load 3 (2 ∷ 9 ∷ []) [] [] ∷ op3 Cmp 3 1 1 ∷ op3 Cmp 4 1 3
+    ∷ op0 Stmt ∷ fork 0 1 2 ∷ []) ∷ (op2 Output 5 5 ∷ []) ∷ (op3 Cat 1 1 1 ∷ []) ∷ []) (at (upto 9) []) (registers 11
+    (0 ∷ 0 ∷ 1 ∷ replicate 8 0 ++ 77 ∷ 77 ∷ 77 ∷ 77 ∷ [])) (operands 1 (1 ∷ 77 ∷ [])) (beside [] [] (1
+    ∷ []))) 42 8168 800 (done 1 14 1) ((1 ∷ 0 ∷ 1 ∷ 3 ∷ 14 ∷ 1 ∷ []) ∷ [])
+    (pic ((const 1 8 ∷ op AddrOf 4 (9 ∷ []) [] [] ∷ op0 Stmt ∷ fork 0 1 2 ∷ []) ∷ (op Load 3 (11 ∷ 9 ∷ []) [] []
+    ∷ op3 Cmp 12 1 1 ∷ op3 Cmp 13 1 12 ∷ op2 Output 5 5 ∷ []) ∷ (op3 Cat 1 1 1 ∷ []) ∷ []) (at (0 ∷ 1 ∷ 5 ∷ 6 ∷ 2 ∷ 3
+    ∷ 4 ∷ 7 ∷ 8 ∷ []) []) (registers 14 (0 ∷ 0 ∷ 1 ∷ replicate 8 0 ++ 1 ∷ 0 ∷ 0 ∷ 77 ∷ [])) (operands 1 (1 ∷ 77 ∷ []))
+    (beside [] [] (1 ∷ [])))
 
--- seed 4, a CondBr's f to no block: refused 7
-abbrev pub d49-lent : Picture
-d49-lent =
-    pic (
-    (op Const 0 (8 ∷ []) [] (absent ∷ 4294967039 ∷ 0 ∷ 1 ∷ 8 ∷ 3 ∷ 5 ∷ []) ∷ op Alloc 0 (4 ∷ 8 ∷ []) [] []
-    ∷ op Cat 0 (4 ∷ 8 ∷ 8 ∷ []) (0 ∷ 3 ∷ []) (45817 ∷ []) ∷ op SigVal 0 (7 ∷ 8 ∷ 8 ∷ []) [] []
-    ∷ op Store 2 (4 ∷ 8 ∷ []) [] [] ∷ op Index 0 (3 ∷ 4 ∷ 8 ∷ []) [] [] ∷ op Bin 4 (2 ∷ 8 ∷ 0 ∷ []) [] []
-    ∷ op CondBr 0 (1 ∷ []) [] (1 ∷ 3 ∷ []) ∷ [])
-    ∷ (op Bin 4 (0 ∷ 8 ∷ 4 ∷ []) [] [] ∷ op CallNative 0 [] (3 ∷ 1 ∷ []) [] ∷ op Ret 0 (8 ∷ []) [] [] ∷ [])
-    ∷ (op Cat 0 (1 ∷ 1 ∷ 1 ∷ []) [] [] ∷ [])
-    ∷ [])
-    (at (upto 12) [])
-    (registers 9 (1 ∷ 0 ∷ 0 ∷ 0 ∷ 2 ∷ 0 ∷ 0 ∷ 1 ∷ 0 ∷ []))
-    (operands 4 (8 ∷ 4 ∷ 4 ∷ 7 ∷ []))
-    (beside [] [] (1 ∷ []))
+-- a read of the frame and two Cmps before a Stmt: 0
+abbrev pub b200 : Row
+b200 =
+    stays (pic ((const 1 8 ∷ op1 AddrOf 9 ∷ op Load 3 (2 ∷ 9 ∷ []) [] [] ∷ op3 Cmp 3 1 1 ∷ op3 Cmp 4 1 3 ∷ op0 Stmt
+    ∷ fork 0 1 2 ∷ []) ∷ (op2 Output 5 5 ∷ []) ∷ (op3 Cat 1 1 1 ∷ []) ∷ []) (at (upto 9) []) (registers 11 (0 ∷ 0 ∷ 1
+    ∷ replicate 8 0 ++ 77 ∷ [])) (operands 1 (1 ∷ 77 ∷ [])) (beside [] [] (1 ∷ []))) 36 8144 800 (done 0 11 1)
 
-abbrev pub d49 : Row
-d49 = stays d49-lent 30 8120 800 (refused 7)
+-- a read of a kept block and two Cmps before a Stmt: 0
+abbrev pub b201 : Row
+b201 =
+    stays (pic ((const 1 8 ∷ op CallNative 2 (9 ∷ []) (0 ∷ 1 ∷ []) [] ∷ op Load 3 (2 ∷ 9 ∷ []) [] [] ∷ op3 Cmp 3 1 1
+    ∷ op3 Cmp 4 1 3 ∷ op0 Stmt ∷ fork 0 1 2 ∷ []) ∷ (op2 Output 5 5 ∷ []) ∷ (op3 Cat 1 1 1 ∷ []) ∷ []) (at
+    (upto 9) []) (registers 11 (0 ∷ 0 ∷ 1 ∷ replicate 8 0 ++ 77 ∷ [])) (operands 1 (1 ∷ 77 ∷ [])) (beside [] [] (1
+    ∷ []))) 36 8144 800 (done 0 11 1)
 
--- seed 4, a case target that is no block, in no pair: refused 7
-abbrev pub d50-lent : Picture
-d50-lent =
-    pic (
-    (op Const 0 (8 ∷ []) [] (absent ∷ 4294967039 ∷ 0 ∷ 1 ∷ 8 ∷ 3 ∷ 5 ∷ []) ∷ op Alloc 0 (4 ∷ 8 ∷ []) [] []
-    ∷ op Cat 0 (4 ∷ 8 ∷ 8 ∷ []) (0 ∷ 3 ∷ []) (45817 ∷ []) ∷ op SigVal 0 (7 ∷ 8 ∷ 8 ∷ []) [] []
-    ∷ op Store 2 (4 ∷ 8 ∷ []) [] [] ∷ op Index 0 (3 ∷ 4 ∷ 8 ∷ []) [] [] ∷ op Bin 4 (2 ∷ 8 ∷ 0 ∷ []) [] []
-    ∷ op CondBr 0 (1 ∷ []) [] (1 ∷ []) ∷ [])
-    ∷ (op Bin 4 (0 ∷ 8 ∷ 4 ∷ []) [] [] ∷ op CallNative 0 [] (3 ∷ 1 ∷ []) [] ∷ op Ret 0 (8 ∷ []) [] [] ∷ [])
-    ∷ (op Cat 0 (1 ∷ 1 ∷ 1 ∷ []) [] [] ∷ [])
-    ∷ [])
-    (at (upto 12) [])
-    (registers 9 (1 ∷ 0 ∷ 0 ∷ 0 ∷ 2 ∷ 0 ∷ 0 ∷ 1 ∷ 0 ∷ []))
-    (operands 4 (8 ∷ 4 ∷ 4 ∷ 7 ∷ []))
-    (beside [] (3 ∷ []) (1 ∷ []))
+-- a read of a kept image and two Cmps before a Stmt: 0
+abbrev pub b202 : Row
+b202 =
+    stays (pic ((const 1 8 ∷ op CallNative 1 (9 ∷ []) (0 ∷ 1 ∷ []) [] ∷ op Load 3 (2 ∷ 9 ∷ []) [] [] ∷ op3 Cmp 3 1 1
+    ∷ op3 Cmp 4 1 3 ∷ op0 Stmt ∷ fork 0 1 2 ∷ []) ∷ (op2 Output 5 5 ∷ []) ∷ (op3 Cat 1 1 1 ∷ []) ∷ []) (at
+    (upto 9) []) (registers 11 (0 ∷ 0 ∷ 1 ∷ replicate 8 0 ++ 77 ∷ [])) (operands 1 (1 ∷ 77 ∷ [])) (beside [] [] (1
+    ∷ []))) 36 8144 800 (done 0 11 1)
 
-abbrev pub d50 : Row
-d50 = stays d50-lent 30 8120 800 (refused 7)
+-- an Alloc and two Cmps before a Cover: 1
+abbrev pub b203 : Row
+b203 =
+    moves (pic ((const 1 8 ∷ op2 Alloc 2 1 ∷ op3 Cmp 3 1 1 ∷ op3 Cmp 4 1 3 ∷ op0 Cover ∷ fork 0 1 2 ∷ [])
+    ∷ (op2 Output 5 5 ∷ []) ∷ (op3 Cat 1 1 1 ∷ []) ∷ []) (at (upto 8) []) (registers 11 (0 ∷ 0 ∷ 1
+    ∷ replicate 8 0 ++ 77 ∷ 77 ∷ 77 ∷ 77 ∷ [])) (operands 1 (1 ∷ 77 ∷ [])) (beside [] [] (1 ∷ []))) 42 8168 800
+    (done 1 14 1) ((1 ∷ 0 ∷ 1 ∷ 3 ∷ 14 ∷ 1 ∷ []) ∷ [])
+    (pic ((const 1 8 ∷ op0 Cover ∷ fork 0 1 2 ∷ []) ∷ (op2 Alloc 11 1 ∷ op3 Cmp 12 1 1 ∷ op3 Cmp 13 1 12
+    ∷ op2 Output 5 5 ∷ []) ∷ (op3 Cat 1 1 1 ∷ []) ∷ []) (at (0 ∷ 4 ∷ 5 ∷ 1 ∷ 2 ∷ 3 ∷ 6 ∷ 7 ∷ []) []) (registers 14 (0
+    ∷ 0 ∷ 1 ∷ replicate 8 0 ++ 1 ∷ 0 ∷ 0 ∷ 77 ∷ [])) (operands 1 (1 ∷ 77 ∷ [])) (beside [] [] (1 ∷ [])))
 
--- seed 4, an empty case pair: refused 7
-abbrev pub d51-lent : Picture
-d51-lent =
-    pic (
-    (op Const 0 (8 ∷ []) [] (absent ∷ 4294967039 ∷ 0 ∷ 1 ∷ 8 ∷ 3 ∷ 5 ∷ []) ∷ op Alloc 0 (4 ∷ 8 ∷ []) [] []
-    ∷ op Cat 0 (4 ∷ 8 ∷ 8 ∷ []) (0 ∷ 3 ∷ []) (45817 ∷ []) ∷ op SigVal 0 (7 ∷ 8 ∷ 8 ∷ []) [] []
-    ∷ op Store 2 (4 ∷ 8 ∷ []) [] [] ∷ op Index 0 (3 ∷ 4 ∷ 8 ∷ []) [] [] ∷ op Bin 4 (2 ∷ 8 ∷ 0 ∷ []) [] []
-    ∷ op CondBr 0 (1 ∷ []) [] (1 ∷ []) ∷ [])
-    ∷ (op Bin 4 (0 ∷ 8 ∷ 4 ∷ []) [] [] ∷ op CallNative 0 [] (3 ∷ 1 ∷ []) [] ∷ op Ret 0 (8 ∷ []) [] [] ∷ [])
-    ∷ (op Cat 0 (1 ∷ 1 ∷ 1 ∷ []) [] [] ∷ [])
-    ∷ [])
-    (at (upto 12) [])
-    (registers 9 (1 ∷ 0 ∷ 0 ∷ 0 ∷ 2 ∷ 0 ∷ 0 ∷ 1 ∷ 0 ∷ []))
-    (operands 4 (8 ∷ 4 ∷ 4 ∷ 7 ∷ []))
-    (beside (0 ∷ 0 ∷ []) [] (1 ∷ []))
+-- an Alloc and two Cmps before a TempRoot: 0
+abbrev pub b204 : Row
+b204 =
+    stays (pic ((const 1 8 ∷ op2 Alloc 2 1 ∷ op3 Cmp 3 1 1 ∷ op3 Cmp 4 1 3 ∷ op1 TempRoot 1 ∷ fork 0 1 2 ∷ [])
+    ∷ (op2 Output 5 5 ∷ []) ∷ (op3 Cat 1 1 1 ∷ []) ∷ []) (at (upto 8) []) (registers 11 (0 ∷ 0 ∷ 1
+    ∷ replicate 8 0 ++ 77 ∷ [])) (operands 1 (1 ∷ 77 ∷ [])) (beside [] [] (1 ∷ []))) 36 8144 800 (done 0 11 1)
 
-abbrev pub d51 : Row
-d51 = stays d51-lent 30 8120 800 (refused 7)
+-- an Alloc and two Cmps before a Call: 0
+abbrev pub b205 : Row
+b205 =
+    stays (pic ((const 1 8 ∷ op2 Alloc 2 1 ∷ op3 Cmp 3 1 1 ∷ op3 Cmp 4 1 3 ∷ op0 Call ∷ fork 0 1 2 ∷ [])
+    ∷ (op2 Output 5 5 ∷ []) ∷ (op3 Cat 1 1 1 ∷ []) ∷ []) (at (upto 8) []) (registers 11 (0 ∷ 0 ∷ 1
+    ∷ replicate 8 0 ++ 77 ∷ [])) (operands 1 (1 ∷ 77 ∷ [])) (beside [] [] (1 ∷ []))) 36 8144 800 (done 0 11 1)
 
--- seed 4, a case pair past its targets: refused 7
-abbrev pub d52-lent : Picture
-d52-lent =
-    pic (
-    (op Const 0 (8 ∷ []) [] (absent ∷ 4294967039 ∷ 0 ∷ 1 ∷ 8 ∷ 3 ∷ 5 ∷ []) ∷ op Alloc 0 (4 ∷ 8 ∷ []) [] []
-    ∷ op Cat 0 (4 ∷ 8 ∷ 8 ∷ []) (0 ∷ 3 ∷ []) (45817 ∷ []) ∷ op SigVal 0 (7 ∷ 8 ∷ 8 ∷ []) [] []
-    ∷ op Store 2 (4 ∷ 8 ∷ []) [] [] ∷ op Index 0 (3 ∷ 4 ∷ 8 ∷ []) [] [] ∷ op Bin 4 (2 ∷ 8 ∷ 0 ∷ []) [] []
-    ∷ op CondBr 0 (1 ∷ []) [] (1 ∷ []) ∷ [])
-    ∷ (op Bin 4 (0 ∷ 8 ∷ 4 ∷ []) [] [] ∷ op CallNative 0 [] (3 ∷ 1 ∷ []) [] ∷ op Ret 0 (8 ∷ []) [] [] ∷ [])
-    ∷ (op Cat 0 (1 ∷ 1 ∷ 1 ∷ []) [] [] ∷ [])
-    ∷ [])
-    (at (upto 12) [])
-    (registers 9 (1 ∷ 0 ∷ 0 ∷ 0 ∷ 2 ∷ 0 ∷ 0 ∷ 1 ∷ 0 ∷ []))
-    (operands 4 (8 ∷ 4 ∷ 4 ∷ 7 ∷ []))
-    (beside (0 ∷ 1 ∷ []) [] (1 ∷ []))
+-- an Alloc and two Cmps before a CallProt: 0
+abbrev pub b206 : Row
+b206 =
+    stays (pic ((const 1 8 ∷ op2 Alloc 2 1 ∷ op3 Cmp 3 1 1 ∷ op3 Cmp 4 1 3 ∷ op1 CallProt 1 ∷ fork 0 1 2 ∷ [])
+    ∷ (op2 Output 5 5 ∷ []) ∷ (op3 Cat 1 1 1 ∷ []) ∷ []) (at (upto 8) []) (registers 11 (0 ∷ 0 ∷ 1
+    ∷ replicate 8 0 ++ 77 ∷ [])) (operands 1 (1 ∷ 77 ∷ [])) (beside [] [] (1 ∷ []))) 36 8144 800 (done 0 11 1)
 
-abbrev pub d52 : Row
-d52 = stays d52-lent 30 8120 800 (refused 7)
+-- an Alloc and two Cmps before a CallForeign: 0
+abbrev pub b207 : Row
+b207 =
+    stays (pic ((const 1 8 ∷ op2 Alloc 2 1 ∷ op3 Cmp 3 1 1 ∷ op3 Cmp 4 1 3 ∷ op0 CallForeign ∷ fork 0 1 2 ∷ [])
+    ∷ (op2 Output 5 5 ∷ []) ∷ (op3 Cat 1 1 1 ∷ []) ∷ []) (at (upto 8) []) (registers 11 (0 ∷ 0 ∷ 1
+    ∷ replicate 8 0 ++ 77 ∷ [])) (operands 1 (1 ∷ 77 ∷ [])) (beside [] [] (1 ∷ []))) 36 8144 800 (done 0 11 1)
 
--- seed 4, a Cat list of 34: refused 8
-abbrev pub d54-lent : Picture
-d54-lent =
-    pic (
-    (op Const 0 (8 ∷ []) [] (absent ∷ 4294967039 ∷ 0 ∷ 1 ∷ 8 ∷ 3 ∷ 5 ∷ []) ∷ op Alloc 0 (4 ∷ 8 ∷ []) [] []
-    ∷ op Cat 0 (4 ∷ 8 ∷ 8 ∷ []) (4 ∷ 34 ∷ []) (45817 ∷ []) ∷ op SigVal 0 (7 ∷ 8 ∷ 8 ∷ []) [] []
-    ∷ op Store 2 (4 ∷ 8 ∷ []) [] [] ∷ op Index 0 (3 ∷ 4 ∷ 8 ∷ []) [] [] ∷ op Bin 4 (2 ∷ 8 ∷ 0 ∷ []) [] []
-    ∷ op CondBr 0 (1 ∷ []) [] (1 ∷ []) ∷ [])
-    ∷ (op Bin 4 (0 ∷ 8 ∷ 4 ∷ []) [] [] ∷ op CallNative 0 [] (3 ∷ 1 ∷ []) [] ∷ op Ret 0 (8 ∷ []) [] [] ∷ [])
-    ∷ (op Cat 0 (1 ∷ 1 ∷ 1 ∷ []) [] [] ∷ [])
-    ∷ [])
-    (at (upto 12) [])
-    (registers 9 (1 ∷ 0 ∷ 0 ∷ 0 ∷ 2 ∷ 0 ∷ 0 ∷ 1 ∷ 0 ∷ []))
-    (operands 38 (8 ∷ 4 ∷ 4 ∷ 7 ∷ 1 ∷ 6 ∷ 4 ∷ 5 ∷ 1 ∷ 6 ∷ 4 ∷ 0 ∷ 5 ∷ 7 ∷ 6 ∷ 6 ∷ 5 ∷ 6 ∷ 1 ∷ 1 ∷ 3 ∷ 1 ∷ 8 ∷ 0 ∷ 1 ∷ 8 ∷ 3 ∷ 5 ∷ 1 ∷ 6 ∷ 6 ∷ 1 ∷ 8 ∷ 4 ∷ 8 ∷ 2 ∷ 2 ∷ 3 ∷ []))
-    (beside [] [] (1 ∷ []))
+-- an Alloc and two Cmps before a plain native: 0
+abbrev pub b208 : Row
+b208 =
+    stays (pic ((const 1 8 ∷ op2 Alloc 2 1 ∷ op3 Cmp 3 1 1 ∷ op3 Cmp 4 1 3 ∷ op0 CallNative ∷ fork 0 1 2 ∷ [])
+    ∷ (op2 Output 5 5 ∷ []) ∷ (op3 Cat 1 1 1 ∷ []) ∷ []) (at (upto 8) []) (registers 11 (0 ∷ 0 ∷ 1
+    ∷ replicate 8 0 ++ 77 ∷ [])) (operands 1 (1 ∷ 77 ∷ [])) (beside [] [] (1 ∷ []))) 36 8144 800 (done 0 11 1)
 
-abbrev pub d54 : Row
-d54 = stays d54-lent 30 8120 800 (refused 8)
+-- an Alloc and two Cmps before a light native: 1
+abbrev pub b209 : Row
+b209 =
+    moves (pic ((const 1 8 ∷ op2 Alloc 2 1 ∷ op3 Cmp 3 1 1 ∷ op3 Cmp 4 1 3 ∷ op CallNative 2 (10 ∷ []) (0 ∷ 1 ∷ []) []
+    ∷ fork 0 1 2 ∷ []) ∷ (op2 Output 5 5 ∷ []) ∷ (op3 Cat 1 1 1 ∷ []) ∷ []) (at (upto 8) []) (registers 11 (0 ∷ 0 ∷ 1
+    ∷ replicate 8 0 ++ 77 ∷ 77 ∷ 77 ∷ 77 ∷ [])) (operands 1 (1 ∷ 77 ∷ [])) (beside [] [] (1 ∷ []))) 42 8168 800
+    (done 1 14 1) ((1 ∷ 0 ∷ 1 ∷ 3 ∷ 14 ∷ 1 ∷ []) ∷ [])
+    (pic ((const 1 8 ∷ op CallNative 2 (10 ∷ []) (0 ∷ 1 ∷ []) [] ∷ fork 0 1 2 ∷ []) ∷ (op2 Alloc 11 1 ∷ op3 Cmp 12 1 1
+    ∷ op3 Cmp 13 1 12 ∷ op2 Output 5 5 ∷ []) ∷ (op3 Cat 1 1 1 ∷ []) ∷ []) (at (0 ∷ 4 ∷ 5 ∷ 1 ∷ 2 ∷ 3 ∷ 6 ∷ 7 ∷ []) [])
+    (registers 14 (0 ∷ 0 ∷ 1 ∷ replicate 8 0 ++ 1 ∷ 0 ∷ 0 ∷ 77 ∷ [])) (operands 1 (1 ∷ 77 ∷ [])) (beside [] [] (1
+    ∷ [])))
 
--- seed 4, a type in use of 8: refused 9
-abbrev pub d56-lent : Picture
-d56-lent =
-    pic (
-    (op Const 0 (8 ∷ []) [] (absent ∷ 4294967039 ∷ 0 ∷ 1 ∷ 8 ∷ 3 ∷ 5 ∷ []) ∷ op Alloc 0 (4 ∷ 8 ∷ []) [] []
-    ∷ op Cat 0 (4 ∷ 8 ∷ 8 ∷ []) (0 ∷ 3 ∷ []) (45817 ∷ []) ∷ op SigVal 0 (7 ∷ 8 ∷ 8 ∷ []) [] []
-    ∷ op Store 2 (4 ∷ 8 ∷ []) [] [] ∷ op Index 0 (3 ∷ 4 ∷ 8 ∷ []) [] [] ∷ op Bin 4 (2 ∷ 8 ∷ 0 ∷ []) [] []
-    ∷ op CondBr 0 (1 ∷ []) [] (1 ∷ []) ∷ [])
-    ∷ (op Bin 4 (0 ∷ 8 ∷ 4 ∷ []) [] [] ∷ op CallNative 0 [] (3 ∷ 1 ∷ []) [] ∷ op Ret 0 (8 ∷ []) [] [] ∷ [])
-    ∷ (op Cat 0 (1 ∷ 1 ∷ 1 ∷ []) [] [] ∷ [])
-    ∷ [])
-    (at (upto 12) [])
-    (registers 9 (1 ∷ 8 ∷ 0 ∷ 0 ∷ 2 ∷ 0 ∷ 0 ∷ 1 ∷ 0 ∷ []))
-    (operands 4 (8 ∷ 4 ∷ 4 ∷ 7 ∷ []))
-    (beside [] [] (1 ∷ []))
+-- an Alloc and two Cmps before a New: 0
+abbrev pub b210 : Row
+b210 =
+    stays (pic ((const 1 8 ∷ op2 Alloc 2 1 ∷ op3 Cmp 3 1 1 ∷ op3 Cmp 4 1 3 ∷ op3 New 10 1 1 ∷ fork 0 1 2 ∷ [])
+    ∷ (op2 Output 5 5 ∷ []) ∷ (op3 Cat 1 1 1 ∷ []) ∷ []) (at (upto 8) []) (registers 11 (0 ∷ 0 ∷ 1
+    ∷ replicate 8 0 ++ 77 ∷ [])) (operands 1 (1 ∷ 77 ∷ [])) (beside [] [] (1 ∷ []))) 36 8144 800 (done 0 11 1)
 
-abbrev pub d56 : Row
-d56 = stays d56-lent 30 8120 800 (refused 9)
+-- an Alloc and two Cmps before a NewFill: 0
+abbrev pub b211 : Row
+b211 =
+    stays (pic ((const 1 8 ∷ op2 Alloc 2 1 ∷ op3 Cmp 3 1 1 ∷ op3 Cmp 4 1 3 ∷ op4 NewFill 10 1 1 1 ∷ fork 0 1 2 ∷ [])
+    ∷ (op2 Output 5 5 ∷ []) ∷ (op3 Cat 1 1 1 ∷ []) ∷ []) (at (upto 8) []) (registers 11 (0 ∷ 0 ∷ 1
+    ∷ replicate 8 0 ++ 77 ∷ [])) (operands 1 (1 ∷ 77 ∷ [])) (beside [] [] (1 ∷ []))) 36 8144 800 (done 0 11 1)
 
--- a work slice one word too short: refused 10
-abbrev pub w64-lent : Picture
-w64-lent =
-    pic (
-    (op Const 0 (8 ∷ []) [] (absent ∷ 4294967039 ∷ 0 ∷ 1 ∷ 8 ∷ 3 ∷ 5 ∷ []) ∷ op Alloc 0 (4 ∷ 8 ∷ []) [] []
-    ∷ op Cat 0 (4 ∷ 8 ∷ 8 ∷ []) (0 ∷ 3 ∷ []) (45817 ∷ []) ∷ op SigVal 0 (7 ∷ 8 ∷ 8 ∷ []) [] []
-    ∷ op Store 2 (4 ∷ 8 ∷ []) [] [] ∷ op Index 0 (3 ∷ 4 ∷ 8 ∷ []) [] [] ∷ op Bin 4 (2 ∷ 8 ∷ 0 ∷ []) [] []
-    ∷ op CondBr 0 (1 ∷ []) [] (1 ∷ []) ∷ [])
-    ∷ (op Bin 4 (0 ∷ 8 ∷ 4 ∷ []) [] [] ∷ op CallNative 0 [] (3 ∷ 1 ∷ []) [] ∷ op Ret 0 (8 ∷ []) [] [] ∷ [])
-    ∷ (op Cat 0 (1 ∷ 1 ∷ 1 ∷ []) [] [] ∷ [])
-    ∷ [])
-    (at (upto 12) [])
-    (registers 9 (1 ∷ 0 ∷ 0 ∷ 0 ∷ 2 ∷ 0 ∷ 0 ∷ 1 ∷ 0 ∷ []))
-    (operands 4 (8 ∷ 4 ∷ 4 ∷ 7 ∷ []))
-    (beside [] [] (1 ∷ []))
+-- an Alloc and two Cmps before a NewFrame: 0
+abbrev pub b212 : Row
+b212 =
+    stays (pic ((const 1 8 ∷ op2 Alloc 2 1 ∷ op3 Cmp 3 1 1 ∷ op3 Cmp 4 1 3 ∷ op4 NewFrame 10 1 1 1 ∷ fork 0 1 2 ∷ [])
+    ∷ (op2 Output 5 5 ∷ []) ∷ (op3 Cat 1 1 1 ∷ []) ∷ []) (at (upto 8) []) (registers 11 (0 ∷ 0 ∷ 1
+    ∷ replicate 8 0 ++ 77 ∷ [])) (operands 1 (1 ∷ 77 ∷ [])) (beside [] [] (1 ∷ []))) 36 8144 800 (done 0 11 1)
 
-abbrev pub w64 : Row
-w64 = stays w64-lent 29 8120 800 (refused 10)
+-- an Alloc and two Cmps before a Free: 0
+abbrev pub b213 : Row
+b213 =
+    stays (pic ((const 1 8 ∷ op2 Alloc 2 1 ∷ op3 Cmp 3 1 1 ∷ op3 Cmp 4 1 3 ∷ op1 Free 1 ∷ fork 0 1 2 ∷ [])
+    ∷ (op2 Output 5 5 ∷ []) ∷ (op3 Cat 1 1 1 ∷ []) ∷ []) (at (upto 8) []) (registers 11 (0 ∷ 0 ∷ 1
+    ∷ replicate 8 0 ++ 77 ∷ [])) (operands 1 (1 ∷ 77 ∷ [])) (beside [] [] (1 ∷ []))) 36 8144 800 (done 0 11 1)
 
--- a work slice one word too short: refused 10
-abbrev pub w32-lent : Picture
-w32-lent =
-    pic (
-    (op Const 0 (8 ∷ []) [] (absent ∷ 4294967039 ∷ 0 ∷ 1 ∷ 8 ∷ 3 ∷ 5 ∷ []) ∷ op Alloc 0 (4 ∷ 8 ∷ []) [] []
-    ∷ op Cat 0 (4 ∷ 8 ∷ 8 ∷ []) (0 ∷ 3 ∷ []) (45817 ∷ []) ∷ op SigVal 0 (7 ∷ 8 ∷ 8 ∷ []) [] []
-    ∷ op Store 2 (4 ∷ 8 ∷ []) [] [] ∷ op Index 0 (3 ∷ 4 ∷ 8 ∷ []) [] [] ∷ op Bin 4 (2 ∷ 8 ∷ 0 ∷ []) [] []
-    ∷ op CondBr 0 (1 ∷ []) [] (1 ∷ []) ∷ [])
-    ∷ (op Bin 4 (0 ∷ 8 ∷ 4 ∷ []) [] [] ∷ op CallNative 0 [] (3 ∷ 1 ∷ []) [] ∷ op Ret 0 (8 ∷ []) [] [] ∷ [])
-    ∷ (op Cat 0 (1 ∷ 1 ∷ 1 ∷ []) [] [] ∷ [])
-    ∷ [])
-    (at (upto 12) [])
-    (registers 9 (1 ∷ 0 ∷ 0 ∷ 0 ∷ 2 ∷ 0 ∷ 0 ∷ 1 ∷ 0 ∷ []))
-    (operands 4 (8 ∷ 4 ∷ 4 ∷ 7 ∷ []))
-    (beside [] [] (1 ∷ []))
+-- an Alloc and two Cmps before a Report: 0
+abbrev pub b214 : Row
+b214 =
+    stays (pic ((const 1 8 ∷ op2 Alloc 2 1 ∷ op3 Cmp 3 1 1 ∷ op3 Cmp 4 1 3 ∷ op3 Report 1 1 1 ∷ fork 0 1 2 ∷ [])
+    ∷ (op2 Output 5 5 ∷ []) ∷ (op3 Cat 1 1 1 ∷ []) ∷ []) (at (upto 8) []) (registers 11 (0 ∷ 0 ∷ 1
+    ∷ replicate 8 0 ++ 77 ∷ [])) (operands 1 (1 ∷ 77 ∷ [])) (beside [] [] (1 ∷ []))) 36 8144 800 (done 0 11 1)
 
-abbrev pub w32 : Row
-w32 = stays w32-lent 30 8119 800 (refused 10)
+-- an Alloc and two Cmps before a PkgAlloc: 1
+abbrev pub b215 : Row
+b215 =
+    moves (pic ((const 1 8 ∷ op2 Alloc 2 1 ∷ op3 Cmp 3 1 1 ∷ op3 Cmp 4 1 3 ∷ op2 PkgAlloc 10 1 ∷ fork 0 1 2 ∷ [])
+    ∷ (op2 Output 5 5 ∷ []) ∷ (op3 Cat 1 1 1 ∷ []) ∷ []) (at (upto 8) []) (registers 11 (0 ∷ 0 ∷ 1
+    ∷ replicate 8 0 ++ 77 ∷ 77 ∷ 77 ∷ 77 ∷ [])) (operands 1 (1 ∷ 77 ∷ [])) (beside [] [] (1 ∷ []))) 42 8168 800
+    (done 1 14 1) ((1 ∷ 0 ∷ 1 ∷ 3 ∷ 14 ∷ 1 ∷ []) ∷ [])
+    (pic ((const 1 8 ∷ op2 PkgAlloc 10 1 ∷ fork 0 1 2 ∷ []) ∷ (op2 Alloc 11 1 ∷ op3 Cmp 12 1 1 ∷ op3 Cmp 13 1 12
+    ∷ op2 Output 5 5 ∷ []) ∷ (op3 Cat 1 1 1 ∷ []) ∷ []) (at (0 ∷ 4 ∷ 5 ∷ 1 ∷ 2 ∷ 3 ∷ 6 ∷ 7 ∷ []) []) (registers 14 (0
+    ∷ 0 ∷ 1 ∷ replicate 8 0 ++ 1 ∷ 0 ∷ 0 ∷ 77 ∷ [])) (operands 1 (1 ∷ 77 ∷ [])) (beside [] [] (1 ∷ [])))
 
--- 799 records: refused 10
-abbrev pub few-lent : Picture
-few-lent =
-    pic (
-    (op Const 0 (8 ∷ []) [] (absent ∷ 4294967039 ∷ 0 ∷ 1 ∷ 8 ∷ 3 ∷ 5 ∷ []) ∷ op Alloc 0 (4 ∷ 8 ∷ []) [] []
-    ∷ op Cat 0 (4 ∷ 8 ∷ 8 ∷ []) (0 ∷ 3 ∷ []) (45817 ∷ []) ∷ op SigVal 0 (7 ∷ 8 ∷ 8 ∷ []) [] []
-    ∷ op Store 2 (4 ∷ 8 ∷ []) [] [] ∷ op Index 0 (3 ∷ 4 ∷ 8 ∷ []) [] [] ∷ op Bin 4 (2 ∷ 8 ∷ 0 ∷ []) [] []
-    ∷ op CondBr 0 (1 ∷ []) [] (1 ∷ []) ∷ [])
-    ∷ (op Bin 4 (0 ∷ 8 ∷ 4 ∷ []) [] [] ∷ op CallNative 0 [] (3 ∷ 1 ∷ []) [] ∷ op Ret 0 (8 ∷ []) [] [] ∷ [])
-    ∷ (op Cat 0 (1 ∷ 1 ∷ 1 ∷ []) [] [] ∷ [])
-    ∷ [])
-    (at (upto 12) [])
-    (registers 9 (1 ∷ 0 ∷ 0 ∷ 0 ∷ 2 ∷ 0 ∷ 0 ∷ 1 ∷ 0 ∷ []))
-    (operands 4 (8 ∷ 4 ∷ 4 ∷ 7 ∷ []))
-    (beside [] [] (1 ∷ []))
+-- a read of the pool and two Cmps before a light native: 1
+abbrev pub b216 : Row
+b216 =
+    moves (pic ((const 1 8 ∷ op AddrOf 4 (9 ∷ []) [] [] ∷ op Load 3 (3 ∷ 9 ∷ []) [] [] ∷ op3 Cmp 4 1 3 ∷ op3 Cmp 5 1 4
+    ∷ op CallNative 2 (10 ∷ []) (0 ∷ 1 ∷ []) [] ∷ fork 0 1 2 ∷ []) ∷ (op2 Output 5 5 ∷ []) ∷ (op3 Cat 1 1 1 ∷ [])
+    ∷ []) (at (upto 9) []) (registers 11 (0 ∷ 0 ∷ 1 ∷ replicate 8 0 ++ 77 ∷ 77 ∷ 77 ∷ [])) (operands 1 (1 ∷ 77 ∷ []))
+    (beside [] [] (1 ∷ []))) 40 8160 800 (done 1 13 1) ((1 ∷ 0 ∷ 1 ∷ 3 ∷ 13 ∷ 1 ∷ []) ∷ [])
+    (pic ((const 1 8 ∷ op AddrOf 4 (9 ∷ []) [] [] ∷ op CallNative 2 (10 ∷ []) (0 ∷ 1 ∷ []) [] ∷ fork 0 1 2 ∷ [])
+    ∷ (op Load 3 (11 ∷ 9 ∷ []) [] [] ∷ op3 Cmp 12 1 11 ∷ op3 Cmp 11 1 12 ∷ op2 Output 11 11 ∷ []) ∷ (op3 Cat 1 1 1
+    ∷ []) ∷ []) (at (0 ∷ 1 ∷ 5 ∷ 6 ∷ 2 ∷ 3 ∷ 4 ∷ 7 ∷ 8 ∷ []) []) (registers 13 (0 ∷ 0 ∷ 1 ∷ replicate 10 0 ++ 77
+    ∷ [])) (operands 1 (1 ∷ 77 ∷ [])) (beside [] [] (1 ∷ [])))
 
-abbrev pub few : Row
-few = stays few-lent 30 8120 799 (refused 10)
+-- a read of the pool and two Cmps before a plain native: 1
+abbrev pub b217 : Row
+b217 =
+    moves (pic ((const 1 8 ∷ op AddrOf 4 (9 ∷ []) [] [] ∷ op Load 3 (3 ∷ 9 ∷ []) [] [] ∷ op3 Cmp 4 1 3 ∷ op3 Cmp 5 1 4
+    ∷ op0 CallNative ∷ fork 0 1 2 ∷ []) ∷ (op2 Output 5 5 ∷ []) ∷ (op3 Cat 1 1 1 ∷ []) ∷ []) (at (upto 9) [])
+    (registers 11 (0 ∷ 0 ∷ 1 ∷ replicate 8 0 ++ 77 ∷ 77 ∷ 77 ∷ [])) (operands 1 (1 ∷ 77 ∷ [])) (beside [] [] (1
+    ∷ []))) 40 8160 800 (done 1 13 1) ((1 ∷ 0 ∷ 1 ∷ 3 ∷ 13 ∷ 1 ∷ []) ∷ [])
+    (pic ((const 1 8 ∷ op AddrOf 4 (9 ∷ []) [] [] ∷ op0 CallNative ∷ fork 0 1 2 ∷ []) ∷ (op Load 3 (11 ∷ 9 ∷ []) [] []
+    ∷ op3 Cmp 12 1 11 ∷ op3 Cmp 11 1 12 ∷ op2 Output 11 11 ∷ []) ∷ (op3 Cat 1 1 1 ∷ []) ∷ []) (at (0 ∷ 1 ∷ 5 ∷ 6 ∷ 2
+    ∷ 3 ∷ 4 ∷ 7 ∷ 8 ∷ []) []) (registers 13 (0 ∷ 0 ∷ 1 ∷ replicate 10 0 ++ 77 ∷ [])) (operands 1 (1 ∷ 77 ∷ []))
+    (beside [] [] (1 ∷ [])))
+
+-- a read of the pool and two Cmps before a Drive: 1
+abbrev pub b218 : Row
+b218 =
+    moves (pic ((const 1 8 ∷ op AddrOf 4 (9 ∷ []) [] [] ∷ op Load 3 (3 ∷ 9 ∷ []) [] [] ∷ op3 Cmp 4 1 3 ∷ op3 Cmp 5 1 4
+    ∷ op Drive 0 (absent ∷ 1 ∷ 1 ∷ []) [] [] ∷ fork 0 1 2 ∷ []) ∷ (op2 Output 5 5 ∷ []) ∷ (op3 Cat 1 1 1 ∷ []) ∷ [])
+    (at (upto 9) []) (registers 11 (0 ∷ 0 ∷ 1 ∷ replicate 8 0 ++ 77 ∷ 77 ∷ 77 ∷ [])) (operands 1 (1 ∷ 77 ∷ []))
+    (beside [] [] (1 ∷ []))) 40 8160 800 (done 1 13 1) ((1 ∷ 0 ∷ 1 ∷ 3 ∷ 13 ∷ 1 ∷ []) ∷ [])
+    (pic ((const 1 8 ∷ op AddrOf 4 (9 ∷ []) [] [] ∷ op Drive 0 (absent ∷ 1 ∷ 1 ∷ []) [] [] ∷ fork 0 1 2 ∷ [])
+    ∷ (op Load 3 (11 ∷ 9 ∷ []) [] [] ∷ op3 Cmp 12 1 11 ∷ op3 Cmp 11 1 12 ∷ op2 Output 11 11 ∷ []) ∷ (op3 Cat 1 1 1
+    ∷ []) ∷ []) (at (0 ∷ 1 ∷ 5 ∷ 6 ∷ 2 ∷ 3 ∷ 4 ∷ 7 ∷ 8 ∷ []) []) (registers 13 (0 ∷ 0 ∷ 1 ∷ replicate 10 0 ++ 77
+    ∷ [])) (operands 1 (1 ∷ 77 ∷ [])) (beside [] [] (1 ∷ [])))
+
+-- a read of the pool and two Cmps before a SigAttr: 0
+abbrev pub b219 : Row
+b219 =
+    stays (pic ((const 1 8 ∷ op AddrOf 4 (9 ∷ []) [] [] ∷ op Load 3 (3 ∷ 9 ∷ []) [] [] ∷ op3 Cmp 4 1 3 ∷ op3 Cmp 5 1 4
+    ∷ op2 SigAttr 10 1 ∷ fork 0 1 2 ∷ []) ∷ (op2 Output 5 5 ∷ []) ∷ (op3 Cat 1 1 1 ∷ []) ∷ []) (at (upto 9) [])
+    (registers 11 (0 ∷ 0 ∷ 1 ∷ replicate 8 0 ++ 77 ∷ [])) (operands 1 (1 ∷ 77 ∷ [])) (beside [] [] (1
+    ∷ []))) 36 8144 800 (done 0 11 1)
+
+-- a read of the pool and two Cmps before an Output: 0
+abbrev pub b220 : Row
+b220 =
+    stays (pic ((const 1 8 ∷ op AddrOf 4 (9 ∷ []) [] [] ∷ op Load 3 (3 ∷ 9 ∷ []) [] [] ∷ op3 Cmp 4 1 3 ∷ op3 Cmp 5 1 4
+    ∷ op2 Output 1 1 ∷ fork 0 1 2 ∷ []) ∷ (op2 Output 5 5 ∷ []) ∷ (op3 Cat 1 1 1 ∷ []) ∷ []) (at (upto 9) [])
+    (registers 11 (0 ∷ 0 ∷ 1 ∷ replicate 8 0 ++ 77 ∷ [])) (operands 1 (1 ∷ 77 ∷ [])) (beside [] [] (1
+    ∷ []))) 36 8144 800 (done 0 11 1)
+
+-- a read of the pool and two Cmps before a PkgAlloc: 0
+abbrev pub b221 : Row
+b221 =
+    stays (pic ((const 1 8 ∷ op AddrOf 4 (9 ∷ []) [] [] ∷ op Load 3 (3 ∷ 9 ∷ []) [] [] ∷ op3 Cmp 4 1 3 ∷ op3 Cmp 5 1 4
+    ∷ op2 PkgAlloc 10 1 ∷ fork 0 1 2 ∷ []) ∷ (op2 Output 5 5 ∷ []) ∷ (op3 Cat 1 1 1 ∷ []) ∷ []) (at (upto 9) [])
+    (registers 11 (0 ∷ 0 ∷ 1 ∷ replicate 8 0 ++ 77 ∷ [])) (operands 1 (1 ∷ 77 ∷ [])) (beside [] [] (1
+    ∷ []))) 36 8144 800 (done 0 11 1)
+
+-- a read of the pool and two Cmps before a Zero of it: 0
+abbrev pub b222 : Row
+b222 =
+    stays (pic ((const 1 8 ∷ op AddrOf 4 (9 ∷ []) [] [] ∷ op Load 3 (3 ∷ 9 ∷ []) [] [] ∷ op3 Cmp 4 1 3 ∷ op3 Cmp 5 1 4
+    ∷ op1 Zero 9 ∷ fork 0 1 2 ∷ []) ∷ (op2 Output 5 5 ∷ []) ∷ (op3 Cat 1 1 1 ∷ []) ∷ []) (at (upto 9) [])
+    (registers 11 (0 ∷ 0 ∷ 1 ∷ replicate 8 0 ++ 77 ∷ [])) (operands 1 (1 ∷ 77 ∷ [])) (beside [] [] (1
+    ∷ []))) 36 8144 800 (done 0 11 1)
+
+-- a read of the pool and two Cmps before a CopyConst into it: 1
+abbrev pub b223 : Row
+b223 =
+    moves (pic ((const 1 8 ∷ op AddrOf 4 (9 ∷ []) [] [] ∷ op Load 3 (3 ∷ 9 ∷ []) [] [] ∷ op3 Cmp 4 1 3 ∷ op3 Cmp 5 1 4
+    ∷ op1 CopyConst 9 ∷ fork 0 1 2 ∷ []) ∷ (op2 Output 5 5 ∷ []) ∷ (op3 Cat 1 1 1 ∷ []) ∷ []) (at (upto 9) [])
+    (registers 11 (0 ∷ 0 ∷ 1 ∷ replicate 8 0 ++ 77 ∷ 77 ∷ 77 ∷ [])) (operands 1 (1 ∷ 77 ∷ [])) (beside [] [] (1
+    ∷ []))) 40 8160 800 (done 1 13 1) ((1 ∷ 0 ∷ 1 ∷ 3 ∷ 13 ∷ 1 ∷ []) ∷ [])
+    (pic ((const 1 8 ∷ op AddrOf 4 (9 ∷ []) [] [] ∷ op1 CopyConst 9 ∷ fork 0 1 2 ∷ []) ∷ (op Load 3 (11 ∷ 9
+    ∷ []) [] [] ∷ op3 Cmp 12 1 11 ∷ op3 Cmp 11 1 12 ∷ op2 Output 11 11 ∷ []) ∷ (op3 Cat 1 1 1 ∷ []) ∷ []) (at (0 ∷ 1
+    ∷ 5 ∷ 6 ∷ 2 ∷ 3 ∷ 4 ∷ 7 ∷ 8 ∷ []) []) (registers 13 (0 ∷ 0 ∷ 1 ∷ replicate 10 0 ++ 77 ∷ [])) (operands 1 (1 ∷ 77
+    ∷ [])) (beside [] [] (1 ∷ [])))
+
+-- a read of the pool and two Cmps before a CopyConst into something: 0
+abbrev pub b224 : Row
+b224 =
+    stays (pic ((const 1 8 ∷ op AddrOf 4 (9 ∷ []) [] [] ∷ op Load 3 (3 ∷ 9 ∷ []) [] [] ∷ op3 Cmp 4 1 3 ∷ op3 Cmp 5 1 4
+    ∷ op1 CopyConst 0 ∷ fork 0 1 2 ∷ []) ∷ (op2 Output 5 5 ∷ []) ∷ (op3 Cat 1 1 1 ∷ []) ∷ []) (at (upto 9) [])
+    (registers 11 (0 ∷ 0 ∷ 1 ∷ replicate 8 0 ++ 77 ∷ [])) (operands 1 (1 ∷ 77 ∷ [])) (beside [] [] (1
+    ∷ []))) 36 8144 800 (done 0 11 1)
+
+-- a read of the pool and two Cmps before a Copy into it: 1
+abbrev pub b225 : Row
+b225 =
+    moves (pic ((const 1 8 ∷ op AddrOf 4 (9 ∷ []) [] [] ∷ op Load 3 (3 ∷ 9 ∷ []) [] [] ∷ op3 Cmp 4 1 3 ∷ op3 Cmp 5 1 4
+    ∷ op3 Copy 9 1 1 ∷ fork 0 1 2 ∷ []) ∷ (op2 Output 5 5 ∷ []) ∷ (op3 Cat 1 1 1 ∷ []) ∷ []) (at (upto 9) [])
+    (registers 11 (0 ∷ 0 ∷ 1 ∷ replicate 8 0 ++ 77 ∷ 77 ∷ 77 ∷ [])) (operands 1 (1 ∷ 77 ∷ [])) (beside [] [] (1
+    ∷ []))) 40 8160 800 (done 1 13 1) ((1 ∷ 0 ∷ 1 ∷ 3 ∷ 13 ∷ 1 ∷ []) ∷ [])
+    (pic ((const 1 8 ∷ op AddrOf 4 (9 ∷ []) [] [] ∷ op3 Copy 9 1 1 ∷ fork 0 1 2 ∷ []) ∷ (op Load 3 (11 ∷ 9 ∷ []) [] []
+    ∷ op3 Cmp 12 1 11 ∷ op3 Cmp 11 1 12 ∷ op2 Output 11 11 ∷ []) ∷ (op3 Cat 1 1 1 ∷ []) ∷ []) (at (0 ∷ 1 ∷ 5 ∷ 6 ∷ 2
+    ∷ 3 ∷ 4 ∷ 7 ∷ 8 ∷ []) []) (registers 13 (0 ∷ 0 ∷ 1 ∷ replicate 10 0 ++ 77 ∷ [])) (operands 1 (1 ∷ 77 ∷ []))
+    (beside [] [] (1 ∷ [])))
+
+-- a read of the pool and two Cmps before a Copy into something: 0
+abbrev pub b226 : Row
+b226 =
+    stays (pic ((const 1 8 ∷ op AddrOf 4 (9 ∷ []) [] [] ∷ op Load 3 (3 ∷ 9 ∷ []) [] [] ∷ op3 Cmp 4 1 3 ∷ op3 Cmp 5 1 4
+    ∷ op3 Copy 0 1 1 ∷ fork 0 1 2 ∷ []) ∷ (op2 Output 5 5 ∷ []) ∷ (op3 Cat 1 1 1 ∷ []) ∷ []) (at (upto 9) [])
+    (registers 11 (0 ∷ 0 ∷ 1 ∷ replicate 8 0 ++ 77 ∷ [])) (operands 1 (1 ∷ 77 ∷ [])) (beside [] [] (1
+    ∷ []))) 36 8144 800 (done 0 11 1)
+
+-- a read of the pool and two Cmps before an LSet into it: 1
+abbrev pub b227 : Row
+b227 =
+    moves (pic ((const 1 8 ∷ op AddrOf 4 (9 ∷ []) [] [] ∷ op Load 3 (3 ∷ 9 ∷ []) [] [] ∷ op3 Cmp 4 1 3 ∷ op3 Cmp 5 1 4
+    ∷ op3 LSet 9 1 1 ∷ fork 0 1 2 ∷ []) ∷ (op2 Output 5 5 ∷ []) ∷ (op3 Cat 1 1 1 ∷ []) ∷ []) (at (upto 9) [])
+    (registers 11 (0 ∷ 0 ∷ 1 ∷ replicate 8 0 ++ 77 ∷ 77 ∷ 77 ∷ [])) (operands 1 (1 ∷ 77 ∷ [])) (beside [] [] (1
+    ∷ []))) 40 8160 800 (done 1 13 1) ((1 ∷ 0 ∷ 1 ∷ 3 ∷ 13 ∷ 1 ∷ []) ∷ [])
+    (pic ((const 1 8 ∷ op AddrOf 4 (9 ∷ []) [] [] ∷ op3 LSet 9 1 1 ∷ fork 0 1 2 ∷ []) ∷ (op Load 3 (11 ∷ 9 ∷ []) [] []
+    ∷ op3 Cmp 12 1 11 ∷ op3 Cmp 11 1 12 ∷ op2 Output 11 11 ∷ []) ∷ (op3 Cat 1 1 1 ∷ []) ∷ []) (at (0 ∷ 1 ∷ 5 ∷ 6 ∷ 2
+    ∷ 3 ∷ 4 ∷ 7 ∷ 8 ∷ []) []) (registers 13 (0 ∷ 0 ∷ 1 ∷ replicate 10 0 ++ 77 ∷ [])) (operands 1 (1 ∷ 77 ∷ []))
+    (beside [] [] (1 ∷ [])))
+
+-- a read of the pool and two Cmps before an LSet into something: 0
+abbrev pub b228 : Row
+b228 =
+    stays (pic ((const 1 8 ∷ op AddrOf 4 (9 ∷ []) [] [] ∷ op Load 3 (3 ∷ 9 ∷ []) [] [] ∷ op3 Cmp 4 1 3 ∷ op3 Cmp 5 1 4
+    ∷ op3 LSet 0 1 1 ∷ fork 0 1 2 ∷ []) ∷ (op2 Output 5 5 ∷ []) ∷ (op3 Cat 1 1 1 ∷ []) ∷ []) (at (upto 9) [])
+    (registers 11 (0 ∷ 0 ∷ 1 ∷ replicate 8 0 ++ 77 ∷ [])) (operands 1 (1 ∷ 77 ∷ [])) (beside [] [] (1
+    ∷ []))) 36 8144 800 (done 0 11 1)
+
+-- a read of the pool and two Cmps before an LFill into it: 1
+abbrev pub b229 : Row
+b229 =
+    moves (pic ((const 1 8 ∷ op AddrOf 4 (9 ∷ []) [] [] ∷ op Load 3 (3 ∷ 9 ∷ []) [] [] ∷ op3 Cmp 4 1 3 ∷ op3 Cmp 5 1 4
+    ∷ op4 LFill 9 1 1 1 ∷ fork 0 1 2 ∷ []) ∷ (op2 Output 5 5 ∷ []) ∷ (op3 Cat 1 1 1 ∷ []) ∷ []) (at (upto 9) [])
+    (registers 11 (0 ∷ 0 ∷ 1 ∷ replicate 8 0 ++ 77 ∷ 77 ∷ 77 ∷ [])) (operands 1 (1 ∷ 77 ∷ [])) (beside [] [] (1
+    ∷ []))) 40 8160 800 (done 1 13 1) ((1 ∷ 0 ∷ 1 ∷ 3 ∷ 13 ∷ 1 ∷ []) ∷ [])
+    (pic ((const 1 8 ∷ op AddrOf 4 (9 ∷ []) [] [] ∷ op4 LFill 9 1 1 1 ∷ fork 0 1 2 ∷ []) ∷ (op Load 3 (11 ∷ 9
+    ∷ []) [] [] ∷ op3 Cmp 12 1 11 ∷ op3 Cmp 11 1 12 ∷ op2 Output 11 11 ∷ []) ∷ (op3 Cat 1 1 1 ∷ []) ∷ []) (at (0 ∷ 1
+    ∷ 5 ∷ 6 ∷ 2 ∷ 3 ∷ 4 ∷ 7 ∷ 8 ∷ []) []) (registers 13 (0 ∷ 0 ∷ 1 ∷ replicate 10 0 ++ 77 ∷ [])) (operands 1 (1 ∷ 77
+    ∷ [])) (beside [] [] (1 ∷ [])))
+
+-- a read of the pool and two Cmps before an LCopy into it: 1
+abbrev pub b230 : Row
+b230 =
+    moves (pic ((const 1 8 ∷ op AddrOf 4 (9 ∷ []) [] [] ∷ op Load 3 (3 ∷ 9 ∷ []) [] [] ∷ op3 Cmp 4 1 3 ∷ op3 Cmp 5 1 4
+    ∷ op5 LCopy 9 1 1 1 1 ∷ fork 0 1 2 ∷ []) ∷ (op2 Output 5 5 ∷ []) ∷ (op3 Cat 1 1 1 ∷ []) ∷ []) (at (upto 9) [])
+    (registers 11 (0 ∷ 0 ∷ 1 ∷ replicate 8 0 ++ 77 ∷ 77 ∷ 77 ∷ [])) (operands 1 (1 ∷ 77 ∷ [])) (beside [] [] (1
+    ∷ []))) 40 8160 800 (done 1 13 1) ((1 ∷ 0 ∷ 1 ∷ 3 ∷ 13 ∷ 1 ∷ []) ∷ [])
+    (pic ((const 1 8 ∷ op AddrOf 4 (9 ∷ []) [] [] ∷ op5 LCopy 9 1 1 1 1 ∷ fork 0 1 2 ∷ []) ∷ (op Load 3 (11 ∷ 9
+    ∷ []) [] [] ∷ op3 Cmp 12 1 11 ∷ op3 Cmp 11 1 12 ∷ op2 Output 11 11 ∷ []) ∷ (op3 Cat 1 1 1 ∷ []) ∷ []) (at (0 ∷ 1
+    ∷ 5 ∷ 6 ∷ 2 ∷ 3 ∷ 4 ∷ 7 ∷ 8 ∷ []) []) (registers 13 (0 ∷ 0 ∷ 1 ∷ replicate 10 0 ++ 77 ∷ [])) (operands 1 (1 ∷ 77
+    ∷ [])) (beside [] [] (1 ∷ [])))
+
+-- a read of the pool and two Cmps before a LogicOp into it: 1
+abbrev pub b231 : Row
+b231 =
+    moves (pic ((const 1 8 ∷ op AddrOf 4 (9 ∷ []) [] [] ∷ op Load 3 (3 ∷ 9 ∷ []) [] [] ∷ op3 Cmp 4 1 3 ∷ op3 Cmp 5 1 4
+    ∷ op4 LogicOp 9 1 1 1 ∷ fork 0 1 2 ∷ []) ∷ (op2 Output 5 5 ∷ []) ∷ (op3 Cat 1 1 1 ∷ []) ∷ []) (at (upto 9) [])
+    (registers 11 (0 ∷ 0 ∷ 1 ∷ replicate 8 0 ++ 77 ∷ 77 ∷ 77 ∷ [])) (operands 1 (1 ∷ 77 ∷ [])) (beside [] [] (1
+    ∷ []))) 40 8160 800 (done 1 13 1) ((1 ∷ 0 ∷ 1 ∷ 3 ∷ 13 ∷ 1 ∷ []) ∷ [])
+    (pic ((const 1 8 ∷ op AddrOf 4 (9 ∷ []) [] [] ∷ op4 LogicOp 9 1 1 1 ∷ fork 0 1 2 ∷ []) ∷ (op Load 3 (11 ∷ 9
+    ∷ []) [] [] ∷ op3 Cmp 12 1 11 ∷ op3 Cmp 11 1 12 ∷ op2 Output 11 11 ∷ []) ∷ (op3 Cat 1 1 1 ∷ []) ∷ []) (at (0 ∷ 1
+    ∷ 5 ∷ 6 ∷ 2 ∷ 3 ∷ 4 ∷ 7 ∷ 8 ∷ []) []) (registers 13 (0 ∷ 0 ∷ 1 ∷ replicate 10 0 ++ 77 ∷ [])) (operands 1 (1 ∷ 77
+    ∷ [])) (beside [] [] (1 ∷ [])))
+
+-- a result read behind x, in the chain: 0
+abbrev pub b232 : Row
+b232 =
+    stays (pic ((const 1 8 ∷ op2 Alloc 2 1 ∷ op3 Cmp 3 1 1 ∷ op3 Cmp 4 1 3 ∷ op3 Cmp 5 1 4 ∷ op3 Cmp 6 1 5
+    ∷ op3 Cmp 7 1 6 ∷ op3 Cmp 8 1 7 ∷ op3 Cat 2 1 1 ∷ br 3 ∷ []) ∷ (op2 Output 2 1 ∷ op0 Ret ∷ []) ∷ (op0 Ret ∷ [])
+    ∷ (op2 Output 8 1 ∷ fork 0 1 2 ∷ []) ∷ []) (at (upto 15) []) (registers 9 (0 ∷ 0 ∷ 1 ∷ replicate 6 0 ++ 77 ∷ []))
+    (operands 0 (77 ∷ [])) (beside [] [] [])) 36 8144 800 (done 0 9 0)
 
 abbrev pub rows11 : List Row
 rows11 =
-    d45 ∷ d47 ∷ d48 ∷ d49 ∷ d50 ∷ d51 ∷ d52 ∷ d54 ∷ d56 ∷ w64 ∷ w32 ∷ few
-    ∷ []
+    b194 ∷ b195 ∷ b196 ∷ b197 ∷ b198 ∷ b199 ∷ b200 ∷ b201 ∷ b202 ∷ b203 ∷ b204 ∷ b205 ∷ b206 ∷ b207 ∷ b208 ∷ b209
+    ∷ b210 ∷ b211 ∷ b212 ∷ b213 ∷ b214 ∷ b215 ∷ b216 ∷ b217 ∷ b218 ∷ b219 ∷ b220 ∷ b221 ∷ b222 ∷ b223 ∷ b224 ∷ b225
+    ∷ b226 ∷ b227 ∷ b228 ∷ b229 ∷ b230 ∷ b231 ∷ b232 ∷ []

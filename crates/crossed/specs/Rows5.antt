@@ -1,357 +1,373 @@
--- Pictures by seed and what the Rust makes of them, page 5: of the first 4000 seeds of the generator, those that show
--- something new. Printed by `compare crossed` in tests/rust, and again by its compare.sh: not to be edited.
--- Assumes nothing.
-use mathlib.Core.List.{List, [], _∷_}
+-- Refused pictures, page 5: one for each way to damage a generated one, with tests/rust's judgement. Printed by
+-- `compare crossed` in tests/rust, and again by its compare.sh: not to be edited. Assumes nothing.
+use mathlib.Core.List.{List, [], _∷_, _++_}
+use lib.ListN.{replicate}
 use Rattle.words.specs.Lists.{upto}
-use Rattle.model.specs.Kinds.{AddrOf, Alloc, Bin, BoolOp, BoundsLen, Br, Call, CallNative, CallProt, Case}
-use Rattle.model.specs.Kinds.{Cat, Check, Cmp, CondBr, Const, ConstF, Cover, Deref, DopeLen, FCheck}
-use Rattle.model.specs.Kinds.{IToF, Index, LGet, LayoutOf, Load, LogicOp, MakeDope, Move, NewFrame, Now}
-use Rattle.model.specs.Kinds.{Output, Pos, Report, Ret, Select, SigReadScalar, SigVal, Store, Un, Unreachable}
-use Rattle.model.specs.Kinds.{WaitOn}
-use Rattle.model.specs.Picture.{Picture, absent}
+use Rattle.model.specs.Kinds.{AddrOf, Alloc, Bin, Br, CallIndirect, CallNative, Case, Cat, Check, Cmp}
+use Rattle.model.specs.Kinds.{CondBr, Const, Index, LayoutOf, MakeDope, Output, Ret, SigGather, SigVal, Stmt}
+use Rattle.model.specs.Kinds.{Store, Unreachable}
+use Rattle.model.specs.Picture.{absent}
 use Rattle.model.specs.Build.{op}
-use Rattle.crossed.specs.Row.{Row, pic, at, registers, operands, beside, moves, stays, done, short}
+use Rattle.crossed.specs.Row.{Row, pic, at, registers, operands, beside, op0, op1, op2, op3, fork, const, bounded, longer, stays, refused}
 
--- seed 173: a register reused, chain of 3, done 1, moves with replay, moves without vias, new list, target before x,
--- target renamed, target t
-abbrev pub s173-lent : Picture
-s173-lent =
-    pic (
-    (op Report 0 (5 ∷ 5 ∷ 0 ∷ []) [] [] ∷ op Ret 0 [] [] [] ∷ [])
-    ∷ (op Cat 0 (1 ∷ 1 ∷ 1 ∷ []) [] [] ∷ [])
-    ∷ (op Const 0 (6 ∷ []) [] (40 ∷ []) ∷ op AddrOf 0 (7 ∷ []) [] [] ∷ op DopeLen 0 (5 ∷ 7 ∷ []) [] []
-    ∷ op Alloc 0 (4 ∷ 5 ∷ []) [] [] ∷ op Cat 0 (4 ∷ 6 ∷ 5 ∷ []) (0 ∷ 2 ∷ []) [] ∷ op LayoutOf 0 (2 ∷ 7 ∷ []) [] []
-    ∷ op DopeLen 0 (3 ∷ 7 ∷ []) [] (5 ∷ 6 ∷ 1 ∷ 5 ∷ 2 ∷ 6 ∷ 6 ∷ [])
-    ∷ op Load 2 (3 ∷ 2 ∷ []) [] (4 ∷ 5 ∷ 4 ∷ 4 ∷ 6 ∷ 2 ∷ 1 ∷ []) ∷ op Br 0 [] [] (5 ∷ []) ∷ [])
-    ∷ (op FCheck 0 (6 ∷ 1 ∷ 1 ∷ []) [] (3 ∷ 0 ∷ 6 ∷ 1 ∷ 1 ∷ 6 ∷ []) ∷ op Ret 0 [] [] (3 ∷ 7 ∷ 3 ∷ 6 ∷ 5 ∷ 0 ∷ 4 ∷ []) ∷ [])
-    ∷ (op CondBr 0 (6 ∷ []) [] (0 ∷ 3 ∷ []) ∷ [])
-    ∷ (op Br 0 [] [] (4 ∷ []) ∷ [])
-    ∷ [])
-    (at (upto 16) [])
-    (registers 8 (0 ∷ 0 ∷ 1 ∷ 3 ∷ 0 ∷ 0 ∷ 1 ∷ 0 ∷ 77 ∷ 9 ∷ 9 ∷ 9 ∷ 77 ∷ 7 ∷ 77 ∷ 77 ∷ 9 ∷ []))
-    (operands 2 (7 ∷ 5 ∷ absent ∷ 0 ∷ 0 ∷ 0 ∷ 999 ∷ 999 ∷ []))
-    (beside [] [] (0 ∷ []))
+-- seed 4, more registers in use than lent: refused 1
+abbrev pub d13 : Row
+d13 =
+    stays (pic ((op Const 0 (8 ∷ []) [] (absent ∷ 4294967039 ∷ 0 ∷ 1 ∷ 8 ∷ 3 ∷ 5 ∷ []) ∷ op2 Alloc 4 8 ∷ op Cat 0 (4
+    ∷ 8 ∷ 8 ∷ []) (0 ∷ 3 ∷ []) (45817 ∷ []) ∷ op3 SigVal 7 8 8 ∷ op Store 2 (4 ∷ 8 ∷ []) [] [] ∷ op3 Index 3 4 8
+    ∷ op Bin 4 (2 ∷ 8 ∷ 0 ∷ []) [] [] ∷ op CondBr 0 (1 ∷ []) [] (1 ∷ []) ∷ []) ∷ (op Bin 4 (0 ∷ 8 ∷ 4 ∷ []) [] []
+    ∷ op CallNative 0 [] (3 ∷ 1 ∷ []) [] ∷ op1 Ret 8 ∷ []) ∷ (op3 Cat 1 1 1 ∷ []) ∷ []) (at (upto 12) [])
+    (registers 10 (1 ∷ 0 ∷ 0 ∷ 0 ∷ 2 ∷ 0 ∷ 0 ∷ 1 ∷ 0 ∷ [])) (operands 4 (8 ∷ 4 ∷ 4 ∷ 7 ∷ [])) (beside [] [] (1
+    ∷ []))) 30 8120 800 (refused 1)
 
-abbrev pub s173-left : Picture
-s173-left =
-    pic (
-    (op DopeLen 0 (8 ∷ 7 ∷ []) [] [] ∷ op Alloc 0 (9 ∷ 8 ∷ []) [] [] ∷ op Cat 0 (9 ∷ 6 ∷ 8 ∷ []) (2 ∷ 2 ∷ []) []
-    ∷ op LayoutOf 0 (10 ∷ 7 ∷ []) [] [] ∷ op DopeLen 0 (11 ∷ 7 ∷ []) [] (5 ∷ 6 ∷ 1 ∷ 5 ∷ 2 ∷ 6 ∷ 6 ∷ [])
-    ∷ op Load 2 (11 ∷ 10 ∷ []) [] (4 ∷ 5 ∷ 4 ∷ 4 ∷ 6 ∷ 2 ∷ 1 ∷ []) ∷ op Report 0 (8 ∷ 8 ∷ 0 ∷ []) [] []
-    ∷ op Ret 0 [] [] [] ∷ [])
-    ∷ (op Cat 0 (1 ∷ 1 ∷ 1 ∷ []) [] [] ∷ [])
-    ∷ (op Const 0 (6 ∷ []) [] (40 ∷ []) ∷ op AddrOf 0 (7 ∷ []) [] [] ∷ op Br 0 [] [] (5 ∷ []) ∷ [])
-    ∷ (op FCheck 0 (6 ∷ 1 ∷ 1 ∷ []) [] (3 ∷ 0 ∷ 6 ∷ 1 ∷ 1 ∷ 6 ∷ []) ∷ op Ret 0 [] [] (3 ∷ 7 ∷ 3 ∷ 6 ∷ 5 ∷ 0 ∷ 4 ∷ []) ∷ [])
-    ∷ (op CondBr 0 (6 ∷ []) [] (0 ∷ 3 ∷ []) ∷ [])
-    ∷ (op Br 0 [] [] (4 ∷ []) ∷ [])
-    ∷ [])
-    (at (5 ∷ 6 ∷ 7 ∷ 8 ∷ 9 ∷ 10 ∷ 0 ∷ 1 ∷ 2 ∷ 3 ∷ 4 ∷ 11 ∷ 12 ∷ 13 ∷ 14 ∷ 15 ∷ []) [])
-    (registers 12 (0 ∷ 0 ∷ 1 ∷ 3 ∷ 0 ∷ 0 ∷ 1 ∷ 0 ∷ 0 ∷ 0 ∷ 1 ∷ 3 ∷ 77 ∷ 7 ∷ 77 ∷ 77 ∷ 9 ∷ []))
-    (operands 4 (7 ∷ 5 ∷ 7 ∷ 8 ∷ 0 ∷ 0 ∷ 999 ∷ 999 ∷ []))
-    (beside [] [] (0 ∷ []))
+-- seed 4, more operands in use than lent: refused 1
+abbrev pub d14 : Row
+d14 =
+    stays (pic ((op Const 0 (8 ∷ []) [] (absent ∷ 4294967039 ∷ 0 ∷ 1 ∷ 8 ∷ 3 ∷ 5 ∷ []) ∷ op2 Alloc 4 8 ∷ op Cat 0 (4
+    ∷ 8 ∷ 8 ∷ []) (0 ∷ 3 ∷ []) (45817 ∷ []) ∷ op3 SigVal 7 8 8 ∷ op Store 2 (4 ∷ 8 ∷ []) [] [] ∷ op3 Index 3 4 8
+    ∷ op Bin 4 (2 ∷ 8 ∷ 0 ∷ []) [] [] ∷ op CondBr 0 (1 ∷ []) [] (1 ∷ []) ∷ []) ∷ (op Bin 4 (0 ∷ 8 ∷ 4 ∷ []) [] []
+    ∷ op CallNative 0 [] (3 ∷ 1 ∷ []) [] ∷ op1 Ret 8 ∷ []) ∷ (op3 Cat 1 1 1 ∷ []) ∷ []) (at (upto 12) []) (registers 9
+    (1 ∷ 0 ∷ 0 ∷ 0 ∷ 2 ∷ 0 ∷ 0 ∷ 1 ∷ 0 ∷ [])) (operands 5 (8 ∷ 4 ∷ 4 ∷ 7 ∷ [])) (beside [] [] (1 ∷ []))) 30 8120 800
+    (refused 1)
 
-abbrev pub s173 : Row
-s173 = moves s173-lent 58 8232 800 (done 1 12 4) ((1 ∷ 2 ∷ 0 ∷ 6 ∷ 12 ∷ 4 ∷ []) ∷ []) s173-left
+-- seed 4, a record word too few: refused 2
+abbrev pub d15 : Row
+d15 =
+    stays (bounded (0 ∷ 8 ∷ 8 ∷ 11 ∷ 11 ∷ 12 ∷ []) (longer (39 ∷ 0 ∷ 1 ∷ 1 ∷ 1 ∷ absent ∷ absent ∷ replicate 8 0) (pic
+    ((op Const 0 (8 ∷ []) [] (absent ∷ 4294967039 ∷ 0 ∷ 1 ∷ 8 ∷ 3 ∷ 5 ∷ []) ∷ op2 Alloc 4 8 ∷ op Cat 0 (4 ∷ 8 ∷ 8
+    ∷ []) (0 ∷ 3 ∷ []) (45817 ∷ []) ∷ op3 SigVal 7 8 8 ∷ op Store 2 (4 ∷ 8 ∷ []) [] [] ∷ op3 Index 3 4 8 ∷ op Bin 4 (2
+    ∷ 8 ∷ 0 ∷ []) [] [] ∷ op CondBr 0 (1 ∷ []) [] (1 ∷ []) ∷ op Bin 4 (0 ∷ 8 ∷ 4 ∷ []) [] [] ∷ op CallNative 0 [] (3
+    ∷ 1 ∷ []) [] ∷ op1 Ret 8 ∷ []) ∷ []) (at (upto 12) []) (registers 9 (1 ∷ 0 ∷ 0 ∷ 0 ∷ 2 ∷ 0 ∷ 0 ∷ 1 ∷ 0 ∷ []))
+    (operands 4 (8 ∷ 4 ∷ 4 ∷ 7 ∷ [])) (beside [] [] (1 ∷ []))))) 30 8120 800 (refused 2)
 
--- seed 204: done 0, rule 5 on barriers decides
-abbrev pub s204-lent : Picture
-s204-lent =
-    pic (
-    (op Const 0 (6 ∷ []) [] (64 ∷ 0 ∷ 2 ∷ 3 ∷ 3 ∷ 5 ∷ 8 ∷ []) ∷ op Br 0 [] [] (5 ∷ []) ∷ [])
-    ∷ (op Br 0 [] [] (7 ∷ []) ∷ [])
-    ∷ (op Report 0 (2 ∷ 4 ∷ 1 ∷ []) [] [] ∷ op Unreachable 0 [] [] [] ∷ [])
-    ∷ (op Ret 0 [] [] (8 ∷ 1 ∷ 3 ∷ 7 ∷ 2 ∷ 2 ∷ []) ∷ [])
-    ∷ (op Cat 0 (1 ∷ 1 ∷ 1 ∷ []) [] [] ∷ [])
-    ∷ (op Bin 1 (4 ∷ 6 ∷ 6 ∷ []) [] [] ∷ op Check 3 (6 ∷ 4 ∷ 6 ∷ []) [] [] ∷ op Alloc 0 (2 ∷ 6 ∷ []) [] []
-    ∷ op Cat 0 (2 ∷ 6 ∷ 6 ∷ []) [] (26786 ∷ []) ∷ op Br 0 [] [] (6 ∷ []) ∷ [])
-    ∷ (op Br 0 [] [] (8 ∷ []) ∷ [])
-    ∷ (op CallProt 0 (4 ∷ []) (0 ∷ 1 ∷ []) [] ∷ op CondBr 0 (6 ∷ []) [] (2 ∷ 3 ∷ 1 ∷ 5 ∷ 3 ∷ 3 ∷ 6 ∷ []) ∷ [])
-    ∷ (op Br 0 [] [] (1 ∷ []) ∷ [])
-    ∷ [])
-    (at (upto 16) [])
-    (registers 7 (4 ∷ 0 ∷ 1 ∷ 0 ∷ 0 ∷ 1 ∷ 4 ∷ []))
-    (operands 1 (4 ∷ []))
-    (beside [] [] (2 ∷ []))
+-- seed 4, a record word too many: refused 2
+abbrev pub d16 : Row
+d16 =
+    stays (longer (0 ∷ []) (pic ((op Const 0 (8 ∷ []) [] (absent ∷ 4294967039 ∷ 0 ∷ 1 ∷ 8 ∷ 3 ∷ 5 ∷ [])
+    ∷ op2 Alloc 4 8 ∷ op Cat 0 (4 ∷ 8 ∷ 8 ∷ []) (0 ∷ 3 ∷ []) (45817 ∷ []) ∷ op3 SigVal 7 8 8 ∷ op Store 2 (4 ∷ 8
+    ∷ []) [] [] ∷ op3 Index 3 4 8 ∷ op Bin 4 (2 ∷ 8 ∷ 0 ∷ []) [] [] ∷ op CondBr 0 (1 ∷ []) [] (1 ∷ []) ∷ [])
+    ∷ (op Bin 4 (0 ∷ 8 ∷ 4 ∷ []) [] [] ∷ op CallNative 0 [] (3 ∷ 1 ∷ []) [] ∷ op1 Ret 8 ∷ []) ∷ (op3 Cat 1 1 1 ∷ [])
+    ∷ []) (at (upto 12) []) (registers 9 (1 ∷ 0 ∷ 0 ∷ 0 ∷ 2 ∷ 0 ∷ 0 ∷ 1 ∷ 0 ∷ [])) (operands 4 (8 ∷ 4 ∷ 4 ∷ 7 ∷ []))
+    (beside [] [] (1 ∷ [])))) 30 8120 800 (refused 2)
 
-abbrev pub s204 : Row
-s204 = stays s204-lent 50 8200 800 (done 0 7 1)
+-- seed 4, a loc too many: refused 2
+abbrev pub d17 : Row
+d17 =
+    stays (pic ((op Const 0 (8 ∷ []) [] (absent ∷ 4294967039 ∷ 0 ∷ 1 ∷ 8 ∷ 3 ∷ 5 ∷ []) ∷ op2 Alloc 4 8 ∷ op Cat 0 (4
+    ∷ 8 ∷ 8 ∷ []) (0 ∷ 3 ∷ []) (45817 ∷ []) ∷ op3 SigVal 7 8 8 ∷ op Store 2 (4 ∷ 8 ∷ []) [] [] ∷ op3 Index 3 4 8
+    ∷ op Bin 4 (2 ∷ 8 ∷ 0 ∷ []) [] [] ∷ op CondBr 0 (1 ∷ []) [] (1 ∷ []) ∷ []) ∷ (op Bin 4 (0 ∷ 8 ∷ 4 ∷ []) [] []
+    ∷ op CallNative 0 [] (3 ∷ 1 ∷ []) [] ∷ op1 Ret 8 ∷ []) ∷ (op3 Cat 1 1 1 ∷ []) ∷ []) (at (upto 12 ++ 0 ∷ []) [])
+    (registers 9 (1 ∷ 0 ∷ 0 ∷ 0 ∷ 2 ∷ 0 ∷ 0 ∷ 1 ∷ 0 ∷ [])) (operands 4 (8 ∷ 4 ∷ 4 ∷ 7 ∷ [])) (beside [] [] (1
+    ∷ []))) 30 8120 800 (refused 2)
 
--- seed 211: done 0, rule 5 on barriers decides
-abbrev pub s211-lent : Picture
-s211-lent =
-    pic (
-    (op Const 0 (6 ∷ []) [] (18 ∷ []) ∷ op AddrOf 1 (7 ∷ []) [] []
-    ∷ op LogicOp 0 (6 ∷ 6 ∷ 6 ∷ 6 ∷ []) [] (6 ∷ 3 ∷ 6 ∷ 4 ∷ 1 ∷ 2 ∷ 8 ∷ []) ∷ op Alloc 0 (2 ∷ 6 ∷ []) [] []
-    ∷ op Cat 0 (2 ∷ 6 ∷ 6 ∷ []) [] (9902 ∷ 4 ∷ 6 ∷ 1 ∷ 1 ∷ 3 ∷ 2 ∷ []) ∷ op SigReadScalar 0 (3 ∷ 2 ∷ []) [] []
-    ∷ op Store 1 (2 ∷ 2 ∷ []) [] [] ∷ op Load 1 (5 ∷ 2 ∷ []) [] []
-    ∷ op Bin 4 (4 ∷ 6 ∷ 6 ∷ []) [] (7 ∷ 5 ∷ 2 ∷ 5 ∷ 2 ∷ 2 ∷ []) ∷ op Select 0 (3 ∷ 6 ∷ 6 ∷ 6 ∷ []) [] []
-    ∷ op Cmp 0 (3 ∷ 3 ∷ 1 ∷ []) [] [] ∷ op Cat 1 (2 ∷ 3 ∷ 6 ∷ []) [] [] ∷ op Call 0 (0 ∷ []) (0 ∷ 1 ∷ []) []
-    ∷ op Br 0 [] [] (3 ∷ []) ∷ [])
-    ∷ (op Un 0 (1 ∷ 6 ∷ []) [] [] ∷ op CondBr 0 (6 ∷ []) [] (2 ∷ 5 ∷ []) ∷ [])
-    ∷ (op Ret 0 [] [] [] ∷ [])
-    ∷ (op CondBr 0 (0 ∷ []) [] (4 ∷ 1 ∷ []) ∷ [])
-    ∷ (op Ret 0 [] [] [] ∷ [])
-    ∷ (op Output 0 (0 ∷ 0 ∷ []) [] [] ∷ op Ret 0 [] [] [] ∷ [])
-    ∷ [])
-    (at (upto 21) [])
-    (registers 8 (1 ∷ 0 ∷ 1 ∷ 7 ∷ 0 ∷ 7 ∷ 0 ∷ 0 ∷ []))
-    (operands 1 (0 ∷ []))
-    (beside [] [] [])
+-- seed 4, a via too few: refused 2
+abbrev pub d18 : Row
+d18 =
+    stays (pic ((op Const 0 (8 ∷ []) [] (absent ∷ 4294967039 ∷ 0 ∷ 1 ∷ 8 ∷ 3 ∷ 5 ∷ []) ∷ op2 Alloc 4 8 ∷ op Cat 0 (4
+    ∷ 8 ∷ 8 ∷ []) (0 ∷ 3 ∷ []) (45817 ∷ []) ∷ op3 SigVal 7 8 8 ∷ op Store 2 (4 ∷ 8 ∷ []) [] [] ∷ op3 Index 3 4 8
+    ∷ op Bin 4 (2 ∷ 8 ∷ 0 ∷ []) [] [] ∷ op CondBr 0 (1 ∷ []) [] (1 ∷ []) ∷ []) ∷ (op Bin 4 (0 ∷ 8 ∷ 4 ∷ []) [] []
+    ∷ op CallNative 0 [] (3 ∷ 1 ∷ []) [] ∷ op1 Ret 8 ∷ []) ∷ (op3 Cat 1 1 1 ∷ []) ∷ []) (at (upto 12)
+    (replicate 11 3)) (registers 9 (1 ∷ 0 ∷ 0 ∷ 0 ∷ 2 ∷ 0 ∷ 0 ∷ 1 ∷ 0 ∷ [])) (operands 4 (8 ∷ 4 ∷ 4 ∷ 7 ∷ []))
+    (beside [] [] (1 ∷ []))) 30 8120 800 (refused 2)
 
-abbrev pub s211 : Row
-s211 = stays s211-lent 40 8160 800 (done 0 8 1)
+-- seed 4, a via too many: refused 2
+abbrev pub d19 : Row
+d19 =
+    stays (pic ((op Const 0 (8 ∷ []) [] (absent ∷ 4294967039 ∷ 0 ∷ 1 ∷ 8 ∷ 3 ∷ 5 ∷ []) ∷ op2 Alloc 4 8 ∷ op Cat 0 (4
+    ∷ 8 ∷ 8 ∷ []) (0 ∷ 3 ∷ []) (45817 ∷ []) ∷ op3 SigVal 7 8 8 ∷ op Store 2 (4 ∷ 8 ∷ []) [] [] ∷ op3 Index 3 4 8
+    ∷ op Bin 4 (2 ∷ 8 ∷ 0 ∷ []) [] [] ∷ op CondBr 0 (1 ∷ []) [] (1 ∷ []) ∷ []) ∷ (op Bin 4 (0 ∷ 8 ∷ 4 ∷ []) [] []
+    ∷ op CallNative 0 [] (3 ∷ 1 ∷ []) [] ∷ op1 Ret 8 ∷ []) ∷ (op3 Cat 1 1 1 ∷ []) ∷ []) (at (upto 12)
+    (replicate 13 3)) (registers 9 (1 ∷ 0 ∷ 0 ∷ 0 ∷ 2 ∷ 0 ∷ 0 ∷ 1 ∷ 0 ∷ [])) (operands 4 (8 ∷ 4 ∷ 4 ∷ 7 ∷ []))
+    (beside [] [] (1 ∷ []))) 30 8120 800 (refused 2)
 
--- seed 260: chain of 1, chain of 3, done 3, empty target, moves without replay, moves without vias, new list, target
--- after x, target before x, target f, target t
-abbrev pub s260-lent : Picture
-s260-lent =
-    pic (
-    (op Const 0 (9 ∷ []) [] (1 ∷ []) ∷ op Cmp 0 (2 ∷ 9 ∷ 9 ∷ []) [] [] ∷ op BoundsLen 0 (8 ∷ 9 ∷ 9 ∷ 2 ∷ []) [] []
-    ∷ op Index 0 (6 ∷ 8 ∷ 2 ∷ []) [] [] ∷ op Cmp 0 (5 ∷ 9 ∷ 9 ∷ []) [] [] ∷ op Check 3 (5 ∷ 5 ∷ 6 ∷ []) [] []
-    ∷ op Alloc 0 (7 ∷ 2 ∷ []) [] (4 ∷ 5 ∷ 7 ∷ 0 ∷ 5 ∷ 5 ∷ 7 ∷ []) ∷ op Cat 0 (7 ∷ 5 ∷ 2 ∷ []) [] []
-    ∷ op Move 0 (4 ∷ 8 ∷ []) [] (1 ∷ 0 ∷ 0 ∷ 5 ∷ 1 ∷ 4 ∷ 8 ∷ []) ∷ op MakeDope 0 (7 ∷ []) [] []
-    ∷ op Cat 0 (7 ∷ 8 ∷ 9 ∷ []) (0 ∷ 2 ∷ []) [] ∷ op Check 3 (2 ∷ 6 ∷ 5 ∷ []) [] [] ∷ op WaitOn 0 (1 ∷ []) [] []
-    ∷ op Br 0 [] [] (7 ∷ 1 ∷ 0 ∷ 5 ∷ 3 ∷ 4 ∷ 6 ∷ []) ∷ [])
-    ∷ (op Output 0 (0 ∷ 0 ∷ []) [] [] ∷ op Ret 0 [] [] (2 ∷ 3 ∷ 0 ∷ 4 ∷ 8 ∷ 1 ∷ 1 ∷ []) ∷ [])
-    ∷ (op ConstF 0 (0 ∷ []) [] (1829119207 ∷ 1615437182 ∷ []) ∷ op CondBr 0 (1 ∷ []) [] (4 ∷ 1 ∷ []) ∷ [])
-    ∷ (op Now 0 (0 ∷ []) [] [] ∷ op CondBr 0 (0 ∷ []) [] (5 ∷ 2 ∷ 3 ∷ 6 ∷ 3 ∷ 4 ∷ 7 ∷ []) ∷ [])
-    ∷ []
-    ∷ (op IToF 0 (0 ∷ 9 ∷ []) [] [] ∷ op Ret 0 [] [] [] ∷ [])
-    ∷ (op CondBr 0 (0 ∷ []) [] (3 ∷ 5 ∷ []) ∷ [])
-    ∷ (op Br 0 [] [] (6 ∷ []) ∷ [])
-    ∷ [])
-    (at (upto 24) [])
-    (registers 10 (6 ∷ 5 ∷ 0 ∷ 0 ∷ 0 ∷ 0 ∷ 1 ∷ 0 ∷ 0 ∷ 0 ∷ 77 ∷ 77 ∷ 9 ∷ 9 ∷ 77 ∷ 77 ∷ 9 ∷ 9 ∷ 9 ∷ 77 ∷ 7 ∷ 77 ∷ 77 ∷ 9 ∷ 77 ∷ 77 ∷ 77 ∷ 7 ∷ 9 ∷ 9 ∷ 77 ∷ 7 ∷ []))
-    (operands 2 (7 ∷ 5 ∷ absent ∷ 0 ∷ 999 ∷ 999 ∷ 0 ∷ 999 ∷ 999 ∷ 0 ∷ absent ∷ []))
-    (beside [] [] [])
+-- seed 4, odd block words: refused 2
+abbrev pub d20 : Row
+d20 =
+    stays (bounded (0 ∷ 8 ∷ 8 ∷ 11 ∷ 11 ∷ 12 ∷ 0 ∷ []) (pic ((op Const 0 (8 ∷ []) [] (absent ∷ 4294967039 ∷ 0 ∷ 1 ∷ 8
+    ∷ 3 ∷ 5 ∷ []) ∷ op2 Alloc 4 8 ∷ op Cat 0 (4 ∷ 8 ∷ 8 ∷ []) (0 ∷ 3 ∷ []) (45817 ∷ []) ∷ op3 SigVal 7 8 8
+    ∷ op Store 2 (4 ∷ 8 ∷ []) [] [] ∷ op3 Index 3 4 8 ∷ op Bin 4 (2 ∷ 8 ∷ 0 ∷ []) [] [] ∷ op CondBr 0 (1 ∷ []) [] (1
+    ∷ []) ∷ op Bin 4 (0 ∷ 8 ∷ 4 ∷ []) [] [] ∷ op CallNative 0 [] (3 ∷ 1 ∷ []) [] ∷ op1 Ret 8 ∷ op3 Cat 1 1 1 ∷ [])
+    ∷ []) (at (upto 12) []) (registers 9 (1 ∷ 0 ∷ 0 ∷ 0 ∷ 2 ∷ 0 ∷ 0 ∷ 1 ∷ 0 ∷ [])) (operands 4 (8 ∷ 4 ∷ 4 ∷ 7 ∷ []))
+    (beside [] [] (1 ∷ [])))) 30 8120 800 (refused 2)
 
-abbrev pub s260-left : Picture
-s260-left =
-    pic (
-    (op Const 0 (9 ∷ []) [] (1 ∷ []) ∷ op WaitOn 0 (1 ∷ []) [] [] ∷ op Br 0 [] [] (7 ∷ 1 ∷ 0 ∷ 5 ∷ 3 ∷ 4 ∷ 6 ∷ []) ∷ [])
-    ∷ (op Output 0 (0 ∷ 0 ∷ []) [] [] ∷ op Ret 0 [] [] (2 ∷ 3 ∷ 0 ∷ 4 ∷ 8 ∷ 1 ∷ 1 ∷ []) ∷ [])
-    ∷ (op ConstF 0 (0 ∷ []) [] (1829119207 ∷ 1615437182 ∷ []) ∷ op CondBr 0 (1 ∷ []) [] (4 ∷ 1 ∷ []) ∷ [])
-    ∷ (op Now 0 (0 ∷ []) [] [] ∷ op CondBr 0 (0 ∷ []) [] (5 ∷ 2 ∷ 3 ∷ 6 ∷ 3 ∷ 4 ∷ 7 ∷ []) ∷ [])
-    ∷ (op Cmp 0 (22 ∷ 9 ∷ 9 ∷ []) [] [] ∷ op BoundsLen 0 (23 ∷ 9 ∷ 9 ∷ 22 ∷ []) [] []
-    ∷ op Index 0 (24 ∷ 23 ∷ 22 ∷ []) [] [] ∷ op Cmp 0 (25 ∷ 9 ∷ 9 ∷ []) [] [] ∷ op Check 3 (25 ∷ 25 ∷ 24 ∷ []) [] []
-    ∷ op Alloc 0 (26 ∷ 22 ∷ []) [] (4 ∷ 5 ∷ 7 ∷ 0 ∷ 5 ∷ 5 ∷ 7 ∷ []) ∷ op Cat 0 (26 ∷ 25 ∷ 22 ∷ []) [] []
-    ∷ op Move 0 (27 ∷ 23 ∷ []) [] (1 ∷ 0 ∷ 0 ∷ 5 ∷ 1 ∷ 4 ∷ 8 ∷ []) ∷ op MakeDope 0 (26 ∷ []) [] []
-    ∷ op Cat 0 (26 ∷ 23 ∷ 9 ∷ []) (6 ∷ 2 ∷ []) [] ∷ op Check 3 (22 ∷ 24 ∷ 25 ∷ []) [] [] ∷ [])
-    ∷ (op IToF 0 (0 ∷ 9 ∷ []) [] [] ∷ op Ret 0 [] [] [] ∷ [])
-    ∷ (op CondBr 0 (0 ∷ []) [] (3 ∷ 5 ∷ []) ∷ [])
-    ∷ (op Br 0 [] [] (6 ∷ []) ∷ [])
-    ∷ [])
-    (at (0 ∷ 12 ∷ 13 ∷ 14 ∷ 15 ∷ 16 ∷ 17 ∷ 18 ∷ 19 ∷ 1 ∷ 2 ∷ 3 ∷ 4 ∷ 5 ∷ 6 ∷ 7 ∷ 8 ∷ 9 ∷ 10 ∷ 11 ∷ 20 ∷ 21 ∷ 22 ∷ 23 ∷ []) [])
-    (registers 28 (6 ∷ 5 ∷ 0 ∷ 0 ∷ 0 ∷ 0 ∷ 1 ∷ 0 ∷ 0 ∷ 0 ∷ 0 ∷ 0 ∷ 1 ∷ 0 ∷ 0 ∷ 0 ∷ 0 ∷ 0 ∷ 1 ∷ 0 ∷ 0 ∷ 0 ∷ 0 ∷ 0 ∷ 1 ∷ 0 ∷ 0 ∷ 0 ∷ 9 ∷ 9 ∷ 77 ∷ 7 ∷ []))
-    (operands 8 (7 ∷ 5 ∷ 14 ∷ 13 ∷ 20 ∷ 19 ∷ 26 ∷ 25 ∷ 999 ∷ 0 ∷ absent ∷ []))
-    (beside [] [] [])
+-- seed 4, odd pair words: refused 2
+abbrev pub d21 : Row
+d21 =
+    stays (pic ((op Const 0 (8 ∷ []) [] (absent ∷ 4294967039 ∷ 0 ∷ 1 ∷ 8 ∷ 3 ∷ 5 ∷ []) ∷ op2 Alloc 4 8 ∷ op Cat 0 (4
+    ∷ 8 ∷ 8 ∷ []) (0 ∷ 3 ∷ []) (45817 ∷ []) ∷ op3 SigVal 7 8 8 ∷ op Store 2 (4 ∷ 8 ∷ []) [] [] ∷ op3 Index 3 4 8
+    ∷ op Bin 4 (2 ∷ 8 ∷ 0 ∷ []) [] [] ∷ op CondBr 0 (1 ∷ []) [] (1 ∷ []) ∷ []) ∷ (op Bin 4 (0 ∷ 8 ∷ 4 ∷ []) [] []
+    ∷ op CallNative 0 [] (3 ∷ 1 ∷ []) [] ∷ op1 Ret 8 ∷ []) ∷ (op3 Cat 1 1 1 ∷ []) ∷ []) (at (upto 12) []) (registers 9
+    (1 ∷ 0 ∷ 0 ∷ 0 ∷ 2 ∷ 0 ∷ 0 ∷ 1 ∷ 0 ∷ [])) (operands 4 (8 ∷ 4 ∷ 4 ∷ 7 ∷ [])) (beside (0 ∷ []) [] (1
+    ∷ []))) 30 8120 800 (refused 2)
 
-abbrev pub s260 : Row
-s260 = moves s260-lent 96 8384 800 (done 3 28 8) ((1 ∷ 0 ∷ 3 ∷ 11 ∷ 16 ∷ 4 ∷ []) ∷ (2 ∷ 3 ∷ 2 ∷ 11 ∷ 22 ∷ 6 ∷ []) ∷ (3 ∷ 2 ∷ 4 ∷ 11 ∷ 28 ∷ 8 ∷ []) ∷ []) s260-left
+-- seed 4, a block starts late: refused 3
+abbrev pub d22 : Row
+d22 =
+    stays (bounded (0 ∷ 8 ∷ 9 ∷ 11 ∷ 11 ∷ 12 ∷ []) (pic ((op Const 0 (8 ∷ []) [] (absent ∷ 4294967039 ∷ 0 ∷ 1 ∷ 8 ∷ 3
+    ∷ 5 ∷ []) ∷ op2 Alloc 4 8 ∷ op Cat 0 (4 ∷ 8 ∷ 8 ∷ []) (0 ∷ 3 ∷ []) (45817 ∷ []) ∷ op3 SigVal 7 8 8 ∷ op Store 2 (4
+    ∷ 8 ∷ []) [] [] ∷ op3 Index 3 4 8 ∷ op Bin 4 (2 ∷ 8 ∷ 0 ∷ []) [] [] ∷ op CondBr 0 (1 ∷ []) [] (1 ∷ []) ∷ op Bin 4
+    (0 ∷ 8 ∷ 4 ∷ []) [] [] ∷ op CallNative 0 [] (3 ∷ 1 ∷ []) [] ∷ op1 Ret 8 ∷ op3 Cat 1 1 1 ∷ []) ∷ []) (at
+    (upto 12) []) (registers 9 (1 ∷ 0 ∷ 0 ∷ 0 ∷ 2 ∷ 0 ∷ 0 ∷ 1 ∷ 0 ∷ [])) (operands 4 (8 ∷ 4 ∷ 4 ∷ 7 ∷ []))
+    (beside [] [] (1 ∷ [])))) 30 8120 800 (refused 3)
 
--- seed 292: a register reused, chain of 1, chain of 2, done 4, moves with replay, moves without vias, new list,
--- target after x, target before x, target f, target t
-abbrev pub s292-lent : Picture
-s292-lent =
-    pic (
-    (op Const 0 (6 ∷ []) [] (56 ∷ []) ∷ op Alloc 0 (5 ∷ 6 ∷ []) [] []
-    ∷ op Cat 0 (5 ∷ 6 ∷ 6 ∷ []) (0 ∷ 2 ∷ []) (1837 ∷ 3 ∷ 1 ∷ 2 ∷ 5 ∷ 3 ∷ [])
-    ∷ op CallNative 1 (2 ∷ []) (0 ∷ 1 ∷ []) [] ∷ op Br 0 [] [] (1 ∷ 7 ∷ 7 ∷ 2 ∷ 8 ∷ 3 ∷ []) ∷ [])
-    ∷ (op CondBr 0 (0 ∷ []) [] (4 ∷ 5 ∷ []) ∷ [])
-    ∷ (op Unreachable 0 [] [] [] ∷ [])
-    ∷ (op Deref 0 (1 ∷ 0 ∷ []) [] [] ∷ op Output 0 (1 ∷ 1 ∷ []) [] []
-    ∷ op CondBr 0 (1 ∷ []) [] (2 ∷ 4 ∷ 5 ∷ 4 ∷ 4 ∷ 5 ∷ 6 ∷ []) ∷ [])
-    ∷ (op Output 0 (6 ∷ 6 ∷ []) [] [] ∷ op Case 0 (6 ∷ []) [] (96 ∷ 8 ∷ 8 ∷ 2 ∷ 0 ∷ 7 ∷ []) ∷ [])
-    ∷ (op LGet 0 (0 ∷ 0 ∷ 0 ∷ []) [] [] ∷ op CondBr 0 (6 ∷ []) [] (8 ∷ 6 ∷ []) ∷ [])
-    ∷ (op LGet 0 (1 ∷ 0 ∷ 6 ∷ []) [] [] ∷ op Ret 0 [] [] [] ∷ [])
-    ∷ (op Case 0 (0 ∷ []) [] (95 ∷ []) ∷ [])
-    ∷ (op ConstF 0 (1 ∷ []) [] (3879814962 ∷ 874165449 ∷ []) ∷ op CondBr 0 (0 ∷ []) [] (3 ∷ 7 ∷ []) ∷ [])
-    ∷ (op Cat 0 (6 ∷ 6 ∷ 6 ∷ []) [] [] ∷ [])
-    ∷ [])
-    (at (upto 20) [])
-    (registers 7 (6 ∷ 0 ∷ 0 ∷ 1 ∷ 6 ∷ 0 ∷ 0 ∷ 9 ∷ 9 ∷ 9 ∷ 77 ∷ []))
-    (operands 2 (6 ∷ 5 ∷ 0 ∷ absent ∷ 999 ∷ 0 ∷ 999 ∷ 0 ∷ absent ∷ 999 ∷ []))
-    (beside [] [] (4 ∷ 7 ∷ 8 ∷ 4 ∷ []))
+-- seed 4, a block ends early: refused 3
+abbrev pub d23 : Row
+d23 =
+    stays (bounded (0 ∷ 8 ∷ 8 ∷ 10 ∷ 11 ∷ 12 ∷ []) (pic ((op Const 0 (8 ∷ []) [] (absent ∷ 4294967039 ∷ 0 ∷ 1 ∷ 8 ∷ 3
+    ∷ 5 ∷ []) ∷ op2 Alloc 4 8 ∷ op Cat 0 (4 ∷ 8 ∷ 8 ∷ []) (0 ∷ 3 ∷ []) (45817 ∷ []) ∷ op3 SigVal 7 8 8 ∷ op Store 2 (4
+    ∷ 8 ∷ []) [] [] ∷ op3 Index 3 4 8 ∷ op Bin 4 (2 ∷ 8 ∷ 0 ∷ []) [] [] ∷ op CondBr 0 (1 ∷ []) [] (1 ∷ []) ∷ op Bin 4
+    (0 ∷ 8 ∷ 4 ∷ []) [] [] ∷ op CallNative 0 [] (3 ∷ 1 ∷ []) [] ∷ op1 Ret 8 ∷ op3 Cat 1 1 1 ∷ []) ∷ []) (at
+    (upto 12) []) (registers 9 (1 ∷ 0 ∷ 0 ∷ 0 ∷ 2 ∷ 0 ∷ 0 ∷ 1 ∷ 0 ∷ [])) (operands 4 (8 ∷ 4 ∷ 4 ∷ 7 ∷ []))
+    (beside [] [] (1 ∷ [])))) 30 8120 800 (refused 3)
 
-abbrev pub s292-left : Picture
-s292-left =
-    pic (
-    (op Const 0 (6 ∷ []) [] (56 ∷ []) ∷ op Br 0 [] [] (1 ∷ 7 ∷ 7 ∷ 2 ∷ 8 ∷ 3 ∷ []) ∷ [])
-    ∷ (op CondBr 0 (0 ∷ []) [] (4 ∷ 5 ∷ []) ∷ [])
-    ∷ (op Alloc 0 (10 ∷ 6 ∷ []) [] [] ∷ op Cat 0 (10 ∷ 6 ∷ 6 ∷ []) (8 ∷ 2 ∷ []) (1837 ∷ 3 ∷ 1 ∷ 2 ∷ 5 ∷ 3 ∷ [])
-    ∷ op CallNative 1 (10 ∷ []) (0 ∷ 1 ∷ []) [] ∷ op Unreachable 0 [] [] [] ∷ [])
-    ∷ (op Deref 0 (1 ∷ 0 ∷ []) [] [] ∷ op Output 0 (1 ∷ 1 ∷ []) [] []
-    ∷ op CondBr 0 (1 ∷ []) [] (2 ∷ 4 ∷ 5 ∷ 4 ∷ 4 ∷ 5 ∷ 6 ∷ []) ∷ [])
-    ∷ (op Output 0 (6 ∷ 6 ∷ []) [] [] ∷ op Case 0 (6 ∷ []) [] (96 ∷ 8 ∷ 8 ∷ 2 ∷ 0 ∷ 7 ∷ []) ∷ [])
-    ∷ (op LGet 0 (0 ∷ 0 ∷ 0 ∷ []) [] [] ∷ op CondBr 0 (6 ∷ []) [] (8 ∷ 6 ∷ []) ∷ [])
-    ∷ (op LGet 0 (1 ∷ 0 ∷ 6 ∷ []) [] [] ∷ op Ret 0 [] [] [] ∷ [])
-    ∷ (op Case 0 (0 ∷ []) [] (95 ∷ []) ∷ [])
-    ∷ (op ConstF 0 (1 ∷ []) [] (3879814962 ∷ 874165449 ∷ []) ∷ op CondBr 0 (0 ∷ []) [] (3 ∷ 7 ∷ []) ∷ [])
-    ∷ (op Cat 0 (6 ∷ 6 ∷ 6 ∷ []) [] [] ∷ [])
-    ∷ [])
-    (at (0 ∷ 4 ∷ 5 ∷ 1 ∷ 2 ∷ 3 ∷ 6 ∷ 7 ∷ 8 ∷ 9 ∷ 10 ∷ 11 ∷ 12 ∷ 13 ∷ 14 ∷ 15 ∷ 16 ∷ 17 ∷ 18 ∷ 19 ∷ []) [])
-    (registers 11 (6 ∷ 0 ∷ 0 ∷ 1 ∷ 6 ∷ 0 ∷ 0 ∷ 0 ∷ 0 ∷ 0 ∷ 0 ∷ []))
-    (operands 10 (6 ∷ 5 ∷ 6 ∷ 7 ∷ 6 ∷ 8 ∷ 6 ∷ 9 ∷ 6 ∷ 10 ∷ []))
-    (beside [] [] (4 ∷ 7 ∷ 8 ∷ 4 ∷ []))
+-- seed 4, an end below its start: refused 3
+abbrev pub d24 : Row
+d24 =
+    stays (bounded (0 ∷ 8 ∷ 8 ∷ 7 ∷ 11 ∷ 12 ∷ []) (pic ((op Const 0 (8 ∷ []) [] (absent ∷ 4294967039 ∷ 0 ∷ 1 ∷ 8 ∷ 3
+    ∷ 5 ∷ []) ∷ op2 Alloc 4 8 ∷ op Cat 0 (4 ∷ 8 ∷ 8 ∷ []) (0 ∷ 3 ∷ []) (45817 ∷ []) ∷ op3 SigVal 7 8 8 ∷ op Store 2 (4
+    ∷ 8 ∷ []) [] [] ∷ op3 Index 3 4 8 ∷ op Bin 4 (2 ∷ 8 ∷ 0 ∷ []) [] [] ∷ op CondBr 0 (1 ∷ []) [] (1 ∷ []) ∷ op Bin 4
+    (0 ∷ 8 ∷ 4 ∷ []) [] [] ∷ op CallNative 0 [] (3 ∷ 1 ∷ []) [] ∷ op1 Ret 8 ∷ op3 Cat 1 1 1 ∷ []) ∷ []) (at
+    (upto 12) []) (registers 9 (1 ∷ 0 ∷ 0 ∷ 0 ∷ 2 ∷ 0 ∷ 0 ∷ 1 ∷ 0 ∷ [])) (operands 4 (8 ∷ 4 ∷ 4 ∷ 7 ∷ []))
+    (beside [] [] (1 ∷ [])))) 30 8120 800 (refused 3)
 
-abbrev pub s292 : Row
-s292 = moves s292-lent 62 8248 800 (done 4 11 10) ((1 ∷ 0 ∷ 5 ∷ 3 ∷ 8 ∷ 4 ∷ []) ∷ (2 ∷ 5 ∷ 8 ∷ 3 ∷ 9 ∷ 6 ∷ []) ∷ (3 ∷ 8 ∷ 3 ∷ 3 ∷ 10 ∷ 8 ∷ []) ∷ (4 ∷ 3 ∷ 2 ∷ 3 ∷ 11 ∷ 10 ∷ []) ∷ []) s292-left
+-- seed 4, the last block ends past the code: refused 3
+abbrev pub d25 : Row
+d25 =
+    stays (bounded (0 ∷ 8 ∷ 8 ∷ 11 ∷ 11 ∷ 13 ∷ []) (pic ((op Const 0 (8 ∷ []) [] (absent ∷ 4294967039 ∷ 0 ∷ 1 ∷ 8 ∷ 3
+    ∷ 5 ∷ []) ∷ op2 Alloc 4 8 ∷ op Cat 0 (4 ∷ 8 ∷ 8 ∷ []) (0 ∷ 3 ∷ []) (45817 ∷ []) ∷ op3 SigVal 7 8 8 ∷ op Store 2 (4
+    ∷ 8 ∷ []) [] [] ∷ op3 Index 3 4 8 ∷ op Bin 4 (2 ∷ 8 ∷ 0 ∷ []) [] [] ∷ op CondBr 0 (1 ∷ []) [] (1 ∷ []) ∷ op Bin 4
+    (0 ∷ 8 ∷ 4 ∷ []) [] [] ∷ op CallNative 0 [] (3 ∷ 1 ∷ []) [] ∷ op1 Ret 8 ∷ op3 Cat 1 1 1 ∷ []) ∷ []) (at
+    (upto 12) []) (registers 9 (1 ∷ 0 ∷ 0 ∷ 0 ∷ 2 ∷ 0 ∷ 0 ∷ 1 ∷ 0 ∷ [])) (operands 4 (8 ∷ 4 ∷ 4 ∷ 7 ∷ []))
+    (beside [] [] (1 ∷ [])))) 30 8120 800 (refused 3)
 
--- seed 325: short 0, short by a register, the Rust as it is stops
-abbrev pub s325-lent : Picture
-s325-lent =
-    pic (
-    (op Const 0 (7 ∷ []) [] (39 ∷ []) ∷ op SigVal 0 (5 ∷ 7 ∷ 7 ∷ []) [] [] ∷ op Move 0 (4 ∷ 7 ∷ []) [] []
-    ∷ op Alloc 0 (2 ∷ 4 ∷ []) [] [] ∷ op Cat 0 (2 ∷ 7 ∷ 7 ∷ []) (0 ∷ 2 ∷ []) [] ∷ op LayoutOf 0 (3 ∷ 2 ∷ []) [] []
-    ∷ op BoolOp 0 (6 ∷ 4 ∷ 5 ∷ []) [] [] ∷ op Store 3 (2 ∷ 2 ∷ []) [] []
-    ∷ op MakeDope 0 (2 ∷ []) (1 ∷ 1 ∷ []) (7 ∷ 2 ∷ 1 ∷ 0 ∷ 8 ∷ 7 ∷ [])
-    ∷ op Index 0 (4 ∷ 2 ∷ 4 ∷ []) [] (7 ∷ 4 ∷ 4 ∷ 6 ∷ 8 ∷ 2 ∷ 6 ∷ []) ∷ op Br 0 [] [] (4 ∷ 2 ∷ 4 ∷ 0 ∷ 8 ∷ 1 ∷ 2 ∷ []) ∷ [])
-    ∷ (op Ret 0 [] [] [] ∷ [])
-    ∷ (op Pos 0 (1 ∷ 0 ∷ 0 ∷ []) [] [] ∷ op Bin 4 (0 ∷ 7 ∷ 4 ∷ []) [] (6 ∷ 0 ∷ 0 ∷ 4 ∷ 3 ∷ 6 ∷ 8 ∷ [])
-    ∷ op CondBr 0 (1 ∷ []) [] (1 ∷ 3 ∷ 3 ∷ 0 ∷ 7 ∷ 5 ∷ 7 ∷ []) ∷ [])
-    ∷ (op ConstF 0 (1 ∷ []) [] (2500775947 ∷ 2857339486 ∷ []) ∷ op Output 0 (1 ∷ 1 ∷ []) [] []
-    ∷ op CondBr 0 (7 ∷ []) [] (8 ∷ 6 ∷ []) ∷ [])
-    ∷ (op CondBr 0 (0 ∷ []) [] (3 ∷ 2 ∷ []) ∷ [])
-    ∷ (op Unreachable 0 [] [] [] ∷ [])
-    ∷ (op CondBr 0 (0 ∷ []) [] (5 ∷ 7 ∷ []) ∷ [])
-    ∷ (op Output 0 (1 ∷ 1 ∷ []) [] [] ∷ op Ret 0 (0 ∷ []) [] [] ∷ [])
-    ∷ (op Ret 0 [] [] [] ∷ [])
-    ∷ [])
-    (at (upto 24) [])
-    (registers 8 (1 ∷ 0 ∷ 0 ∷ 1 ∷ 0 ∷ 4 ∷ 0 ∷ 1 ∷ 77 ∷ 77 ∷ 7 ∷ 9 ∷ 77 ∷ []))
-    (operands 2 (2 ∷ 4 ∷ 999 ∷ 999 ∷ absent ∷ []))
-    (beside [] [] [])
+-- seed 4, code behind the last block: refused 3
+abbrev pub d26 : Row
+d26 =
+    stays (bounded (0 ∷ 8 ∷ 8 ∷ 11 ∷ 11 ∷ 12 ∷ []) (pic ((op Const 0 (8 ∷ []) [] (absent ∷ 4294967039 ∷ 0 ∷ 1 ∷ 8 ∷ 3
+    ∷ 5 ∷ []) ∷ op2 Alloc 4 8 ∷ op Cat 0 (4 ∷ 8 ∷ 8 ∷ []) (0 ∷ 3 ∷ []) (45817 ∷ []) ∷ op3 SigVal 7 8 8 ∷ op Store 2 (4
+    ∷ 8 ∷ []) [] [] ∷ op3 Index 3 4 8 ∷ op Bin 4 (2 ∷ 8 ∷ 0 ∷ []) [] [] ∷ op CondBr 0 (1 ∷ []) [] (1 ∷ []) ∷ op Bin 4
+    (0 ∷ 8 ∷ 4 ∷ []) [] [] ∷ op CallNative 0 [] (3 ∷ 1 ∷ []) [] ∷ op1 Ret 8 ∷ op3 Cat 1 1 1 ∷ op0 Stmt ∷ []) ∷ []) (at
+    (upto 12 ++ 0 ∷ []) []) (registers 9 (1 ∷ 0 ∷ 0 ∷ 0 ∷ 2 ∷ 0 ∷ 0 ∷ 1 ∷ 0 ∷ [])) (operands 4 (8 ∷ 4 ∷ 4 ∷ 7 ∷ []))
+    (beside [] [] (1 ∷ [])))) 30 8120 800 (refused 3)
 
-abbrev pub s325 : Row
-s325 = stays s325-lent 62 8248 800 (short 0 8 2)
+-- seed 4, kind 101: refused 4
+abbrev pub d28 : Row
+d28 =
+    stays (pic ((op Const 0 (8 ∷ []) [] (absent ∷ 4294967039 ∷ 0 ∷ 1 ∷ 8 ∷ 3 ∷ 5 ∷ []) ∷ op2 Alloc 4 8 ∷ op Cat 0 (4
+    ∷ 8 ∷ 8 ∷ []) (0 ∷ 3 ∷ []) (45817 ∷ []) ∷ op3 SigVal 7 8 8 ∷ op Store 2 (4 ∷ 8 ∷ []) [] [] ∷ op3 Index 3 4 8
+    ∷ op Bin 4 (2 ∷ 8 ∷ 0 ∷ []) [] [] ∷ (101 ∷ 0 ∷ 1 ∷ absent ∷ absent ∷ absent ∷ absent ∷ 0 ∷ 0 ∷ 1 ∷ replicate 6 0)
+    ∷ []) ∷ (op Bin 4 (0 ∷ 8 ∷ 4 ∷ []) [] [] ∷ op CallNative 0 [] (3 ∷ 1 ∷ []) [] ∷ op1 Ret 8 ∷ []) ∷ (op3 Cat 1 1 1
+    ∷ []) ∷ []) (at (upto 12) []) (registers 9 (1 ∷ 0 ∷ 0 ∷ 0 ∷ 2 ∷ 0 ∷ 0 ∷ 1 ∷ 0 ∷ [])) (operands 4 (8 ∷ 4 ∷ 4 ∷ 7
+    ∷ [])) (beside [] [] (1 ∷ []))) 30 8120 800 (refused 4)
 
--- seed 326: a register reused, chain of 1, moves without replay, moves without vias, new list, short 2, short by an
--- operand, target after x, target t
-abbrev pub s326-lent : Picture
-s326-lent =
-    pic (
-    (op Const 0 (7 ∷ []) [] (55 ∷ []) ∷ op AddrOf 4 (8 ∷ []) [] (6 ∷ 3 ∷ 7 ∷ 5 ∷ 4 ∷ 4 ∷ 7 ∷ [])
-    ∷ op SigReadScalar 0 (5 ∷ 7 ∷ []) [] [] ∷ op Move 0 (2 ∷ 5 ∷ []) [] [] ∷ op Cmp 0 (6 ∷ 7 ∷ 7 ∷ []) [] []
-    ∷ op Alloc 0 (3 ∷ 6 ∷ []) [] [] ∷ op Bin 4 (4 ∷ 6 ∷ 7 ∷ []) [] []
-    ∷ op Check 3 (4 ∷ 2 ∷ 4 ∷ []) [] (3 ∷ 1 ∷ 0 ∷ 6 ∷ 8 ∷ 3 ∷ 6 ∷ []) ∷ op LayoutOf 0 (6 ∷ 3 ∷ []) [] []
-    ∷ op Store 3 (3 ∷ 5 ∷ []) [] [] ∷ op Cat 0 (3 ∷ 4 ∷ 7 ∷ []) (1 ∷ 2 ∷ []) [] ∷ op Load 1 (2 ∷ 3 ∷ []) [] []
-    ∷ op CondBr 0 (0 ∷ []) [] (1 ∷ 6 ∷ []) ∷ [])
-    ∷ (op CondBr 0 (7 ∷ []) [] (2 ∷ 5 ∷ []) ∷ [])
-    ∷ (op CondBr 0 (1 ∷ []) [] (3 ∷ 4 ∷ []) ∷ [])
-    ∷ (op Output 0 (1 ∷ 1 ∷ []) [] (6 ∷ 8 ∷ 7 ∷ 7 ∷ 0 ∷ 6 ∷ 2 ∷ []) ∷ op Ret 0 (7 ∷ []) [] [] ∷ [])
-    ∷ []
-    ∷ (op Cover 0 [] [] [] ∷ op Ret 0 [] [] [] ∷ [])
-    ∷ (op NewFrame 0 (1 ∷ 7 ∷ 7 ∷ 7 ∷ []) [] [] ∷ [])
-    ∷ [])
-    (at (upto 20) [])
-    (registers 9 (0 ∷ 4 ∷ 1 ∷ 0 ∷ 0 ∷ 6 ∷ 0 ∷ 0 ∷ 1 ∷ 9 ∷ 7 ∷ 77 ∷ 9 ∷ 77 ∷ 9 ∷ 9 ∷ 7 ∷ 9 ∷ 7 ∷ 7 ∷ 7 ∷ 9 ∷ 77 ∷ 7 ∷ []))
-    (operands 3 (3 ∷ 3 ∷ 7 ∷ 0 ∷ absent ∷ 999 ∷ 0 ∷ 999 ∷ []))
-    (beside [] [] [])
+-- seed 4, kind 4294967295: refused 4
+abbrev pub d29 : Row
+d29 =
+    stays (pic ((op Const 0 (8 ∷ []) [] (absent ∷ 4294967039 ∷ 0 ∷ 1 ∷ 8 ∷ 3 ∷ 5 ∷ []) ∷ op2 Alloc 4 8 ∷ op Cat 0 (4
+    ∷ 8 ∷ 8 ∷ []) (0 ∷ 3 ∷ []) (45817 ∷ []) ∷ op3 SigVal 7 8 8 ∷ op Store 2 (4 ∷ 8 ∷ []) [] [] ∷ op3 Index 3 4 8
+    ∷ op Bin 4 (2 ∷ 8 ∷ 0 ∷ []) [] [] ∷ (absent ∷ 0 ∷ 1 ∷ absent ∷ absent ∷ absent ∷ absent ∷ 0 ∷ 0 ∷ 1
+    ∷ replicate 6 0) ∷ []) ∷ (op Bin 4 (0 ∷ 8 ∷ 4 ∷ []) [] [] ∷ op CallNative 0 [] (3 ∷ 1 ∷ []) [] ∷ op1 Ret 8 ∷ [])
+    ∷ (op3 Cat 1 1 1 ∷ []) ∷ []) (at (upto 12) []) (registers 9 (1 ∷ 0 ∷ 0 ∷ 0 ∷ 2 ∷ 0 ∷ 0 ∷ 1 ∷ 0 ∷ [])) (operands 4
+    (8 ∷ 4 ∷ 4 ∷ 7 ∷ [])) (beside [] [] (1 ∷ []))) 30 8120 800 (refused 4)
 
-abbrev pub s326-left : Picture
-s326-left =
-    pic (
-    (op Const 0 (7 ∷ []) [] (55 ∷ []) ∷ op AddrOf 4 (8 ∷ []) [] (6 ∷ 3 ∷ 7 ∷ 5 ∷ 4 ∷ 4 ∷ 7 ∷ [])
-    ∷ op CondBr 0 (0 ∷ []) [] (1 ∷ 6 ∷ []) ∷ [])
-    ∷ (op CondBr 0 (7 ∷ []) [] (2 ∷ 5 ∷ []) ∷ [])
-    ∷ (op SigReadScalar 0 (14 ∷ 7 ∷ []) [] [] ∷ op Move 0 (15 ∷ 14 ∷ []) [] [] ∷ op Cmp 0 (16 ∷ 7 ∷ 7 ∷ []) [] []
-    ∷ op Alloc 0 (17 ∷ 16 ∷ []) [] [] ∷ op Bin 4 (18 ∷ 16 ∷ 7 ∷ []) [] []
-    ∷ op Check 3 (18 ∷ 15 ∷ 18 ∷ []) [] (3 ∷ 1 ∷ 0 ∷ 6 ∷ 8 ∷ 3 ∷ 6 ∷ []) ∷ op LayoutOf 0 (16 ∷ 17 ∷ []) [] []
-    ∷ op Store 3 (17 ∷ 14 ∷ []) [] [] ∷ op Cat 0 (17 ∷ 18 ∷ 7 ∷ []) (5 ∷ 2 ∷ []) [] ∷ op Load 1 (15 ∷ 17 ∷ []) [] []
-    ∷ op CondBr 0 (1 ∷ []) [] (3 ∷ 4 ∷ []) ∷ [])
-    ∷ (op Output 0 (1 ∷ 1 ∷ []) [] (6 ∷ 8 ∷ 7 ∷ 7 ∷ 0 ∷ 6 ∷ 2 ∷ []) ∷ op Ret 0 (7 ∷ []) [] [] ∷ [])
-    ∷ []
-    ∷ (op Cover 0 [] [] [] ∷ op Ret 0 [] [] [] ∷ [])
-    ∷ (op NewFrame 0 (1 ∷ 7 ∷ 7 ∷ 7 ∷ []) [] [] ∷ [])
-    ∷ [])
-    (at (0 ∷ 1 ∷ 12 ∷ 13 ∷ 2 ∷ 3 ∷ 4 ∷ 5 ∷ 6 ∷ 7 ∷ 8 ∷ 9 ∷ 10 ∷ 11 ∷ 14 ∷ 15 ∷ 16 ∷ 17 ∷ 18 ∷ 19 ∷ []) [])
-    (registers 19 (0 ∷ 4 ∷ 1 ∷ 0 ∷ 0 ∷ 6 ∷ 0 ∷ 0 ∷ 1 ∷ 6 ∷ 1 ∷ 0 ∷ 0 ∷ 0 ∷ 6 ∷ 1 ∷ 0 ∷ 0 ∷ 0 ∷ 7 ∷ 7 ∷ 9 ∷ 77 ∷ 7 ∷ []))
-    (operands 7 (3 ∷ 3 ∷ 7 ∷ 12 ∷ 7 ∷ 17 ∷ 7 ∷ 999 ∷ []))
-    (beside [] [] [])
+-- seed 4, a form past the last: refused 4
+abbrev pub d30 : Row
+d30 =
+    stays (pic ((op Const 0 (8 ∷ []) [] (absent ∷ 4294967039 ∷ 0 ∷ 1 ∷ 8 ∷ 3 ∷ 5 ∷ []) ∷ op2 Alloc 4 8 ∷ op Cat 0 (4
+    ∷ 8 ∷ 8 ∷ []) (0 ∷ 3 ∷ []) (45817 ∷ []) ∷ op3 SigVal 7 8 8 ∷ op Store 2 (4 ∷ 8 ∷ []) [] [] ∷ op3 Index 3 4 8
+    ∷ op Bin 4 (2 ∷ 8 ∷ 0 ∷ []) [] [] ∷ op CondBr 1 (1 ∷ []) [] (1 ∷ []) ∷ []) ∷ (op Bin 4 (0 ∷ 8 ∷ 4 ∷ []) [] []
+    ∷ op CallNative 0 [] (3 ∷ 1 ∷ []) [] ∷ op1 Ret 8 ∷ []) ∷ (op3 Cat 1 1 1 ∷ []) ∷ []) (at (upto 12) []) (registers 9
+    (1 ∷ 0 ∷ 0 ∷ 0 ∷ 2 ∷ 0 ∷ 0 ∷ 1 ∷ 0 ∷ [])) (operands 4 (8 ∷ 4 ∷ 4 ∷ 7 ∷ [])) (beside [] [] (1 ∷ []))) 30 8120 800
+    (refused 4)
 
-abbrev pub s326 : Row
-s326 = moves s326-lent 76 8304 800 (short 2 19 7) ((1 ∷ 0 ∷ 1 ∷ 10 ∷ 14 ∷ 5 ∷ []) ∷ (2 ∷ 1 ∷ 2 ∷ 10 ∷ 19 ∷ 7 ∷ []) ∷ []) s326-left
+-- seed 4, Load or Store of form 0: refused 4
+abbrev pub d31 : Row
+d31 =
+    stays (pic ((op Const 0 (8 ∷ []) [] (absent ∷ 4294967039 ∷ 0 ∷ 1 ∷ 8 ∷ 3 ∷ 5 ∷ []) ∷ op2 Alloc 4 8 ∷ op Cat 0 (4
+    ∷ 8 ∷ 8 ∷ []) (0 ∷ 3 ∷ []) (45817 ∷ []) ∷ op3 SigVal 7 8 8 ∷ op2 Store 4 8 ∷ op3 Index 3 4 8 ∷ op Bin 4 (2 ∷ 8 ∷ 0
+    ∷ []) [] [] ∷ op CondBr 0 (1 ∷ []) [] (1 ∷ []) ∷ []) ∷ (op Bin 4 (0 ∷ 8 ∷ 4 ∷ []) [] [] ∷ op CallNative 0 [] (3
+    ∷ 1 ∷ []) [] ∷ op1 Ret 8 ∷ []) ∷ (op3 Cat 1 1 1 ∷ []) ∷ []) (at (upto 12) []) (registers 9 (1 ∷ 0 ∷ 0 ∷ 0 ∷ 2 ∷ 0
+    ∷ 0 ∷ 1 ∷ 0 ∷ [])) (operands 4 (8 ∷ 4 ∷ 4 ∷ 7 ∷ [])) (beside [] [] (1 ∷ []))) 30 8120 800 (refused 4)
 
--- seed 327: chain of 1, chain of 6, done 3, moves with replay, moves without vias, new list, target after x, target
--- before x, target t
-abbrev pub s327-lent : Picture
-s327-lent =
-    pic (
-    (op Output 0 (9 ∷ 9 ∷ []) [] [] ∷ op Output 0 (9 ∷ 9 ∷ []) [] (3 ∷ 1 ∷ 2 ∷ 8 ∷ 3 ∷ 5 ∷ 5 ∷ [])
-    ∷ op Case 0 (0 ∷ []) [] (99 ∷ []) ∷ [])
-    ∷ (op CondBr 0 (9 ∷ []) [] (12 ∷ 9 ∷ []) ∷ [])
-    ∷ (op Br 0 [] [] (5 ∷ []) ∷ [])
-    ∷ []
-    ∷ (op Cat 0 (9 ∷ 9 ∷ 9 ∷ []) [] [] ∷ [])
-    ∷ (op Br 0 [] [] (8 ∷ 0 ∷ 0 ∷ 2 ∷ 6 ∷ 6 ∷ 3 ∷ []) ∷ [])
-    ∷ (op FCheck 0 (9 ∷ 9 ∷ 1 ∷ []) [] [] ∷ op Index 0 (0 ∷ 0 ∷ 9 ∷ []) [] (7 ∷ 5 ∷ 6 ∷ 7 ∷ 0 ∷ 6 ∷ 6 ∷ []) ∷ [])
-    ∷ (op Br 0 [] [] (2 ∷ []) ∷ [])
-    ∷ (op Br 0 [] [] (1 ∷ []) ∷ [])
-    ∷ (op IToF 0 (0 ∷ 1 ∷ []) [] [] ∷ [])
-    ∷ (op CondBr 0 (1 ∷ []) [] (6 ∷ []) ∷ [])
-    ∷ (op Const 0 (9 ∷ []) [] (0 ∷ 256 ∷ []) ∷ op AddrOf 5 (10 ∷ []) [] []
-    ∷ op Alloc 0 (8 ∷ 9 ∷ []) [] (5 ∷ 1 ∷ 7 ∷ 5 ∷ 5 ∷ 7 ∷ 6 ∷ []) ∷ op Cat 0 (8 ∷ 9 ∷ 9 ∷ []) (0 ∷ 4 ∷ []) []
-    ∷ op MakeDope 0 (8 ∷ []) (4 ∷ []) [] ∷ op Cat 0 (8 ∷ 9 ∷ 9 ∷ []) (2 ∷ 2 ∷ []) [] ∷ op Br 0 [] [] (7 ∷ []) ∷ [])
-    ∷ (op Pos 0 (0 ∷ 9 ∷ 1 ∷ []) [] [] ∷ op CondBr 0 (1 ∷ []) [] (10 ∷ 3 ∷ []) ∷ [])
-    ∷ [])
-    (at (upto 22) [])
-    (registers 11 (0 ∷ 0 ∷ 4 ∷ 1 ∷ 1 ∷ 6 ∷ 0 ∷ 6 ∷ 5 ∷ 5 ∷ 0 ∷ 77 ∷ 77 ∷ 7 ∷ []))
-    (operands 4 (8 ∷ 9 ∷ 8 ∷ 8 ∷ 0 ∷ 0 ∷ absent ∷ 999 ∷ absent ∷ 999 ∷ 0 ∷ 0 ∷ absent ∷ 0 ∷ 999 ∷ 0 ∷ 999 ∷ absent ∷ 0 ∷ 0 ∷ 999 ∷ absent ∷ []))
-    (beside [] [] (6 ∷ 10 ∷ 9 ∷ []))
+-- seed 4, scalars 65,536: refused 4
+abbrev pub d32 : Row
+d32 =
+    stays (pic ((op Const 0 (8 ∷ []) [] (absent ∷ 4294967039 ∷ 0 ∷ 1 ∷ 8 ∷ 3 ∷ 5 ∷ []) ∷ op2 Alloc 4 8 ∷ op Cat 0 (4
+    ∷ 8 ∷ 8 ∷ []) (0 ∷ 3 ∷ []) (45817 ∷ []) ∷ op3 SigVal 7 8 8 ∷ op Store 2 (4 ∷ 8 ∷ []) [] [] ∷ op3 Index 3 4 8
+    ∷ op Bin 4 (2 ∷ 8 ∷ 0 ∷ []) [] [] ∷ op CondBr 0 (1 ∷ []) [] (1 ∷ []) ∷ []) ∷ (op Bin 4 (0 ∷ 8 ∷ 4 ∷ []) [] []
+    ∷ op CallNative 0 [] (3 ∷ 1 ∷ []) [] ∷ op1 Ret 8 ∷ []) ∷ (op Cat 0 (1 ∷ 1 ∷ 1 ∷ []) [] (65536 ∷ []) ∷ []) ∷ [])
+    (at (upto 12) []) (registers 9 (1 ∷ 0 ∷ 0 ∷ 0 ∷ 2 ∷ 0 ∷ 0 ∷ 1 ∷ 0 ∷ [])) (operands 4 (8 ∷ 4 ∷ 4 ∷ 7 ∷ []))
+    (beside [] [] (1 ∷ []))) 30 8120 800 (refused 4)
 
-abbrev pub s327-left : Picture
-s327-left =
-    pic (
-    (op Output 0 (9 ∷ 9 ∷ []) [] [] ∷ op Output 0 (9 ∷ 9 ∷ []) [] (3 ∷ 1 ∷ 2 ∷ 8 ∷ 3 ∷ 5 ∷ 5 ∷ [])
-    ∷ op Case 0 (0 ∷ []) [] (99 ∷ []) ∷ [])
-    ∷ (op CondBr 0 (9 ∷ []) [] (12 ∷ 9 ∷ []) ∷ [])
-    ∷ (op Br 0 [] [] (5 ∷ []) ∷ [])
-    ∷ []
-    ∷ (op Cat 0 (9 ∷ 9 ∷ 9 ∷ []) [] [] ∷ [])
-    ∷ (op Br 0 [] [] (8 ∷ 0 ∷ 0 ∷ 2 ∷ 6 ∷ 6 ∷ 3 ∷ []) ∷ [])
-    ∷ (op Alloc 0 (13 ∷ 9 ∷ []) [] (5 ∷ 1 ∷ 7 ∷ 5 ∷ 5 ∷ 7 ∷ 6 ∷ []) ∷ op Cat 0 (13 ∷ 9 ∷ 9 ∷ []) (16 ∷ 4 ∷ []) []
-    ∷ op MakeDope 0 (13 ∷ []) (4 ∷ []) [] ∷ op Cat 0 (13 ∷ 9 ∷ 9 ∷ []) (20 ∷ 2 ∷ []) []
-    ∷ op FCheck 0 (9 ∷ 9 ∷ 1 ∷ []) [] [] ∷ op Index 0 (0 ∷ 0 ∷ 9 ∷ []) [] (7 ∷ 5 ∷ 6 ∷ 7 ∷ 0 ∷ 6 ∷ 6 ∷ []) ∷ [])
-    ∷ (op Br 0 [] [] (2 ∷ []) ∷ [])
-    ∷ (op Br 0 [] [] (1 ∷ []) ∷ [])
-    ∷ (op IToF 0 (0 ∷ 1 ∷ []) [] [] ∷ [])
-    ∷ (op CondBr 0 (1 ∷ []) [] (6 ∷ []) ∷ [])
-    ∷ (op Const 0 (9 ∷ []) [] (0 ∷ 256 ∷ []) ∷ op AddrOf 5 (10 ∷ []) [] [] ∷ op Br 0 [] [] (7 ∷ []) ∷ [])
-    ∷ (op Pos 0 (0 ∷ 9 ∷ 1 ∷ []) [] [] ∷ op CondBr 0 (1 ∷ []) [] (10 ∷ 3 ∷ []) ∷ [])
-    ∷ [])
-    (at (0 ∷ 1 ∷ 2 ∷ 3 ∷ 4 ∷ 5 ∷ 6 ∷ 15 ∷ 16 ∷ 17 ∷ 18 ∷ 7 ∷ 8 ∷ 9 ∷ 10 ∷ 11 ∷ 12 ∷ 13 ∷ 14 ∷ 19 ∷ 20 ∷ 21 ∷ []) [])
-    (registers 14 (0 ∷ 0 ∷ 4 ∷ 1 ∷ 1 ∷ 6 ∷ 0 ∷ 6 ∷ 5 ∷ 5 ∷ 0 ∷ 5 ∷ 5 ∷ 5 ∷ []))
-    (operands 22 (8 ∷ 9 ∷ 8 ∷ 8 ∷ 11 ∷ 9 ∷ 11 ∷ 11 ∷ 11 ∷ 11 ∷ 12 ∷ 9 ∷ 12 ∷ 12 ∷ 12 ∷ 12 ∷ 13 ∷ 9 ∷ 13 ∷ 13 ∷ 13 ∷ 13 ∷ []))
-    (beside [] [] (6 ∷ 10 ∷ 9 ∷ []))
+-- seed 4, a register R: refused 5
+abbrev pub d34 : Row
+d34 =
+    stays (pic ((op Const 0 (8 ∷ []) [] (absent ∷ 4294967039 ∷ 0 ∷ 1 ∷ 8 ∷ 3 ∷ 5 ∷ []) ∷ op2 Alloc 4 8 ∷ op Cat 0 (4
+    ∷ 8 ∷ 8 ∷ []) (0 ∷ 3 ∷ []) (45817 ∷ []) ∷ op3 SigVal 7 8 8 ∷ op Store 2 (4 ∷ 8 ∷ []) [] [] ∷ op3 Index 3 4 8
+    ∷ op Bin 4 (2 ∷ 8 ∷ 0 ∷ []) [] [] ∷ op CondBr 0 (1 ∷ []) [] (1 ∷ []) ∷ []) ∷ (op Bin 4 (0 ∷ 9 ∷ 4 ∷ []) [] []
+    ∷ op CallNative 0 [] (3 ∷ 1 ∷ []) [] ∷ op1 Ret 8 ∷ []) ∷ (op3 Cat 1 1 1 ∷ []) ∷ []) (at (upto 12) []) (registers 9
+    (1 ∷ 0 ∷ 0 ∷ 0 ∷ 2 ∷ 0 ∷ 0 ∷ 1 ∷ 0 ∷ [])) (operands 4 (8 ∷ 4 ∷ 4 ∷ 7 ∷ [])) (beside [] [] (1 ∷ []))) 30 8120 800
+    (refused 5)
 
-abbrev pub s327 : Row
-s327 = moves s327-lent 80 8320 800 (done 3 14 22) ((1 ∷ 11 ∷ 12 ∷ 4 ∷ 12 ∷ 10 ∷ []) ∷ (2 ∷ 12 ∷ 10 ∷ 4 ∷ 13 ∷ 16 ∷ []) ∷ (3 ∷ 10 ∷ 6 ∷ 4 ∷ 14 ∷ 22 ∷ []) ∷ []) s327-left
+-- seed 4, a slot present that is not visited: refused 5
+abbrev pub d36 : Row
+d36 =
+    stays (pic ((op Const 0 (8 ∷ []) [] (absent ∷ 4294967039 ∷ 0 ∷ 1 ∷ 8 ∷ 3 ∷ 5 ∷ []) ∷ op2 Alloc 4 8 ∷ op Cat 0 (4
+    ∷ 8 ∷ 8 ∷ []) (0 ∷ 3 ∷ []) (45817 ∷ []) ∷ op3 SigVal 7 8 8 ∷ op Store 2 (4 ∷ 8 ∷ absent ∷ absent ∷ 0 ∷ []) [] []
+    ∷ op3 Index 3 4 8 ∷ op Bin 4 (2 ∷ 8 ∷ 0 ∷ []) [] [] ∷ op CondBr 0 (1 ∷ []) [] (1 ∷ []) ∷ []) ∷ (op Bin 4 (0 ∷ 8
+    ∷ 4 ∷ []) [] [] ∷ op CallNative 0 [] (3 ∷ 1 ∷ []) [] ∷ op1 Ret 8 ∷ []) ∷ (op3 Cat 1 1 1 ∷ []) ∷ []) (at
+    (upto 12) []) (registers 9 (1 ∷ 0 ∷ 0 ∷ 0 ∷ 2 ∷ 0 ∷ 0 ∷ 1 ∷ 0 ∷ [])) (operands 4 (8 ∷ 4 ∷ 4 ∷ 7 ∷ []))
+    (beside [] [] (1 ∷ []))) 30 8120 800 (refused 5)
 
--- seed 460: rule 2 decides, short 0, short by an operand, the Rust as it is stops
-abbrev pub s460-lent : Picture
-s460-lent =
-    pic (
-    (op Const 0 (8 ∷ []) [] (48 ∷ 0 ∷ 7 ∷ 7 ∷ 6 ∷ 1 ∷ 4 ∷ []) ∷ op AddrOf 4 (9 ∷ []) [] []
-    ∷ op Cmp 0 (5 ∷ 8 ∷ 8 ∷ []) [] [] ∷ op Move 0 (7 ∷ 5 ∷ []) [] [] ∷ op Alloc 0 (6 ∷ 5 ∷ []) [] []
-    ∷ op Cat 0 (6 ∷ 5 ∷ 5 ∷ []) (0 ∷ 2 ∷ []) [] ∷ op Br 0 [] [] (4 ∷ []) ∷ [])
-    ∷ (op Ret 0 (0 ∷ []) [] [] ∷ [])
-    ∷ (op Output 0 (1 ∷ 1 ∷ []) [] [] ∷ op Output 0 (8 ∷ 8 ∷ []) [] [] ∷ op Ret 0 (1 ∷ []) [] [] ∷ [])
-    ∷ (op CondBr 0 (8 ∷ []) [] (1 ∷ 7 ∷ []) ∷ [])
-    ∷ (op Br 0 [] [] (3 ∷ []) ∷ [])
-    ∷ (op Output 0 (0 ∷ 0 ∷ []) [] [] ∷ op Unreachable 0 [] [] [] ∷ [])
-    ∷ (op Cat 0 (8 ∷ 8 ∷ 8 ∷ []) [] [] ∷ [])
-    ∷ (op Now 0 (1 ∷ []) [] [] ∷ op Bin 4 (1 ∷ 8 ∷ 6 ∷ []) [] []
-    ∷ op CondBr 0 (0 ∷ []) [] (2 ∷ 5 ∷ 3 ∷ 4 ∷ 8 ∷ 3 ∷ 1 ∷ []) ∷ [])
-    ∷ [])
-    (at (upto 19) [])
-    (registers 10 (0 ∷ 6 ∷ 4 ∷ 0 ∷ 0 ∷ 4 ∷ 0 ∷ 0 ∷ 0 ∷ 7 ∷ 77 ∷ 9 ∷ 77 ∷ []))
-    (operands 2 (6 ∷ 5 ∷ 999 ∷ []))
-    (beside [] [] (2 ∷ 7 ∷ []))
+-- seed 4, a slot absent that is visited: refused 5
+abbrev pub d37 : Row
+d37 =
+    stays (pic ((op Const 0 (8 ∷ []) [] (absent ∷ 4294967039 ∷ 0 ∷ 1 ∷ 8 ∷ 3 ∷ 5 ∷ []) ∷ op2 Alloc 4 8 ∷ op Cat 0 (4
+    ∷ 8 ∷ 8 ∷ []) (0 ∷ 3 ∷ []) (45817 ∷ []) ∷ op3 SigVal 7 8 8 ∷ op Store 2 (4 ∷ 8 ∷ []) [] [] ∷ op3 Index 3 4 8
+    ∷ op Bin 4 (2 ∷ 8 ∷ 0 ∷ []) [] [] ∷ op CondBr 0 (1 ∷ []) [] (1 ∷ []) ∷ []) ∷ (op Bin 4 (0 ∷ absent ∷ 4 ∷ []) [] []
+    ∷ op CallNative 0 [] (3 ∷ 1 ∷ []) [] ∷ op1 Ret 8 ∷ []) ∷ (op3 Cat 1 1 1 ∷ []) ∷ []) (at (upto 12) []) (registers 9
+    (1 ∷ 0 ∷ 0 ∷ 0 ∷ 2 ∷ 0 ∷ 0 ∷ 1 ∷ 0 ∷ [])) (operands 4 (8 ∷ 4 ∷ 4 ∷ 7 ∷ [])) (beside [] [] (1 ∷ []))) 30 8120 800
+    (refused 5)
 
-abbrev pub s460 : Row
-s460 = stays s460-lent 58 8232 800 (short 0 10 2)
+-- seed 4, 4294967294 where a slot may be absent: refused 5
+abbrev pub d38 : Row
+d38 =
+    stays (pic ((op Const 0 (8 ∷ []) [] (absent ∷ 4294967039 ∷ 0 ∷ 1 ∷ 8 ∷ 3 ∷ 5 ∷ []) ∷ op2 Alloc 4 8 ∷ op Cat 0 (4
+    ∷ 8 ∷ 8 ∷ []) (0 ∷ 3 ∷ []) (45817 ∷ []) ∷ op3 SigVal 7 8 8 ∷ op Store 2 (4 ∷ 8 ∷ []) [] [] ∷ op3 Index 3 4 8
+    ∷ op Bin 4 (2 ∷ 8 ∷ 0 ∷ []) [] [] ∷ op CondBr 0 (1 ∷ []) [] (1 ∷ []) ∷ []) ∷ (op Bin 4 (0 ∷ 8 ∷ 4 ∷ []) [] []
+    ∷ op CallNative 0 [] (3 ∷ 1 ∷ []) [] ∷ op1 Ret 4294967294 ∷ []) ∷ (op3 Cat 1 1 1 ∷ []) ∷ []) (at (upto 12) [])
+    (registers 9 (1 ∷ 0 ∷ 0 ∷ 0 ∷ 2 ∷ 0 ∷ 0 ∷ 1 ∷ 0 ∷ [])) (operands 4 (8 ∷ 4 ∷ 4 ∷ 7 ∷ [])) (beside [] [] (1
+    ∷ []))) 30 8120 800 (refused 5)
+
+-- seed 787, one of two part registers: refused 5
+abbrev pub d39 : Row
+d39 =
+    stays (pic ((const 6 28 ∷ op AddrOf 4 (7 ∷ []) [] [] ∷ op3 Cmp 3 6 6 ∷ op3 Cmp 5 6 3 ∷ op3 Cmp 4 3 3
+    ∷ op2 Alloc 2 5 ∷ op Cat 0 (2 ∷ 4 ∷ 4 ∷ []) (0 ∷ 2 ∷ []) [] ∷ op3 SigGather 1 6 1 ∷ op3 Index 5 2 5 ∷ fork 0 3 1
+    ∷ []) ∷ (op MakeDope 0 (1 ∷ []) (3 ∷ 2 ∷ []) [] ∷ op0 Unreachable ∷ []) ∷ (op3 Cat 0 0 0 ∷ []) ∷ (op1 Ret 1 ∷ [])
+    ∷ []) (at (upto 14) []) (registers 8 (1 ∷ 5 ∷ 6 ∷ 0 ∷ 1 ∷ 4 ∷ 0 ∷ 0 ∷ 77 ∷ 7 ∷ 77 ∷ [])) (operands 5 (2 ∷ 3 ∷ 1
+    ∷ 6 ∷ 4 ∷ absent ∷ absent ∷ 0 ∷ 999 ∷ [])) (beside [] [] (3 ∷ 7 ∷ 3 ∷ []))) 38 8152 800 (refused 5)
+
+-- seed 4, a list on a kind without one: refused 6
+abbrev pub d40 : Row
+d40 =
+    stays (pic ((op Const 0 (8 ∷ []) [] (absent ∷ 4294967039 ∷ 0 ∷ 1 ∷ 8 ∷ 3 ∷ 5 ∷ []) ∷ op Alloc 0 (4 ∷ 8 ∷ []) (0
+    ∷ 1 ∷ []) [] ∷ op Cat 0 (4 ∷ 8 ∷ 8 ∷ []) (0 ∷ 3 ∷ []) (45817 ∷ []) ∷ op3 SigVal 7 8 8 ∷ op Store 2 (4 ∷ 8
+    ∷ []) [] [] ∷ op3 Index 3 4 8 ∷ op Bin 4 (2 ∷ 8 ∷ 0 ∷ []) [] [] ∷ op CondBr 0 (1 ∷ []) [] (1 ∷ []) ∷ [])
+    ∷ (op Bin 4 (0 ∷ 8 ∷ 4 ∷ []) [] [] ∷ op CallNative 0 [] (3 ∷ 1 ∷ []) [] ∷ op1 Ret 8 ∷ []) ∷ (op3 Cat 1 1 1 ∷ [])
+    ∷ []) (at (upto 12) []) (registers 9 (1 ∷ 0 ∷ 0 ∷ 0 ∷ 2 ∷ 0 ∷ 0 ∷ 1 ∷ 0 ∷ [])) (operands 4 (8 ∷ 4 ∷ 4 ∷ 7 ∷ []))
+    (beside [] [] (1 ∷ []))) 30 8120 800 (refused 6)
+
+-- seed 4, a list start on a kind without one: refused 6
+abbrev pub d41 : Row
+d41 =
+    stays (pic ((op Const 0 (8 ∷ []) [] (absent ∷ 4294967039 ∷ 0 ∷ 1 ∷ 8 ∷ 3 ∷ 5 ∷ []) ∷ op Alloc 0 (4 ∷ 8 ∷ []) (1
+    ∷ []) [] ∷ op Cat 0 (4 ∷ 8 ∷ 8 ∷ []) (0 ∷ 3 ∷ []) (45817 ∷ []) ∷ op3 SigVal 7 8 8 ∷ op Store 2 (4 ∷ 8 ∷ []) [] []
+    ∷ op3 Index 3 4 8 ∷ op Bin 4 (2 ∷ 8 ∷ 0 ∷ []) [] [] ∷ op CondBr 0 (1 ∷ []) [] (1 ∷ []) ∷ []) ∷ (op Bin 4 (0 ∷ 8
+    ∷ 4 ∷ []) [] [] ∷ op CallNative 0 [] (3 ∷ 1 ∷ []) [] ∷ op1 Ret 8 ∷ []) ∷ (op3 Cat 1 1 1 ∷ []) ∷ []) (at
+    (upto 12) []) (registers 9 (1 ∷ 0 ∷ 0 ∷ 0 ∷ 2 ∷ 0 ∷ 0 ∷ 1 ∷ 0 ∷ [])) (operands 4 (8 ∷ 4 ∷ 4 ∷ 7 ∷ []))
+    (beside [] [] (1 ∷ []))) 30 8120 800 (refused 6)
+
+-- seed 4, a list past the operands: refused 6
+abbrev pub d42 : Row
+d42 =
+    stays (pic ((op Const 0 (8 ∷ []) [] (absent ∷ 4294967039 ∷ 0 ∷ 1 ∷ 8 ∷ 3 ∷ 5 ∷ []) ∷ op2 Alloc 4 8 ∷ op Cat 0 (4
+    ∷ 8 ∷ 8 ∷ []) (0 ∷ 3 ∷ []) (45817 ∷ []) ∷ op3 SigVal 7 8 8 ∷ op Store 2 (4 ∷ 8 ∷ []) [] [] ∷ op3 Index 3 4 8
+    ∷ op Bin 4 (2 ∷ 8 ∷ 0 ∷ []) [] [] ∷ op CondBr 0 (1 ∷ []) [] (1 ∷ []) ∷ []) ∷ (op Bin 4 (0 ∷ 8 ∷ 4 ∷ []) [] []
+    ∷ op CallNative 0 [] (4 ∷ 1 ∷ []) [] ∷ op1 Ret 8 ∷ []) ∷ (op3 Cat 1 1 1 ∷ []) ∷ []) (at (upto 12) []) (registers 9
+    (1 ∷ 0 ∷ 0 ∷ 0 ∷ 2 ∷ 0 ∷ 0 ∷ 1 ∷ 0 ∷ [])) (operands 4 (8 ∷ 4 ∷ 4 ∷ 7 ∷ [])) (beside [] [] (1 ∷ []))) 30 8120 800
+    (refused 6)
+
+-- seed 4, an empty list past the operands: refused 6
+abbrev pub d43 : Row
+d43 =
+    stays (pic ((op Const 0 (8 ∷ []) [] (absent ∷ 4294967039 ∷ 0 ∷ 1 ∷ 8 ∷ 3 ∷ 5 ∷ []) ∷ op2 Alloc 4 8 ∷ op Cat 0 (4
+    ∷ 8 ∷ 8 ∷ []) (0 ∷ 3 ∷ []) (45817 ∷ []) ∷ op3 SigVal 7 8 8 ∷ op Store 2 (4 ∷ 8 ∷ []) [] [] ∷ op3 Index 3 4 8
+    ∷ op Bin 4 (2 ∷ 8 ∷ 0 ∷ []) [] [] ∷ op CondBr 0 (1 ∷ []) [] (1 ∷ []) ∷ []) ∷ (op Bin 4 (0 ∷ 8 ∷ 4 ∷ []) [] []
+    ∷ op CallNative 0 [] (5 ∷ []) [] ∷ op1 Ret 8 ∷ []) ∷ (op3 Cat 1 1 1 ∷ []) ∷ []) (at (upto 12) []) (registers 9 (1
+    ∷ 0 ∷ 0 ∷ 0 ∷ 2 ∷ 0 ∷ 0 ∷ 1 ∷ 0 ∷ [])) (operands 4 (8 ∷ 4 ∷ 4 ∷ 7 ∷ [])) (beside [] [] (1 ∷ []))) 30 8120 800
+    (refused 6)
+
+-- seed 4, start and length that wrap round: refused 6
+abbrev pub d45 : Row
+d45 =
+    stays (pic ((op Const 0 (8 ∷ []) [] (absent ∷ 4294967039 ∷ 0 ∷ 1 ∷ 8 ∷ 3 ∷ 5 ∷ []) ∷ op2 Alloc 4 8 ∷ op Cat 0 (4
+    ∷ 8 ∷ 8 ∷ []) (0 ∷ 3 ∷ []) (45817 ∷ []) ∷ op3 SigVal 7 8 8 ∷ op Store 2 (4 ∷ 8 ∷ []) [] [] ∷ op3 Index 3 4 8
+    ∷ op Bin 4 (2 ∷ 8 ∷ 0 ∷ []) [] [] ∷ op CondBr 0 (1 ∷ []) [] (1 ∷ []) ∷ []) ∷ (op Bin 4 (0 ∷ 8 ∷ 4 ∷ []) [] []
+    ∷ op CallNative 0 [] (absent ∷ 2 ∷ []) [] ∷ op1 Ret 8 ∷ []) ∷ (op3 Cat 1 1 1 ∷ []) ∷ []) (at (upto 12) [])
+    (registers 9 (1 ∷ 0 ∷ 0 ∷ 0 ∷ 2 ∷ 0 ∷ 0 ∷ 1 ∷ 0 ∷ [])) (operands 4 (8 ∷ 4 ∷ 4 ∷ 7 ∷ [])) (beside [] [] (1
+    ∷ []))) 30 8120 800 (refused 6)
+
+-- seed 4, an operand R: refused 6
+abbrev pub d46 : Row
+d46 =
+    stays (pic ((op Const 0 (8 ∷ []) [] (absent ∷ 4294967039 ∷ 0 ∷ 1 ∷ 8 ∷ 3 ∷ 5 ∷ []) ∷ op2 Alloc 4 8 ∷ op Cat 0 (4
+    ∷ 8 ∷ 8 ∷ []) (0 ∷ 3 ∷ []) (45817 ∷ []) ∷ op3 SigVal 7 8 8 ∷ op Store 2 (4 ∷ 8 ∷ []) [] [] ∷ op3 Index 3 4 8
+    ∷ op Bin 4 (2 ∷ 8 ∷ 0 ∷ []) [] [] ∷ op CondBr 0 (1 ∷ []) [] (1 ∷ []) ∷ []) ∷ (op Bin 4 (0 ∷ 8 ∷ 4 ∷ []) [] []
+    ∷ op CallNative 0 [] (3 ∷ 1 ∷ []) [] ∷ op1 Ret 8 ∷ []) ∷ (op3 Cat 1 1 1 ∷ []) ∷ []) (at (upto 12) []) (registers 9
+    (1 ∷ 0 ∷ 0 ∷ 0 ∷ 2 ∷ 0 ∷ 0 ∷ 1 ∷ 0 ∷ [])) (operands 4 (8 ∷ 4 ∷ 4 ∷ 9 ∷ [])) (beside [] [] (1 ∷ []))) 30 8120 800
+    (refused 6)
+
+-- seed 5, a Br to no block: refused 7
+abbrev pub d48 : Row
+d48 =
+    stays (pic ((op Const 0 (8 ∷ []) [] (45 ∷ 0 ∷ 5 ∷ 7 ∷ 0 ∷ 0 ∷ 7 ∷ []) ∷ op Br 0 [] [] (4 ∷ 8 ∷ 2 ∷ 8 ∷ 5 ∷ 3 ∷ [])
+    ∷ []) ∷ (op CallIndirect 0 (0 ∷ []) (0 ∷ 1 ∷ []) [] ∷ op2 Output 3 4 ∷ op Case 0 (8 ∷ []) [] (95 ∷ []) ∷ [])
+    ∷ (op3 Cat 1 1 1 ∷ []) ∷ (op2 Alloc 3 8 ∷ op3 Cat 3 8 8 ∷ op Check 3 (8 ∷ 8 ∷ 3 ∷ []) [] [] ∷ op Bin 1 (4 ∷ 8 ∷ 8
+    ∷ []) [] [] ∷ op2 LayoutOf 4 3 ∷ fork 8 3 1 ∷ []) ∷ []) (at (upto 12) (9 ∷ replicate 9 0 ++ 27 ∷ 0 ∷ []))
+    (registers 9 (0 ∷ 4 ∷ 0 ∷ 6 ∷ 4 ∷ 1 ∷ 1 ∷ 4 ∷ 0 ∷ 77 ∷ 9 ∷ 9 ∷ [])) (operands 1 (3 ∷ [])) (beside [] [] (3
+    ∷ []))) 40 8160 800 (refused 7)
+
+-- seed 4, a CondBr's t to no block: refused 7
+abbrev pub d49 : Row
+d49 =
+    stays (pic ((op Const 0 (8 ∷ []) [] (absent ∷ 4294967039 ∷ 0 ∷ 1 ∷ 8 ∷ 3 ∷ 5 ∷ []) ∷ op2 Alloc 4 8 ∷ op Cat 0 (4
+    ∷ 8 ∷ 8 ∷ []) (0 ∷ 3 ∷ []) (45817 ∷ []) ∷ op3 SigVal 7 8 8 ∷ op Store 2 (4 ∷ 8 ∷ []) [] [] ∷ op3 Index 3 4 8
+    ∷ op Bin 4 (2 ∷ 8 ∷ 0 ∷ []) [] [] ∷ op CondBr 0 (1 ∷ []) [] (3 ∷ []) ∷ []) ∷ (op Bin 4 (0 ∷ 8 ∷ 4 ∷ []) [] []
+    ∷ op CallNative 0 [] (3 ∷ 1 ∷ []) [] ∷ op1 Ret 8 ∷ []) ∷ (op3 Cat 1 1 1 ∷ []) ∷ []) (at (upto 12) []) (registers 9
+    (1 ∷ 0 ∷ 0 ∷ 0 ∷ 2 ∷ 0 ∷ 0 ∷ 1 ∷ 0 ∷ [])) (operands 4 (8 ∷ 4 ∷ 4 ∷ 7 ∷ [])) (beside [] [] (1 ∷ []))) 30 8120 800
+    (refused 7)
+
+-- seed 4, a CondBr's f to no block: refused 7
+abbrev pub d50 : Row
+d50 =
+    stays (pic ((op Const 0 (8 ∷ []) [] (absent ∷ 4294967039 ∷ 0 ∷ 1 ∷ 8 ∷ 3 ∷ 5 ∷ []) ∷ op2 Alloc 4 8 ∷ op Cat 0 (4
+    ∷ 8 ∷ 8 ∷ []) (0 ∷ 3 ∷ []) (45817 ∷ []) ∷ op3 SigVal 7 8 8 ∷ op Store 2 (4 ∷ 8 ∷ []) [] [] ∷ op3 Index 3 4 8
+    ∷ op Bin 4 (2 ∷ 8 ∷ 0 ∷ []) [] [] ∷ fork 1 1 3 ∷ []) ∷ (op Bin 4 (0 ∷ 8 ∷ 4 ∷ []) [] [] ∷ op CallNative 0 [] (3
+    ∷ 1 ∷ []) [] ∷ op1 Ret 8 ∷ []) ∷ (op3 Cat 1 1 1 ∷ []) ∷ []) (at (upto 12) []) (registers 9 (1 ∷ 0 ∷ 0 ∷ 0 ∷ 2 ∷ 0
+    ∷ 0 ∷ 1 ∷ 0 ∷ [])) (operands 4 (8 ∷ 4 ∷ 4 ∷ 7 ∷ [])) (beside [] [] (1 ∷ []))) 30 8120 800 (refused 7)
+
+-- seed 4, a case target that is no block, in no pair: refused 7
+abbrev pub d51 : Row
+d51 =
+    stays (pic ((op Const 0 (8 ∷ []) [] (absent ∷ 4294967039 ∷ 0 ∷ 1 ∷ 8 ∷ 3 ∷ 5 ∷ []) ∷ op2 Alloc 4 8 ∷ op Cat 0 (4
+    ∷ 8 ∷ 8 ∷ []) (0 ∷ 3 ∷ []) (45817 ∷ []) ∷ op3 SigVal 7 8 8 ∷ op Store 2 (4 ∷ 8 ∷ []) [] [] ∷ op3 Index 3 4 8
+    ∷ op Bin 4 (2 ∷ 8 ∷ 0 ∷ []) [] [] ∷ op CondBr 0 (1 ∷ []) [] (1 ∷ []) ∷ []) ∷ (op Bin 4 (0 ∷ 8 ∷ 4 ∷ []) [] []
+    ∷ op CallNative 0 [] (3 ∷ 1 ∷ []) [] ∷ op1 Ret 8 ∷ []) ∷ (op3 Cat 1 1 1 ∷ []) ∷ []) (at (upto 12) []) (registers 9
+    (1 ∷ 0 ∷ 0 ∷ 0 ∷ 2 ∷ 0 ∷ 0 ∷ 1 ∷ 0 ∷ [])) (operands 4 (8 ∷ 4 ∷ 4 ∷ 7 ∷ [])) (beside [] (3 ∷ []) (1
+    ∷ []))) 30 8120 800 (refused 7)
+
+-- seed 4, an empty case pair: refused 7
+abbrev pub d52 : Row
+d52 =
+    stays (pic ((op Const 0 (8 ∷ []) [] (absent ∷ 4294967039 ∷ 0 ∷ 1 ∷ 8 ∷ 3 ∷ 5 ∷ []) ∷ op2 Alloc 4 8 ∷ op Cat 0 (4
+    ∷ 8 ∷ 8 ∷ []) (0 ∷ 3 ∷ []) (45817 ∷ []) ∷ op3 SigVal 7 8 8 ∷ op Store 2 (4 ∷ 8 ∷ []) [] [] ∷ op3 Index 3 4 8
+    ∷ op Bin 4 (2 ∷ 8 ∷ 0 ∷ []) [] [] ∷ op CondBr 0 (1 ∷ []) [] (1 ∷ []) ∷ []) ∷ (op Bin 4 (0 ∷ 8 ∷ 4 ∷ []) [] []
+    ∷ op CallNative 0 [] (3 ∷ 1 ∷ []) [] ∷ op1 Ret 8 ∷ []) ∷ (op3 Cat 1 1 1 ∷ []) ∷ []) (at (upto 12) []) (registers 9
+    (1 ∷ 0 ∷ 0 ∷ 0 ∷ 2 ∷ 0 ∷ 0 ∷ 1 ∷ 0 ∷ [])) (operands 4 (8 ∷ 4 ∷ 4 ∷ 7 ∷ [])) (beside (0 ∷ 0 ∷ []) [] (1
+    ∷ []))) 30 8120 800 (refused 7)
+
+-- seed 4, a case pair past its targets: refused 7
+abbrev pub d53 : Row
+d53 =
+    stays (pic ((op Const 0 (8 ∷ []) [] (absent ∷ 4294967039 ∷ 0 ∷ 1 ∷ 8 ∷ 3 ∷ 5 ∷ []) ∷ op2 Alloc 4 8 ∷ op Cat 0 (4
+    ∷ 8 ∷ 8 ∷ []) (0 ∷ 3 ∷ []) (45817 ∷ []) ∷ op3 SigVal 7 8 8 ∷ op Store 2 (4 ∷ 8 ∷ []) [] [] ∷ op3 Index 3 4 8
+    ∷ op Bin 4 (2 ∷ 8 ∷ 0 ∷ []) [] [] ∷ op CondBr 0 (1 ∷ []) [] (1 ∷ []) ∷ []) ∷ (op Bin 4 (0 ∷ 8 ∷ 4 ∷ []) [] []
+    ∷ op CallNative 0 [] (3 ∷ 1 ∷ []) [] ∷ op1 Ret 8 ∷ []) ∷ (op3 Cat 1 1 1 ∷ []) ∷ []) (at (upto 12) []) (registers 9
+    (1 ∷ 0 ∷ 0 ∷ 0 ∷ 2 ∷ 0 ∷ 0 ∷ 1 ∷ 0 ∷ [])) (operands 4 (8 ∷ 4 ∷ 4 ∷ 7 ∷ [])) (beside (0 ∷ 1 ∷ []) [] (1
+    ∷ []))) 30 8120 800 (refused 7)
 
 abbrev pub rows5 : List Row
 rows5 =
-    s173 ∷ s204 ∷ s211 ∷ s260 ∷ s292 ∷ s325 ∷ s326 ∷ s327 ∷ s460
-    ∷ []
+    d13 ∷ d14 ∷ d15 ∷ d16 ∷ d17 ∷ d18 ∷ d19 ∷ d20 ∷ d21 ∷ d22 ∷ d23 ∷ d24 ∷ d25 ∷ d26 ∷ d28 ∷ d29 ∷ d30 ∷ d31 ∷ d32
+    ∷ d34 ∷ d36 ∷ d37 ∷ d38 ∷ d39 ∷ d40 ∷ d41 ∷ d42 ∷ d43 ∷ d45 ∷ d46 ∷ d48 ∷ d49 ∷ d50 ∷ d51 ∷ d52 ∷ d53 ∷ []

@@ -1,365 +1,379 @@
--- Pictures by seed and what the Rust makes of them, page 7: of the first 4000 seeds of the generator, those that show
--- something new. Printed by `compare crossed` in tests/rust, and again by its compare.sh: not to be edited.
--- Assumes nothing.
-use mathlib.Core.List.{List, [], _∷_}
-use Rattle.words.specs.Lists.{upto}
-use Rattle.model.specs.Kinds.{AddrOf, Alloc, Bin, BoolOp, BoundsLen, Br, CallNative, Case, Cat, Cmp}
-use Rattle.model.specs.Kinds.{CondBr, Const, ConstF, Cover, Deref, DopeLen, Edge, FCheck, Field, Index}
-use Rattle.model.specs.Kinds.{LGet, LayoutOf, MakeDope, Move, Now, Output, Pos, Ret, Select, SigRead}
-use Rattle.model.specs.Kinds.{SigReadScalar, SigVal, Store, Unreachable, WaitOn}
-use Rattle.model.specs.Picture.{Picture, absent}
+-- Pictures at the bounds of document 01, page 7: what the Rust makes of them, and tests/rust's judgement of refused ones. Printed by
+-- `compare crossed` in tests/rust, and again by its compare.sh: not to be edited. Assumes nothing.
+use mathlib.Core.List.{List, [], _∷_, _++_}
+use lib.ListN.{replicate}
+use Rattle.words.specs.Lists.{range, upto}
+use Rattle.model.specs.Kinds.{Alloc, Br, Cat, Cmp, CondBr, Const, Cover, Output, Ret, Suspend}
+use Rattle.model.specs.Picture.{absent}
 use Rattle.model.specs.Build.{op}
-use Rattle.crossed.specs.Row.{Row, pic, at, registers, operands, beside, moves, stays, done, short}
+use Rattle.crossed.specs.Row.{Row, pic, at, registers, operands, beside, op0, op2, op3, br, fork, const, moves, stays, done, refused}
 
--- seed 855: a register reused, chain of 1, moves without replay, moves without vias, new Sig, short 7, short by a
--- register, target after x, target before x, target t
-abbrev pub s855-lent : Picture
-s855-lent =
-    pic (
-    (op Const 0 (8 ∷ []) [] (24 ∷ 0 ∷ 4 ∷ 2 ∷ 2 ∷ 8 ∷ 4 ∷ []) ∷ [])
-    ∷ (op Ret 0 [] [] [] ∷ [])
-    ∷ (op Cmp 0 (4 ∷ 8 ∷ 8 ∷ []) [] [] ∷ op Alloc 0 (2 ∷ 4 ∷ []) [] [] ∷ op Bin 4 (2 ∷ 8 ∷ 8 ∷ []) [] []
-    ∷ op Cmp 0 (5 ∷ 2 ∷ 2 ∷ []) [] [] ∷ op BoundsLen 0 (6 ∷ 8 ∷ 2 ∷ 4 ∷ []) [] []
-    ∷ op Alloc 0 (3 ∷ 2 ∷ []) [] (7 ∷ 6 ∷ 7 ∷ 1 ∷ 4 ∷ 0 ∷ 1 ∷ []) ∷ op Cat 0 (3 ∷ 4 ∷ 4 ∷ []) [] (26714 ∷ [])
-    ∷ op Cat 0 (3 ∷ 4 ∷ 2 ∷ []) [] (15644 ∷ []) ∷ op Bin 3 (7 ∷ 2 ∷ 8 ∷ []) [] []
-    ∷ op CallNative 1 (7 ∷ []) (0 ∷ 1 ∷ []) [] ∷ op Move 0 (3 ∷ 5 ∷ []) [] [] ∷ op CondBr 0 (1 ∷ []) [] (4 ∷ 1 ∷ []) ∷ [])
-    ∷ (op Ret 0 [] [] [] ∷ [])
-    ∷ (op CondBr 0 (1 ∷ []) [] (2 ∷ 3 ∷ []) ∷ [])
+-- blocks without instructions: 0
+abbrev pub b2 : Row
+b2 =
+    stays (pic ([] ∷ [] ∷ []) (at [] []) (registers 9 (0 ∷ 0 ∷ 1 ∷ replicate 6 0 ++ 77 ∷ [])) (operands 0 (77 ∷ []))
+    (beside [] [] [])) 28 8112 800 (done 0 9 0)
+
+-- 7 members, block 2 in replay: 1
+abbrev pub b5 : Row
+b5 =
+    moves (pic ((const 1 8 ∷ op2 Alloc 2 1 ∷ op3 Cmp 3 1 1 ∷ op3 Cmp 4 1 3 ∷ op3 Cmp 5 1 4 ∷ op3 Cmp 6 1 5
+    ∷ op3 Cmp 7 1 6 ∷ op3 Cat 2 1 1 ∷ fork 0 1 2 ∷ []) ∷ (op2 Output 2 1 ∷ op0 Ret ∷ []) ∷ (op0 Ret ∷ []) ∷ []) (at
+    (upto 12) []) (registers 9 (0 ∷ 0 ∷ 1 ∷ replicate 6 0 ++ 77 ∷ 77 ∷ 77 ∷ 77 ∷ [])) (operands 0 (77 ∷ []))
+    (beside [] [] (2 ∷ []))) 38 8152 800 (done 1 12 0) ((1 ∷ 0 ∷ 1 ∷ 7 ∷ 12 ∷ 0 ∷ []) ∷ [])
+    (pic ((const 1 8 ∷ fork 0 1 2 ∷ []) ∷ (op2 Alloc 9 1 ∷ op3 Cmp 10 1 1 ∷ op3 Cmp 11 1 10 ∷ op3 Cmp 10 1 11
+    ∷ op3 Cmp 11 1 10 ∷ op3 Cmp 10 1 11 ∷ op3 Cat 9 1 1 ∷ op2 Output 9 1 ∷ op0 Ret ∷ []) ∷ (op0 Ret ∷ []) ∷ []) (at (0
+    ∷ 8 ∷ range 1 7 ++ 9 ∷ 10 ∷ 11 ∷ []) []) (registers 12 (0 ∷ 0 ∷ 1 ∷ replicate 6 0 ++ 1 ∷ 0 ∷ 0 ∷ 77 ∷ []))
+    (operands 0 (77 ∷ [])) (beside [] [] (2 ∷ [])))
+
+-- 7 members, block 0 and none in replay: 0
+abbrev pub b6 : Row
+b6 =
+    stays (pic ((const 1 8 ∷ op2 Alloc 2 1 ∷ op3 Cmp 3 1 1 ∷ op3 Cmp 4 1 3 ∷ op3 Cmp 5 1 4 ∷ op3 Cmp 6 1 5
+    ∷ op3 Cmp 7 1 6 ∷ op3 Cat 2 1 1 ∷ fork 0 1 2 ∷ []) ∷ (op2 Output 2 1 ∷ op0 Ret ∷ []) ∷ (op0 Ret ∷ []) ∷ []) (at
+    (upto 12) []) (registers 9 (0 ∷ 0 ∷ 1 ∷ replicate 6 0 ++ 77 ∷ [])) (operands 0 (77 ∷ [])) (beside [] [] (0 ∷ 3
+    ∷ 77 ∷ absent ∷ []))) 32 8128 800 (done 0 9 0)
+
+-- 3 members with replay: 1
+abbrev pub b7 : Row
+b7 =
+    moves (pic ((const 1 8 ∷ op2 Alloc 2 1 ∷ op3 Cmp 3 1 1 ∷ op3 Cat 2 1 1 ∷ fork 0 1 2 ∷ []) ∷ (op2 Output 2 1
+    ∷ op0 Ret ∷ []) ∷ (op0 Ret ∷ []) ∷ []) (at (upto 8) []) (registers 9 (0 ∷ 0 ∷ 1 ∷ replicate 6 0 ++ 77 ∷ 77 ∷ 77
+    ∷ [])) (operands 0 (77 ∷ [])) (beside [] [] (1 ∷ []))) 36 8144 800 (done 1 11 0) ((1 ∷ 0 ∷ 1 ∷ 3 ∷ 11 ∷ 0 ∷ [])
     ∷ [])
-    (at (upto 16) [])
-    (registers 9 (1 ∷ 0 ∷ 1 ∷ 0 ∷ 5 ∷ 0 ∷ 4 ∷ 0 ∷ 1 ∷ 9 ∷ 77 ∷ 9 ∷ 7 ∷ 7 ∷ 77 ∷ 7 ∷ 77 ∷ 9 ∷ 77 ∷ 77 ∷ 7 ∷ 77 ∷ 9 ∷ 9 ∷ 9 ∷ 7 ∷ 77 ∷ 7 ∷ 7 ∷ 77 ∷ 9 ∷ 77 ∷ 77 ∷ 9 ∷ 9 ∷ 9 ∷ 9 ∷ 7 ∷ 9 ∷ 9 ∷ 7 ∷ 9 ∷ 9 ∷ 9 ∷ 7 ∷ 9 ∷ 9 ∷ 77 ∷ 77 ∷ 9 ∷ 7 ∷ 9 ∷ 77 ∷ 9 ∷ 7 ∷ 7 ∷ []))
-    (operands 1 (1 ∷ []))
-    (beside [] [] [])
+    (pic ((const 1 8 ∷ fork 0 1 2 ∷ []) ∷ (op2 Alloc 9 1 ∷ op3 Cmp 10 1 1 ∷ op3 Cat 9 1 1 ∷ op2 Output 9 1 ∷ op0 Ret
+    ∷ []) ∷ (op0 Ret ∷ []) ∷ []) (at (0 ∷ 4 ∷ 1 ∷ 2 ∷ 3 ∷ 5 ∷ 6 ∷ 7 ∷ []) []) (registers 11 (0 ∷ 0 ∷ 1
+    ∷ replicate 6 0 ++ 1 ∷ 0 ∷ 77 ∷ [])) (operands 0 (77 ∷ [])) (beside [] [] (1 ∷ [])))
 
-abbrev pub s855-left : Picture
-s855-left =
-    pic (
-    (op Const 0 (8 ∷ []) [] (24 ∷ 0 ∷ 4 ∷ 2 ∷ 2 ∷ 8 ∷ 4 ∷ []) ∷ [])
-    ∷ (op Ret 0 [] [] [] ∷ [])
-    ∷ (op CondBr 0 (1 ∷ []) [] (4 ∷ 1 ∷ []) ∷ [])
-    ∷ (op Ret 0 [] [] [] ∷ [])
-    ∷ (op Cmp 0 (45 ∷ 8 ∷ 8 ∷ []) [] [] ∷ op Alloc 0 (46 ∷ 45 ∷ []) [] [] ∷ op Bin 4 (46 ∷ 8 ∷ 8 ∷ []) [] []
-    ∷ op Cmp 0 (47 ∷ 46 ∷ 46 ∷ []) [] [] ∷ op BoundsLen 0 (48 ∷ 8 ∷ 46 ∷ 45 ∷ []) [] []
-    ∷ op Alloc 0 (50 ∷ 46 ∷ []) [] (7 ∷ 6 ∷ 7 ∷ 1 ∷ 4 ∷ 0 ∷ 1 ∷ []) ∷ op Cat 0 (50 ∷ 45 ∷ 45 ∷ []) [] (26714 ∷ [])
-    ∷ op Cat 0 (50 ∷ 45 ∷ 46 ∷ []) [] (15644 ∷ []) ∷ op Bin 3 (50 ∷ 46 ∷ 8 ∷ []) [] []
-    ∷ op CallNative 1 (50 ∷ []) (0 ∷ 1 ∷ []) [] ∷ op Move 0 (50 ∷ 47 ∷ []) [] []
-    ∷ op CondBr 0 (1 ∷ []) [] (2 ∷ 3 ∷ []) ∷ [])
+-- 2 members with replay: 0
+abbrev pub b8 : Row
+b8 =
+    stays (pic ((const 1 8 ∷ op2 Alloc 2 1 ∷ op3 Cat 2 1 1 ∷ fork 0 1 2 ∷ []) ∷ (op2 Output 2 1 ∷ op0 Ret ∷ [])
+    ∷ (op0 Ret ∷ []) ∷ []) (at (upto 7) []) (registers 9 (0 ∷ 0 ∷ 1 ∷ replicate 6 0 ++ 77 ∷ [])) (operands 0 (77
+    ∷ [])) (beside [] [] (1 ∷ []))) 32 8128 800 (done 0 9 0)
+
+-- Const -2^40: 1
+abbrev pub b12 : Row
+b12 =
+    moves (pic ((op Const 0 (1 ∷ []) [] (0 ∷ 4294967040 ∷ []) ∷ op2 Alloc 2 1 ∷ op3 Cmp 3 1 1 ∷ op3 Cmp 4 1 3
+    ∷ op3 Cmp 5 1 4 ∷ op3 Cmp 6 1 5 ∷ op3 Cmp 7 1 6 ∷ op3 Cmp 8 1 7 ∷ op3 Cat 2 1 1 ∷ fork 0 1 2 ∷ [])
+    ∷ (op2 Output 2 1 ∷ op0 Ret ∷ []) ∷ (op0 Ret ∷ []) ∷ []) (at (upto 13) []) (registers 9 (0 ∷ 0 ∷ 1
+    ∷ replicate 6 0 ++ 77 ∷ 77 ∷ 77 ∷ 77 ∷ [])) (operands 0 (77 ∷ [])) (beside [] [] [])) 38 8152 800 (done 1 12 0)
+    ((1 ∷ 0 ∷ 1 ∷ 8 ∷ 12 ∷ 0 ∷ []) ∷ [])
+    (pic ((op Const 0 (1 ∷ []) [] (0 ∷ 4294967040 ∷ []) ∷ fork 0 1 2 ∷ []) ∷ (op2 Alloc 9 1 ∷ op3 Cmp 10 1 1
+    ∷ op3 Cmp 11 1 10 ∷ op3 Cmp 10 1 11 ∷ op3 Cmp 11 1 10 ∷ op3 Cmp 10 1 11 ∷ op3 Cmp 11 1 10 ∷ op3 Cat 9 1 1
+    ∷ op2 Output 9 1 ∷ op0 Ret ∷ []) ∷ (op0 Ret ∷ []) ∷ []) (at (0 ∷ 9 ∷ range 1 8 ++ 10 ∷ 11 ∷ 12 ∷ []) [])
+    (registers 12 (0 ∷ 0 ∷ 1 ∷ replicate 6 0 ++ 1 ∷ 0 ∷ 0 ∷ 77 ∷ [])) (operands 0 (77 ∷ [])) (beside [] [] []))
+
+-- Const -2^40-1: 0
+abbrev pub b13 : Row
+b13 =
+    stays (pic ((op Const 0 (1 ∷ []) [] (absent ∷ 4294967039 ∷ []) ∷ op2 Alloc 2 1 ∷ op3 Cmp 3 1 1 ∷ op3 Cmp 4 1 3
+    ∷ op3 Cmp 5 1 4 ∷ op3 Cmp 6 1 5 ∷ op3 Cmp 7 1 6 ∷ op3 Cmp 8 1 7 ∷ op3 Cat 2 1 1 ∷ fork 0 1 2 ∷ [])
+    ∷ (op2 Output 2 1 ∷ op0 Ret ∷ []) ∷ (op0 Ret ∷ []) ∷ []) (at (upto 13) []) (registers 9 (0 ∷ 0 ∷ 1
+    ∷ replicate 6 0 ++ 77 ∷ [])) (operands 0 (77 ∷ [])) (beside [] [] [])) 32 8128 800 (done 0 9 0)
+
+-- a constant written twice, outside the chain: 0
+abbrev pub b14 : Row
+b14 =
+    stays (pic ((op2 Alloc 2 1 ∷ op3 Cmp 3 1 1 ∷ op3 Cmp 4 1 3 ∷ op3 Cmp 5 1 4 ∷ op3 Cmp 6 1 5 ∷ op3 Cmp 7 1 6
+    ∷ op3 Cmp 8 1 7 ∷ op3 Cat 2 1 1 ∷ fork 0 1 2 ∷ []) ∷ (op2 Output 2 1 ∷ op0 Ret ∷ []) ∷ (const 1 8 ∷ const 1 8
+    ∷ op0 Ret ∷ []) ∷ []) (at (upto 14) []) (registers 9 (0 ∷ 0 ∷ 1 ∷ replicate 6 0 ++ 77 ∷ [])) (operands 0 (77
+    ∷ [])) (beside [] [] [])) 32 8128 800 (done 0 9 0)
+
+-- Suspend before all: 1
+abbrev pub b16 : Row
+b16 =
+    moves (pic ((op0 Suspend ∷ const 1 8 ∷ op2 Alloc 2 1 ∷ op3 Cmp 3 1 1 ∷ op3 Cmp 4 1 3 ∷ op3 Cmp 5 1 4
+    ∷ op3 Cmp 6 1 5 ∷ op3 Cmp 7 1 6 ∷ op3 Cmp 8 1 7 ∷ op3 Cat 2 1 1 ∷ fork 0 1 2 ∷ []) ∷ (op2 Output 2 1 ∷ op0 Ret
+    ∷ []) ∷ (op0 Ret ∷ []) ∷ []) (at (upto 14) []) (registers 9 (0 ∷ 0 ∷ 1 ∷ replicate 6 0 ++ 77 ∷ 77 ∷ 77 ∷ 77 ∷ []))
+    (operands 0 (77 ∷ [])) (beside [] [] [])) 38 8152 800 (done 1 12 0) ((1 ∷ 0 ∷ 1 ∷ 8 ∷ 12 ∷ 0 ∷ []) ∷ [])
+    (pic ((op0 Suspend ∷ const 1 8 ∷ fork 0 1 2 ∷ []) ∷ (op2 Alloc 9 1 ∷ op3 Cmp 10 1 1 ∷ op3 Cmp 11 1 10
+    ∷ op3 Cmp 10 1 11 ∷ op3 Cmp 11 1 10 ∷ op3 Cmp 10 1 11 ∷ op3 Cmp 11 1 10 ∷ op3 Cat 9 1 1 ∷ op2 Output 9 1 ∷ op0 Ret
+    ∷ []) ∷ (op0 Ret ∷ []) ∷ []) (at (0 ∷ 1 ∷ 10 ∷ range 2 8 ++ 11 ∷ 12 ∷ 13 ∷ []) []) (registers 12 (0 ∷ 0 ∷ 1
+    ∷ replicate 6 0 ++ 1 ∷ 0 ∷ 0 ∷ 77 ∷ [])) (operands 0 (77 ∷ [])) (beside [] [] []))
+
+-- Cat of form 1: 0
+abbrev pub b18 : Row
+b18 =
+    stays (pic ((const 1 8 ∷ op2 Alloc 2 1 ∷ op3 Cmp 3 1 1 ∷ op3 Cmp 4 1 3 ∷ op3 Cmp 5 1 4 ∷ op3 Cmp 6 1 5
+    ∷ op3 Cmp 7 1 6 ∷ op3 Cmp 8 1 7 ∷ op Cat 1 (2 ∷ 1 ∷ 1 ∷ []) [] [] ∷ fork 0 1 2 ∷ []) ∷ (op2 Output 2 1 ∷ op0 Ret
+    ∷ []) ∷ (op0 Ret ∷ []) ∷ []) (at (upto 13) []) (registers 9 (0 ∷ 0 ∷ 1 ∷ replicate 6 0 ++ 77 ∷ [])) (operands 0
+    (77 ∷ [])) (beside [] [] [])) 32 8128 800 (done 0 9 0)
+
+-- a Cat list of 33: 1
+abbrev pub b22 : Row
+b22 =
+    moves (pic ((const 1 8 ∷ op2 Alloc 2 1 ∷ op3 Cmp 3 1 1 ∷ op3 Cmp 4 1 3 ∷ op3 Cmp 5 1 4 ∷ op3 Cmp 6 1 5
+    ∷ op3 Cmp 7 1 6 ∷ op3 Cmp 8 1 7 ∷ op Cat 0 (2 ∷ 1 ∷ 1 ∷ []) (0 ∷ 33 ∷ []) [] ∷ fork 0 1 2 ∷ []) ∷ (op2 Output 2 1
+    ∷ op0 Ret ∷ []) ∷ (op0 Ret ∷ []) ∷ []) (at (upto 13) []) (registers 9 (0 ∷ 0 ∷ 1 ∷ replicate 6 0 ++ 77 ∷ 77 ∷ 77
+    ∷ 77 ∷ [])) (operands 33 (2 ∷ 1 ∷ 2 ∷ 1 ∷ 2 ∷ 1 ∷ 2 ∷ 1 ∷ 2 ∷ 1 ∷ 2 ∷ 1 ∷ 2 ∷ 1 ∷ 2 ∷ 1 ∷ 2 ∷ 1 ∷ 2 ∷ 1 ∷ 2 ∷ 1
+    ∷ 2 ∷ 1 ∷ 2 ∷ 1 ∷ 2 ∷ 1 ∷ 2 ∷ 1 ∷ 2 ∷ 1 ∷ 2 ∷ replicate 34 77)) (beside [] [] [])) 38 8152 800 (done 1 12 66) ((1
+    ∷ 0 ∷ 1 ∷ 8 ∷ 12 ∷ 66 ∷ []) ∷ [])
+    (pic ((const 1 8 ∷ fork 0 1 2 ∷ []) ∷ (op2 Alloc 9 1 ∷ op3 Cmp 10 1 1 ∷ op3 Cmp 11 1 10 ∷ op3 Cmp 10 1 11
+    ∷ op3 Cmp 11 1 10 ∷ op3 Cmp 10 1 11 ∷ op3 Cmp 11 1 10 ∷ op Cat 0 (9 ∷ 1 ∷ 1 ∷ []) (33 ∷ 33 ∷ []) []
+    ∷ op2 Output 9 1 ∷ op0 Ret ∷ []) ∷ (op0 Ret ∷ []) ∷ []) (at (0 ∷ 9 ∷ range 1 8 ++ 10 ∷ 11 ∷ 12 ∷ []) [])
+    (registers 12 (0 ∷ 0 ∷ 1 ∷ replicate 6 0 ++ 1 ∷ 0 ∷ 0 ∷ 77 ∷ [])) (operands 66 (2 ∷ 1 ∷ 2 ∷ 1 ∷ 2 ∷ 1 ∷ 2 ∷ 1 ∷ 2
+    ∷ 1 ∷ 2 ∷ 1 ∷ 2 ∷ 1 ∷ 2 ∷ 1 ∷ 2 ∷ 1 ∷ 2 ∷ 1 ∷ 2 ∷ 1 ∷ 2 ∷ 1 ∷ 2 ∷ 1 ∷ 2 ∷ 1 ∷ 2 ∷ 1 ∷ 2 ∷ 1 ∷ 2 ∷ 9 ∷ 1 ∷ 9 ∷ 1
+    ∷ 9 ∷ 1 ∷ 9 ∷ 1 ∷ 9 ∷ 1 ∷ 9 ∷ 1 ∷ 9 ∷ 1 ∷ 9 ∷ 1 ∷ 9 ∷ 1 ∷ 9 ∷ 1 ∷ 9 ∷ 1 ∷ 9 ∷ 1 ∷ 9 ∷ 1 ∷ 9 ∷ 1 ∷ 9 ∷ 1 ∷ 9 ∷ 1
+    ∷ 9 ∷ 77 ∷ [])) (beside [] [] []))
+
+-- a Cat list of 33, all scalars: 1
+abbrev pub b23 : Row
+b23 =
+    moves (pic ((const 1 8 ∷ op2 Alloc 2 1 ∷ op3 Cmp 3 1 1 ∷ op3 Cmp 4 1 3 ∷ op3 Cmp 5 1 4 ∷ op3 Cmp 6 1 5
+    ∷ op3 Cmp 7 1 6 ∷ op3 Cmp 8 1 7 ∷ op Cat 0 (2 ∷ 1 ∷ 1 ∷ []) (0 ∷ 33 ∷ []) (65535 ∷ []) ∷ fork 0 1 2 ∷ [])
+    ∷ (op2 Output 2 1 ∷ op0 Ret ∷ []) ∷ (op0 Ret ∷ []) ∷ []) (at (upto 13) []) (registers 9 (0 ∷ 0 ∷ 1
+    ∷ replicate 6 0 ++ 77 ∷ 77 ∷ 77 ∷ 77 ∷ [])) (operands 33 (2 ∷ 1 ∷ 2 ∷ 1 ∷ 2 ∷ 1 ∷ 2 ∷ 1 ∷ 2 ∷ 1 ∷ 2 ∷ 1 ∷ 2 ∷ 1
+    ∷ 2 ∷ 1 ∷ 2 ∷ 1 ∷ 2 ∷ 1 ∷ 2 ∷ 1 ∷ 2 ∷ 1 ∷ 2 ∷ 1 ∷ 2 ∷ 1 ∷ 2 ∷ 1 ∷ 2 ∷ 1 ∷ 2 ∷ replicate 34 77))
+    (beside [] [] [])) 38 8152 800 (done 1 12 66) ((1 ∷ 0 ∷ 1 ∷ 8 ∷ 12 ∷ 66 ∷ []) ∷ [])
+    (pic ((const 1 8 ∷ fork 0 1 2 ∷ []) ∷ (op2 Alloc 9 1 ∷ op3 Cmp 10 1 1 ∷ op3 Cmp 11 1 10 ∷ op3 Cmp 10 1 11
+    ∷ op3 Cmp 11 1 10 ∷ op3 Cmp 10 1 11 ∷ op3 Cmp 11 1 10 ∷ op Cat 0 (9 ∷ 1 ∷ 1 ∷ []) (33 ∷ 33 ∷ []) (65535 ∷ [])
+    ∷ op2 Output 9 1 ∷ op0 Ret ∷ []) ∷ (op0 Ret ∷ []) ∷ []) (at (0 ∷ 9 ∷ range 1 8 ++ 10 ∷ 11 ∷ 12 ∷ []) [])
+    (registers 12 (0 ∷ 0 ∷ 1 ∷ replicate 6 0 ++ 1 ∷ 0 ∷ 0 ∷ 77 ∷ [])) (operands 66 (2 ∷ 1 ∷ 2 ∷ 1 ∷ 2 ∷ 1 ∷ 2 ∷ 1 ∷ 2
+    ∷ 1 ∷ 2 ∷ 1 ∷ 2 ∷ 1 ∷ 2 ∷ 1 ∷ 2 ∷ 1 ∷ 2 ∷ 1 ∷ 2 ∷ 1 ∷ 2 ∷ 1 ∷ 2 ∷ 1 ∷ 2 ∷ 1 ∷ 2 ∷ 1 ∷ 2 ∷ 1 ∷ 2 ∷ 9 ∷ 1 ∷ 9 ∷ 1
+    ∷ 9 ∷ 1 ∷ 9 ∷ 1 ∷ 9 ∷ 1 ∷ 9 ∷ 1 ∷ 9 ∷ 1 ∷ 9 ∷ 1 ∷ 9 ∷ 1 ∷ 9 ∷ 1 ∷ 9 ∷ 1 ∷ 9 ∷ 1 ∷ 9 ∷ 1 ∷ 9 ∷ 1 ∷ 9 ∷ 1 ∷ 9 ∷ 1
+    ∷ 9 ∷ 77 ∷ [])) (beside [] [] []))
+
+-- scalars 65,536: 204
+abbrev pub b25 : Row
+b25 =
+    stays (pic ((const 1 8 ∷ op2 Alloc 2 1 ∷ op3 Cmp 3 1 1 ∷ op3 Cmp 4 1 3 ∷ op3 Cmp 5 1 4 ∷ op3 Cmp 6 1 5
+    ∷ op3 Cmp 7 1 6 ∷ op3 Cmp 8 1 7 ∷ op Cat 0 (2 ∷ 1 ∷ 1 ∷ []) (0 ∷ 33 ∷ []) (65536 ∷ []) ∷ fork 0 1 2 ∷ [])
+    ∷ (op2 Output 2 1 ∷ op0 Ret ∷ []) ∷ (op0 Ret ∷ []) ∷ []) (at (upto 13) []) (registers 9 (0 ∷ 0 ∷ 1
+    ∷ replicate 6 0 ++ 77 ∷ [])) (operands 33 (2 ∷ 1 ∷ 2 ∷ 1 ∷ 2 ∷ 1 ∷ 2 ∷ 1 ∷ 2 ∷ 1 ∷ 2 ∷ 1 ∷ 2 ∷ 1 ∷ 2 ∷ 1 ∷ 2 ∷ 1
+    ∷ 2 ∷ 1 ∷ 2 ∷ 1 ∷ 2 ∷ 1 ∷ 2 ∷ 1 ∷ 2 ∷ 1 ∷ 2 ∷ 1 ∷ 2 ∷ 1 ∷ 2 ∷ 77 ∷ [])) (beside [] [] [])) 32 8128 800 (refused 4)
+
+-- a chain of 2 blocks: 1
+abbrev pub b29 : Row
+b29 =
+    moves (pic ((const 1 8 ∷ op2 Alloc 2 1 ∷ op3 Cmp 3 1 1 ∷ op3 Cmp 4 1 3 ∷ op3 Cmp 5 1 4 ∷ op3 Cmp 6 1 5
+    ∷ op3 Cmp 7 1 6 ∷ op3 Cmp 8 1 7 ∷ op3 Cat 2 1 1 ∷ br 3 ∷ []) ∷ (op2 Output 2 1 ∷ op0 Ret ∷ []) ∷ (op0 Ret ∷ [])
+    ∷ (op0 Cover ∷ fork 0 1 2 ∷ []) ∷ []) (at (upto 15) []) (registers 9 (0 ∷ 0 ∷ 1 ∷ replicate 6 0 ++ 77 ∷ 77 ∷ 77
+    ∷ 77 ∷ [])) (operands 0 (77 ∷ [])) (beside [] [] [])) 42 8168 800 (done 1 12 0) ((1 ∷ 0 ∷ 1 ∷ 8 ∷ 12 ∷ 0 ∷ [])
     ∷ [])
-    (at (0 ∷ 1 ∷ 13 ∷ 14 ∷ 2 ∷ 3 ∷ 4 ∷ 5 ∷ 6 ∷ 7 ∷ 8 ∷ 9 ∷ 10 ∷ 11 ∷ 12 ∷ 15 ∷ []) [])
-    (registers 51 (1 ∷ 0 ∷ 1 ∷ 0 ∷ 5 ∷ 0 ∷ 4 ∷ 0 ∷ 1 ∷ 5 ∷ 1 ∷ 0 ∷ 4 ∷ 0 ∷ 0 ∷ 5 ∷ 1 ∷ 0 ∷ 4 ∷ 0 ∷ 0 ∷ 5 ∷ 1 ∷ 0 ∷ 4 ∷ 0 ∷ 0 ∷ 5 ∷ 1 ∷ 0 ∷ 4 ∷ 0 ∷ 0 ∷ 5 ∷ 1 ∷ 0 ∷ 4 ∷ 0 ∷ 0 ∷ 5 ∷ 1 ∷ 0 ∷ 4 ∷ 0 ∷ 0 ∷ 5 ∷ 1 ∷ 0 ∷ 4 ∷ 0 ∷ 0 ∷ 9 ∷ 77 ∷ 9 ∷ 7 ∷ 7 ∷ []))
-    (operands 1 (1 ∷ []))
-    (beside [] [] [])
+    (pic ((const 1 8 ∷ br 3 ∷ []) ∷ (op2 Alloc 9 1 ∷ op3 Cmp 10 1 1 ∷ op3 Cmp 11 1 10 ∷ op3 Cmp 10 1 11
+    ∷ op3 Cmp 11 1 10 ∷ op3 Cmp 10 1 11 ∷ op3 Cmp 11 1 10 ∷ op3 Cat 9 1 1 ∷ op2 Output 9 1 ∷ op0 Ret ∷ []) ∷ (op0 Ret
+    ∷ []) ∷ (op0 Cover ∷ fork 0 1 2 ∷ []) ∷ []) (at (0 ∷ 9 ∷ range 1 8 ++ range 10 5) []) (registers 12 (0 ∷ 0 ∷ 1
+    ∷ replicate 6 0 ++ 1 ∷ 0 ∷ 0 ∷ 77 ∷ [])) (operands 0 (77 ∷ [])) (beside [] [] []))
 
-abbrev pub s855 : Row
-s855 = moves s855-lent 132 8528 800 (short 7 51 1) ((1 ∷ 2 ∷ 4 ∷ 11 ∷ 15 ∷ 1 ∷ []) ∷ (2 ∷ 4 ∷ 2 ∷ 11 ∷ 21 ∷ 1 ∷ []) ∷ (3 ∷ 2 ∷ 4 ∷ 11 ∷ 27 ∷ 1 ∷ []) ∷ (4 ∷ 4 ∷ 2 ∷ 11 ∷ 33 ∷ 1 ∷ []) ∷ (5 ∷ 2 ∷ 4 ∷ 11 ∷ 39 ∷ 1 ∷ []) ∷ (6 ∷ 4 ∷ 2 ∷ 11 ∷ 45 ∷ 1 ∷ []) ∷ (7 ∷ 2 ∷ 4 ∷ 11 ∷ 51 ∷ 1 ∷ []) ∷ []) s855-left
-
--- seed 859: a seventh block decides, done 0
-abbrev pub s859-lent : Picture
-s859-lent =
-    pic (
-    (op Const 0 (8 ∷ []) [] (0 ∷ 256 ∷ []) ∷ op AddrOf 0 (9 ∷ []) [] []
-    ∷ op DopeLen 0 (2 ∷ 9 ∷ []) [] (8 ∷ 2 ∷ 7 ∷ 5 ∷ 8 ∷ 6 ∷ 5 ∷ []) ∷ op Move 0 (7 ∷ 2 ∷ []) [] []
-    ∷ op Cmp 0 (4 ∷ 7 ∷ 2 ∷ []) [] [] ∷ op Field 0 (0 ∷ 1 ∷ 0 ∷ []) [] []
-    ∷ op Br 0 [] [] (3 ∷ 0 ∷ 5 ∷ 0 ∷ 2 ∷ 3 ∷ 8 ∷ []) ∷ [])
-    ∷ (op Br 0 [] [] (8 ∷ []) ∷ [])
-    ∷ (op Output 0 (0 ∷ 0 ∷ []) [] (4 ∷ 2 ∷ 3 ∷ 2 ∷ 6 ∷ 4 ∷ []) ∷ op Case 0 (1 ∷ []) [] (95 ∷ []) ∷ [])
-    ∷ (op Br 0 [] [] (6 ∷ []) ∷ [])
-    ∷ []
-    ∷ (op Br 0 [] [] (10 ∷ 3 ∷ 6 ∷ 3 ∷ 1 ∷ 4 ∷ 4 ∷ []) ∷ [])
-    ∷ (op Br 0 [] [] (5 ∷ 3 ∷ 8 ∷ 2 ∷ 1 ∷ 3 ∷ 3 ∷ []) ∷ [])
-    ∷ (op LGet 0 (0 ∷ 1 ∷ 0 ∷ []) [] [] ∷ op CondBr 0 (8 ∷ []) [] (9 ∷ 2 ∷ []) ∷ [])
-    ∷ (op CondBr 0 (8 ∷ []) [] (4 ∷ 7 ∷ 3 ∷ 4 ∷ 1 ∷ 0 ∷ 4 ∷ []) ∷ [])
-    ∷ (op FCheck 0 (0 ∷ 1 ∷ 1 ∷ []) [] [] ∷ op Ret 0 (0 ∷ []) [] [] ∷ [])
-    ∷ (op Br 0 [] [] (1 ∷ []) ∷ [])
-    ∷ (op Cat 0 (1 ∷ 1 ∷ 1 ∷ []) [] [] ∷ [])
+-- a chain of 6 blocks: 1
+abbrev pub b33 : Row
+b33 =
+    moves (pic ((const 1 8 ∷ op2 Alloc 2 1 ∷ op3 Cmp 3 1 1 ∷ op3 Cmp 4 1 3 ∷ op3 Cmp 5 1 4 ∷ op3 Cmp 6 1 5
+    ∷ op3 Cmp 7 1 6 ∷ op3 Cmp 8 1 7 ∷ op3 Cat 2 1 1 ∷ br 3 ∷ []) ∷ (op2 Output 2 1 ∷ op0 Ret ∷ []) ∷ (op0 Ret ∷ [])
+    ∷ (op0 Cover ∷ br 4 ∷ []) ∷ (op0 Cover ∷ br 5 ∷ []) ∷ (op0 Cover ∷ br 6 ∷ []) ∷ (op0 Cover ∷ br 7 ∷ [])
+    ∷ (op0 Cover ∷ fork 0 1 2 ∷ []) ∷ []) (at (upto 23) []) (registers 9 (0 ∷ 0 ∷ 1 ∷ replicate 6 0 ++ 77 ∷ 77 ∷ 77
+    ∷ 77 ∷ [])) (operands 0 (77 ∷ [])) (beside [] [] [])) 58 8232 800 (done 1 12 0) ((1 ∷ 0 ∷ 1 ∷ 8 ∷ 12 ∷ 0 ∷ [])
     ∷ [])
-    (at (upto 20) [])
-    (registers 10 (0 ∷ 0 ∷ 0 ∷ 0 ∷ 0 ∷ 1 ∷ 1 ∷ 0 ∷ 0 ∷ 5 ∷ 7 ∷ 77 ∷ 9 ∷ 77 ∷ []))
-    (operands 0 [])
-    (beside [] [] (2 ∷ 4 ∷ []))
+    (pic ((const 1 8 ∷ br 3 ∷ []) ∷ (op2 Alloc 9 1 ∷ op3 Cmp 10 1 1 ∷ op3 Cmp 11 1 10 ∷ op3 Cmp 10 1 11
+    ∷ op3 Cmp 11 1 10 ∷ op3 Cmp 10 1 11 ∷ op3 Cmp 11 1 10 ∷ op3 Cat 9 1 1 ∷ op2 Output 9 1 ∷ op0 Ret ∷ []) ∷ (op0 Ret
+    ∷ []) ∷ (op0 Cover ∷ br 4 ∷ []) ∷ (op0 Cover ∷ br 5 ∷ []) ∷ (op0 Cover ∷ br 6 ∷ []) ∷ (op0 Cover ∷ br 7 ∷ [])
+    ∷ (op0 Cover ∷ fork 0 1 2 ∷ []) ∷ []) (at (0 ∷ 9 ∷ range 1 8 ++ range 10 13) []) (registers 12 (0 ∷ 0 ∷ 1
+    ∷ replicate 6 0 ++ 1 ∷ 0 ∷ 0 ∷ 77 ∷ [])) (operands 0 (77 ∷ [])) (beside [] [] []))
 
-abbrev pub s859 : Row
-s859 = stays s859-lent 76 8304 800 (done 0 10 0)
+-- a chain of 7 blocks: 0
+abbrev pub b34 : Row
+b34 =
+    stays (pic ((const 1 8 ∷ op2 Alloc 2 1 ∷ op3 Cmp 3 1 1 ∷ op3 Cmp 4 1 3 ∷ op3 Cmp 5 1 4 ∷ op3 Cmp 6 1 5
+    ∷ op3 Cmp 7 1 6 ∷ op3 Cmp 8 1 7 ∷ op3 Cat 2 1 1 ∷ br 3 ∷ []) ∷ (op2 Output 2 1 ∷ op0 Ret ∷ []) ∷ (op0 Ret ∷ [])
+    ∷ (op0 Cover ∷ br 4 ∷ []) ∷ (op0 Cover ∷ br 5 ∷ []) ∷ (op0 Cover ∷ br 6 ∷ []) ∷ (op0 Cover ∷ br 7 ∷ [])
+    ∷ (op0 Cover ∷ br 8 ∷ []) ∷ (op0 Cover ∷ fork 0 1 2 ∷ []) ∷ []) (at (upto 25) []) (registers 9 (0 ∷ 0 ∷ 1
+    ∷ replicate 6 0 ++ 77 ∷ [])) (operands 0 (77 ∷ [])) (beside [] [] [])) 56 8224 800 (done 0 9 0)
 
--- seed 1047: 2 members are too few, a constant just past a length decides, chain of 5, done 1, moves with replay,
--- moves with vias, new Sig, rule 1 decides, rule 2 decides, target after x, target f, target renamed
-abbrev pub s1047-lent : Picture
-s1047-lent =
-    pic (
-    (op Const 0 (6 ∷ []) [] (absent ∷ 4294967039 ∷ []) ∷ op AddrOf 1 (7 ∷ []) [] [] ∷ op SigRead 0 (1 ∷ 0 ∷ []) [] []
-    ∷ op Cmp 0 (4 ∷ 6 ∷ 6 ∷ []) [] [] ∷ op Edge 0 (0 ∷ 1 ∷ []) [] [] ∷ op Cmp 0 (3 ∷ 4 ∷ 4 ∷ []) [] []
-    ∷ op Alloc 0 (5 ∷ 6 ∷ []) [] (0 ∷ 6 ∷ 7 ∷ 8 ∷ 1 ∷ 1 ∷ 6 ∷ [])
-    ∷ op Const 0 (1 ∷ []) [] (19604642 ∷ 3148616545 ∷ 2 ∷ 4 ∷ 5 ∷ 1 ∷ 6 ∷ []) ∷ op LayoutOf 0 (5 ∷ 5 ∷ []) [] []
-    ∷ op LayoutOf 0 (2 ∷ 5 ∷ []) [] [] ∷ op Cmp 0 (2 ∷ 6 ∷ 2 ∷ []) [] [] ∷ op FCheck 0 (6 ∷ 1 ∷ 0 ∷ []) [] []
-    ∷ op Br 0 [] [] (1 ∷ 2 ∷ 4 ∷ 0 ∷ 1 ∷ 0 ∷ 5 ∷ []) ∷ [])
-    ∷ (op Br 0 [] [] (2 ∷ []) ∷ [])
-    ∷ (op Br 0 [] [] (3 ∷ []) ∷ [])
-    ∷ (op Br 0 [] [] (4 ∷ []) ∷ [])
-    ∷ (op CondBr 0 (6 ∷ []) [] (6 ∷ 5 ∷ []) ∷ [])
-    ∷ (op Output 0 (3 ∷ 5 ∷ []) [] [] ∷ op Output 0 (5 ∷ 3 ∷ []) [] []
-    ∷ op Ret 0 [] [] (5 ∷ 7 ∷ 3 ∷ 4 ∷ 4 ∷ 4 ∷ 4 ∷ []) ∷ [])
-    ∷ (op Deref 0 (1 ∷ 1 ∷ []) [] [] ∷ op Ret 0 [] [] [] ∷ [])
-    ∷ (op Cat 0 (6 ∷ 6 ∷ 6 ∷ []) [] [] ∷ [])
+-- 9 rounds of three to be had: 8
+abbrev pub b45 : Row
+b45 =
+    moves (pic ((op3 Cmp 3 1 1 ∷ op3 Cmp 4 1 1 ∷ op3 Cmp 5 1 1 ∷ fork 0 1 10 ∷ []) ∷ (fork 0 2 11 ∷ []) ∷ (fork 0 3 12
+    ∷ []) ∷ (fork 0 4 13 ∷ []) ∷ (fork 0 5 14 ∷ []) ∷ (fork 0 6 15 ∷ []) ∷ (fork 0 7 16 ∷ []) ∷ (fork 0 8 17 ∷ [])
+    ∷ (fork 0 9 18 ∷ []) ∷ (op0 Ret ∷ []) ∷ (op0 Ret ∷ []) ∷ (op0 Ret ∷ []) ∷ (op0 Ret ∷ []) ∷ (op0 Ret ∷ [])
+    ∷ (op0 Ret ∷ []) ∷ (op0 Ret ∷ []) ∷ (op0 Ret ∷ []) ∷ (op0 Ret ∷ []) ∷ (op0 Ret ∷ []) ∷ (op3 Cat 1 1 1 ∷ []) ∷ [])
+    (at (upto 23) []) (registers 6 (0 ∷ 0 ∷ 1 ∷ 0 ∷ 0 ∷ 0 ∷ replicate 9 77)) (operands 0 (77 ∷ [])) (beside [] []
+    (range 1 9))) 110 8440 800 (done 8 14 0) ((1 ∷ 0 ∷ 1 ∷ 3 ∷ 7 ∷ 0 ∷ []) ∷ (2 ∷ 1 ∷ 2 ∷ 3 ∷ 8 ∷ 0 ∷ []) ∷ (3 ∷ 2 ∷ 3
+    ∷ 3 ∷ 9 ∷ 0 ∷ []) ∷ (4 ∷ 3 ∷ 4 ∷ 3 ∷ 10 ∷ 0 ∷ []) ∷ (5 ∷ 4 ∷ 5 ∷ 3 ∷ 11 ∷ 0 ∷ []) ∷ (6 ∷ 5 ∷ 6 ∷ 3 ∷ 12 ∷ 0 ∷ [])
+    ∷ (7 ∷ 6 ∷ 7 ∷ 3 ∷ 13 ∷ 0 ∷ []) ∷ (8 ∷ 7 ∷ 8 ∷ 3 ∷ 14 ∷ 0 ∷ []) ∷ [])
+    (pic ((fork 0 1 10 ∷ []) ∷ (fork 0 2 11 ∷ []) ∷ (fork 0 3 12 ∷ []) ∷ (fork 0 4 13 ∷ []) ∷ (fork 0 5 14 ∷ [])
+    ∷ (fork 0 6 15 ∷ []) ∷ (fork 0 7 16 ∷ []) ∷ (fork 0 8 17 ∷ []) ∷ (op3 Cmp 13 1 1 ∷ op3 Cmp 13 1 1 ∷ op3 Cmp 13 1 1
+    ∷ fork 0 9 18 ∷ []) ∷ (op0 Ret ∷ []) ∷ (op0 Ret ∷ []) ∷ (op0 Ret ∷ []) ∷ (op0 Ret ∷ []) ∷ (op0 Ret ∷ [])
+    ∷ (op0 Ret ∷ []) ∷ (op0 Ret ∷ []) ∷ (op0 Ret ∷ []) ∷ (op0 Ret ∷ []) ∷ (op0 Ret ∷ []) ∷ (op3 Cat 1 1 1 ∷ []) ∷ [])
+    (at (range 3 8 ++ 0 ∷ 1 ∷ 2 ∷ range 11 12) []) (registers 14 (0 ∷ 0 ∷ 1 ∷ replicate 11 0 ++ 77 ∷ [])) (operands 0
+    (77 ∷ [])) (beside [] [] (range 1 9)))
+
+-- eight Cmps and a Cat that stays: 1
+abbrev pub b46 : Row
+b46 =
+    moves (pic ((const 1 8 ∷ op3 Cmp 9 0 0 ∷ op3 Cmp 3 1 1 ∷ op3 Cmp 4 1 3 ∷ op3 Cmp 5 1 4 ∷ op3 Cmp 6 1 5
+    ∷ op3 Cmp 7 1 6 ∷ op3 Cmp 8 1 7 ∷ op3 Cmp 10 0 0 ∷ op3 Cat 2 1 1 ∷ fork 0 1 2 ∷ []) ∷ (op2 Output 2 1 ∷ op0 Ret
+    ∷ []) ∷ (op0 Ret ∷ []) ∷ []) (at (upto 14) []) (registers 11 (0 ∷ 0 ∷ 1 ∷ replicate 8 0 ++ 77 ∷ 77 ∷ 77 ∷ []))
+    (operands 0 (77 ∷ [])) (beside [] [] [])) 40 8160 800 (done 1 13 0) ((1 ∷ 0 ∷ 1 ∷ 8 ∷ 13 ∷ 0 ∷ []) ∷ [])
+    (pic ((const 1 8 ∷ op3 Cat 2 1 1 ∷ fork 0 1 2 ∷ []) ∷ (op3 Cmp 11 0 0 ∷ op3 Cmp 11 1 1 ∷ op3 Cmp 12 1 11
+    ∷ op3 Cmp 11 1 12 ∷ op3 Cmp 12 1 11 ∷ op3 Cmp 11 1 12 ∷ op3 Cmp 12 1 11 ∷ op3 Cmp 12 0 0 ∷ op2 Output 2 1
+    ∷ op0 Ret ∷ []) ∷ (op0 Ret ∷ []) ∷ []) (at (0 ∷ 9 ∷ 10 ∷ range 1 8 ++ 11 ∷ 12 ∷ 13 ∷ []) []) (registers 13 (0 ∷ 0
+    ∷ 1 ∷ replicate 10 0 ++ 77 ∷ [])) (operands 0 (77 ∷ [])) (beside [] [] []))
+
+-- the Cat in the chain's second block: 0
+abbrev pub b47 : Row
+b47 =
+    stays (pic ((const 1 8 ∷ op3 Cmp 9 0 0 ∷ op3 Cmp 3 1 1 ∷ op3 Cmp 4 1 3 ∷ op3 Cmp 5 1 4 ∷ op3 Cmp 6 1 5
+    ∷ op3 Cmp 7 1 6 ∷ op3 Cmp 8 1 7 ∷ op3 Cmp 10 0 0 ∷ br 3 ∷ []) ∷ (op2 Output 2 1 ∷ op0 Ret ∷ []) ∷ (op0 Ret ∷ [])
+    ∷ (op3 Cat 2 1 1 ∷ fork 0 1 2 ∷ []) ∷ []) (at (upto 15) []) (registers 11 (0 ∷ 0 ∷ 1 ∷ replicate 8 0 ++ 77 ∷ []))
+    (operands 0 (77 ∷ [])) (beside [] [] [])) 40 8160 800 (done 0 11 0)
+
+-- the Cat in the other branch: 0
+abbrev pub b48 : Row
+b48 =
+    stays (pic ((const 1 8 ∷ op3 Cmp 9 0 0 ∷ op3 Cmp 3 1 1 ∷ op3 Cmp 4 1 3 ∷ op3 Cmp 5 1 4 ∷ op3 Cmp 6 1 5
+    ∷ op3 Cmp 7 1 6 ∷ op3 Cmp 8 1 7 ∷ op3 Cmp 10 0 0 ∷ fork 0 1 2 ∷ []) ∷ (op2 Output 2 1 ∷ op0 Ret ∷ [])
+    ∷ (op3 Cat 2 1 1 ∷ op0 Ret ∷ []) ∷ []) (at (upto 14) []) (registers 11 (0 ∷ 0 ∷ 1 ∷ replicate 8 0 ++ 77 ∷ []))
+    (operands 0 (77 ∷ [])) (beside [] [] [])) 36 8144 800 (done 0 11 0)
+
+-- a Cat of form 1 in x, one of form 0 in the other branch: 0
+abbrev pub b49 : Row
+b49 =
+    stays (pic ((const 1 8 ∷ op3 Cmp 9 0 0 ∷ op3 Cmp 3 1 1 ∷ op3 Cmp 4 1 3 ∷ op3 Cmp 5 1 4 ∷ op3 Cmp 6 1 5
+    ∷ op3 Cmp 7 1 6 ∷ op3 Cmp 8 1 7 ∷ op3 Cmp 10 0 0 ∷ op Cat 1 (2 ∷ 1 ∷ 1 ∷ []) [] [] ∷ fork 0 1 2 ∷ [])
+    ∷ (op2 Output 2 1 ∷ op0 Ret ∷ []) ∷ (op3 Cat 2 1 1 ∷ op0 Ret ∷ []) ∷ []) (at (upto 15) []) (registers 11 (0 ∷ 0
+    ∷ 1 ∷ replicate 8 0 ++ 77 ∷ [])) (operands 0 (77 ∷ [])) (beside [] [] [])) 36 8144 800 (done 0 11 0)
+
+-- three with replay, a Cat elsewhere: 1
+abbrev pub b50 : Row
+b50 =
+    moves (pic ((const 1 8 ∷ op3 Cmp 3 1 1 ∷ op3 Cmp 4 1 1 ∷ op3 Cmp 5 1 1 ∷ fork 0 1 2 ∷ []) ∷ (op2 Output 5 5 ∷ [])
+    ∷ (op3 Cat 2 1 1 ∷ []) ∷ []) (at (upto 7) []) (registers 11 (0 ∷ 0 ∷ 1 ∷ replicate 8 0 ++ 77 ∷ 77 ∷ []))
+    (operands 1 (1 ∷ 77 ∷ [])) (beside [] [] (1 ∷ []))) 38 8152 800 (done 1 12 1) ((1 ∷ 0 ∷ 1 ∷ 3 ∷ 12 ∷ 1 ∷ []) ∷ [])
+    (pic ((const 1 8 ∷ fork 0 1 2 ∷ []) ∷ (op3 Cmp 11 1 1 ∷ op3 Cmp 11 1 1 ∷ op3 Cmp 11 1 1 ∷ op2 Output 11 11 ∷ [])
+    ∷ (op3 Cat 2 1 1 ∷ []) ∷ []) (at (0 ∷ 4 ∷ 1 ∷ 2 ∷ 3 ∷ 5 ∷ 6 ∷ []) []) (registers 12 (0 ∷ 0 ∷ 1
+    ∷ replicate 9 0 ++ 77 ∷ [])) (operands 1 (1 ∷ 77 ∷ [])) (beside [] [] (1 ∷ [])))
+
+-- three with replay, a Cat of form 1 elsewhere: 0
+abbrev pub b51 : Row
+b51 =
+    stays (pic ((const 1 8 ∷ op3 Cmp 3 1 1 ∷ op3 Cmp 4 1 1 ∷ op3 Cmp 5 1 1 ∷ fork 0 1 2 ∷ []) ∷ (op2 Output 5 5 ∷ [])
+    ∷ (op Cat 1 (2 ∷ 1 ∷ 1 ∷ []) [] [] ∷ []) ∷ []) (at (upto 7) []) (registers 11 (0 ∷ 0 ∷ 1 ∷ replicate 8 0 ++ 77
+    ∷ [])) (operands 1 (1 ∷ 77 ∷ [])) (beside [] [] (1 ∷ []))) 36 8144 800 (done 0 11 1)
+
+-- three with replay, no Cat at all: 0
+abbrev pub b52 : Row
+b52 =
+    stays (pic ((const 1 8 ∷ op3 Cmp 3 1 1 ∷ op3 Cmp 4 1 1 ∷ op3 Cmp 5 1 1 ∷ fork 0 1 2 ∷ []) ∷ (op2 Output 5 5 ∷ [])
+    ∷ (op0 Ret ∷ []) ∷ []) (at (upto 7) []) (registers 11 (0 ∷ 0 ∷ 1 ∷ replicate 8 0 ++ 77 ∷ [])) (operands 1 (1 ∷ 77
+    ∷ [])) (beside [] [] (1 ∷ []))) 36 8144 800 (done 0 11 1)
+
+-- no Cat, and a type of 8: 209
+abbrev pub b53 : Row
+b53 =
+    stays (pic ((const 1 8 ∷ op3 Cmp 3 1 1 ∷ op3 Cmp 4 1 1 ∷ op3 Cmp 5 1 1 ∷ fork 0 1 2 ∷ []) ∷ (op2 Output 5 5 ∷ [])
+    ∷ (op0 Ret ∷ []) ∷ []) (at (upto 7) []) (registers 11 (0 ∷ 0 ∷ 1 ∷ 0 ∷ 0 ∷ 8 ∷ replicate 5 0 ++ 77 ∷ []))
+    (operands 1 (1 ∷ 77 ∷ [])) (beside [] [] (1 ∷ []))) 36 8144 800 (refused 9)
+
+-- no blocks, and a type of 8: 209
+abbrev pub b54 : Row
+b54 =
+    stays (pic [] (at [] []) (registers 9 (0 ∷ 0 ∷ 1 ∷ 0 ∷ 0 ∷ 8 ∷ 0 ∷ 0 ∷ 0 ∷ 77 ∷ [])) (operands 0 (77 ∷ []))
+    (beside [] [] [])) 20 8080 800 (refused 9)
+
+-- the target before x: 1
+abbrev pub b55 : Row
+b55 =
+    moves (pic ((op2 Output 2 1 ∷ op0 Ret ∷ []) ∷ (const 1 8 ∷ op2 Alloc 2 1 ∷ op3 Cmp 3 1 1 ∷ op3 Cmp 4 1 3
+    ∷ op3 Cmp 5 1 4 ∷ op3 Cmp 6 1 5 ∷ op3 Cmp 7 1 6 ∷ op3 Cmp 8 1 7 ∷ op3 Cat 2 1 1 ∷ fork 0 0 2 ∷ []) ∷ (op0 Ret
+    ∷ []) ∷ []) (at (upto 13) []) (registers 9 (0 ∷ 0 ∷ 1 ∷ replicate 6 0 ++ 77 ∷ 77 ∷ 77 ∷ 77 ∷ [])) (operands 0 (77
+    ∷ [])) (beside [] [] [])) 38 8152 800 (done 1 12 0) ((1 ∷ 1 ∷ 0 ∷ 8 ∷ 12 ∷ 0 ∷ []) ∷ [])
+    (pic ((op2 Alloc 9 1 ∷ op3 Cmp 10 1 1 ∷ op3 Cmp 11 1 10 ∷ op3 Cmp 10 1 11 ∷ op3 Cmp 11 1 10 ∷ op3 Cmp 10 1 11
+    ∷ op3 Cmp 11 1 10 ∷ op3 Cat 9 1 1 ∷ op2 Output 9 1 ∷ op0 Ret ∷ []) ∷ (const 1 8 ∷ fork 0 0 2 ∷ []) ∷ (op0 Ret
+    ∷ []) ∷ []) (at (range 3 8 ++ 0 ∷ 1 ∷ 2 ∷ 11 ∷ 12 ∷ []) []) (registers 12 (0 ∷ 0 ∷ 1 ∷ replicate 6 0 ++ 1 ∷ 0 ∷ 0
+    ∷ 77 ∷ [])) (operands 0 (77 ∷ [])) (beside [] [] []))
+
+-- both branches before x: 1
+abbrev pub b56 : Row
+b56 =
+    moves (pic ((op0 Ret ∷ []) ∷ (op2 Output 2 1 ∷ op0 Ret ∷ []) ∷ (const 1 8 ∷ op2 Alloc 2 1 ∷ op3 Cmp 3 1 1
+    ∷ op3 Cmp 4 1 3 ∷ op3 Cmp 5 1 4 ∷ op3 Cmp 6 1 5 ∷ op3 Cmp 7 1 6 ∷ op3 Cmp 8 1 7 ∷ op3 Cat 2 1 1 ∷ op CondBr 0 (0
+    ∷ []) [] (1 ∷ []) ∷ []) ∷ []) (at (upto 13) []) (registers 9 (0 ∷ 0 ∷ 1 ∷ replicate 6 0 ++ 77 ∷ 77 ∷ 77 ∷ 77
+    ∷ [])) (operands 0 (77 ∷ [])) (beside [] [] [])) 38 8152 800 (done 1 12 0) ((1 ∷ 2 ∷ 1 ∷ 8 ∷ 12 ∷ 0 ∷ []) ∷ [])
+    (pic ((op0 Ret ∷ []) ∷ (op2 Alloc 9 1 ∷ op3 Cmp 10 1 1 ∷ op3 Cmp 11 1 10 ∷ op3 Cmp 10 1 11 ∷ op3 Cmp 11 1 10
+    ∷ op3 Cmp 10 1 11 ∷ op3 Cmp 11 1 10 ∷ op3 Cat 9 1 1 ∷ op2 Output 9 1 ∷ op0 Ret ∷ []) ∷ (const 1 8 ∷ op CondBr 0 (0
+    ∷ []) [] (1 ∷ []) ∷ []) ∷ []) (at (0 ∷ range 4 8 ++ 1 ∷ 2 ∷ 3 ∷ 12 ∷ []) []) (registers 12 (0 ∷ 0 ∷ 1
+    ∷ replicate 6 0 ++ 1 ∷ 0 ∷ 0 ∷ 77 ∷ [])) (operands 0 (77 ∷ [])) (beside [] [] []))
+
+-- an empty target: 1
+abbrev pub b57 : Row
+b57 =
+    moves (pic ((const 1 8 ∷ op2 Alloc 2 1 ∷ op3 Cmp 3 1 1 ∷ op3 Cmp 4 1 3 ∷ op3 Cmp 5 1 4 ∷ op3 Cmp 6 1 5
+    ∷ op3 Cmp 7 1 6 ∷ op3 Cmp 8 1 7 ∷ op3 Cat 2 1 1 ∷ fork 0 1 2 ∷ []) ∷ [] ∷ (op0 Ret ∷ []) ∷ []) (at (upto 11) [])
+    (registers 9 (0 ∷ 0 ∷ 1 ∷ replicate 6 0 ++ 77 ∷ 77 ∷ 77 ∷ 77 ∷ [])) (operands 0 (77 ∷ []))
+    (beside [] [] [])) 38 8152 800 (done 1 12 0) ((1 ∷ 0 ∷ 1 ∷ 8 ∷ 12 ∷ 0 ∷ []) ∷ [])
+    (pic ((const 1 8 ∷ fork 0 1 2 ∷ []) ∷ (op2 Alloc 9 1 ∷ op3 Cmp 10 1 1 ∷ op3 Cmp 11 1 10 ∷ op3 Cmp 10 1 11
+    ∷ op3 Cmp 11 1 10 ∷ op3 Cmp 10 1 11 ∷ op3 Cmp 11 1 10 ∷ op3 Cat 9 1 1 ∷ []) ∷ (op0 Ret ∷ []) ∷ []) (at (0 ∷ 9
+    ∷ range 1 8 ++ 10 ∷ []) []) (registers 12 (0 ∷ 0 ∷ 1 ∷ replicate 6 0 ++ 1 ∷ 0 ∷ 0 ∷ 77 ∷ [])) (operands 0 (77
+    ∷ [])) (beside [] [] []))
+
+-- an empty target before x: 1
+abbrev pub b58 : Row
+b58 =
+    moves (pic ([] ∷ (const 1 8 ∷ op2 Alloc 2 1 ∷ op3 Cmp 3 1 1 ∷ op3 Cmp 4 1 3 ∷ op3 Cmp 5 1 4 ∷ op3 Cmp 6 1 5
+    ∷ op3 Cmp 7 1 6 ∷ op3 Cmp 8 1 7 ∷ op3 Cat 2 1 1 ∷ fork 0 0 2 ∷ []) ∷ (op0 Ret ∷ []) ∷ []) (at (upto 11) [])
+    (registers 9 (0 ∷ 0 ∷ 1 ∷ replicate 6 0 ++ 77 ∷ 77 ∷ 77 ∷ 77 ∷ [])) (operands 0 (77 ∷ []))
+    (beside [] [] [])) 38 8152 800 (done 1 12 0) ((1 ∷ 1 ∷ 0 ∷ 8 ∷ 12 ∷ 0 ∷ []) ∷ [])
+    (pic ((op2 Alloc 9 1 ∷ op3 Cmp 10 1 1 ∷ op3 Cmp 11 1 10 ∷ op3 Cmp 10 1 11 ∷ op3 Cmp 11 1 10 ∷ op3 Cmp 10 1 11
+    ∷ op3 Cmp 11 1 10 ∷ op3 Cat 9 1 1 ∷ []) ∷ (const 1 8 ∷ fork 0 0 2 ∷ []) ∷ (op0 Ret ∷ []) ∷ []) (at (range 1 8 ++ 0
+    ∷ 9 ∷ 10 ∷ []) []) (registers 12 (0 ∷ 0 ∷ 1 ∷ replicate 6 0 ++ 1 ∷ 0 ∷ 0 ∷ 77 ∷ [])) (operands 0 (77 ∷ []))
+    (beside [] [] []))
+
+-- the target is f: 1
+abbrev pub b59 : Row
+b59 =
+    moves (pic ((const 1 8 ∷ op2 Alloc 2 1 ∷ op3 Cmp 3 1 1 ∷ op3 Cmp 4 1 3 ∷ op3 Cmp 5 1 4 ∷ op3 Cmp 6 1 5
+    ∷ op3 Cmp 7 1 6 ∷ op3 Cmp 8 1 7 ∷ op3 Cat 2 1 1 ∷ fork 0 2 1 ∷ []) ∷ (op2 Output 2 1 ∷ op0 Ret ∷ []) ∷ (op0 Ret
+    ∷ []) ∷ []) (at (upto 13) []) (registers 9 (0 ∷ 0 ∷ 1 ∷ replicate 6 0 ++ 77 ∷ 77 ∷ 77 ∷ 77 ∷ [])) (operands 0 (77
+    ∷ [])) (beside [] [] [])) 38 8152 800 (done 1 12 0) ((1 ∷ 0 ∷ 1 ∷ 8 ∷ 12 ∷ 0 ∷ []) ∷ [])
+    (pic ((const 1 8 ∷ fork 0 2 1 ∷ []) ∷ (op2 Alloc 9 1 ∷ op3 Cmp 10 1 1 ∷ op3 Cmp 11 1 10 ∷ op3 Cmp 10 1 11
+    ∷ op3 Cmp 11 1 10 ∷ op3 Cmp 10 1 11 ∷ op3 Cmp 11 1 10 ∷ op3 Cat 9 1 1 ∷ op2 Output 9 1 ∷ op0 Ret ∷ []) ∷ (op0 Ret
+    ∷ []) ∷ []) (at (0 ∷ 9 ∷ range 1 8 ++ 10 ∷ 11 ∷ 12 ∷ []) []) (registers 12 (0 ∷ 0 ∷ 1 ∷ replicate 6 0 ++ 1 ∷ 0 ∷ 0
+    ∷ 77 ∷ [])) (operands 0 (77 ∷ [])) (beside [] [] []))
+
+-- block 0 is the target and nothing leads to x: 1
+abbrev pub b60 : Row
+b60 =
+    moves (pic ((op2 Output 2 1 ∷ op0 Ret ∷ []) ∷ (op0 Ret ∷ []) ∷ (const 1 8 ∷ op2 Alloc 2 1 ∷ op3 Cmp 3 1 1
+    ∷ op3 Cmp 4 1 3 ∷ op3 Cmp 5 1 4 ∷ op3 Cmp 6 1 5 ∷ op3 Cmp 7 1 6 ∷ op3 Cmp 8 1 7 ∷ op3 Cat 2 1 1 ∷ fork 0 0 1 ∷ [])
+    ∷ []) (at (upto 13) []) (registers 9 (0 ∷ 0 ∷ 1 ∷ replicate 6 0 ++ 77 ∷ 77 ∷ 77 ∷ 77 ∷ [])) (operands 0 (77 ∷ []))
+    (beside [] [] [])) 38 8152 800 (done 1 12 0) ((1 ∷ 2 ∷ 0 ∷ 8 ∷ 12 ∷ 0 ∷ []) ∷ [])
+    (pic ((op2 Alloc 9 1 ∷ op3 Cmp 10 1 1 ∷ op3 Cmp 11 1 10 ∷ op3 Cmp 10 1 11 ∷ op3 Cmp 11 1 10 ∷ op3 Cmp 10 1 11
+    ∷ op3 Cmp 11 1 10 ∷ op3 Cat 9 1 1 ∷ op2 Output 9 1 ∷ op0 Ret ∷ []) ∷ (op0 Ret ∷ []) ∷ (const 1 8 ∷ fork 0 0 1
+    ∷ []) ∷ []) (at (range 4 8 ++ 0 ∷ 1 ∷ 2 ∷ 3 ∷ 12 ∷ []) []) (registers 12 (0 ∷ 0 ∷ 1 ∷ replicate 6 0 ++ 1 ∷ 0 ∷ 0
+    ∷ 77 ∷ [])) (operands 0 (77 ∷ [])) (beside [] [] []))
+
+-- the chain goes on in block 0: 1
+abbrev pub b61 : Row
+b61 =
+    moves (pic ((op0 Cover ∷ fork 0 1 2 ∷ []) ∷ (op2 Output 2 1 ∷ op0 Ret ∷ []) ∷ (op0 Ret ∷ []) ∷ (const 1 8
+    ∷ op2 Alloc 2 1 ∷ op3 Cmp 3 1 1 ∷ op3 Cmp 4 1 3 ∷ op3 Cmp 5 1 4 ∷ op3 Cmp 6 1 5 ∷ op3 Cmp 7 1 6 ∷ op3 Cmp 8 1 7
+    ∷ op3 Cat 2 1 1 ∷ op0 Br ∷ []) ∷ []) (at (upto 15) []) (registers 9 (0 ∷ 0 ∷ 1 ∷ replicate 6 0 ++ 77 ∷ 77 ∷ 77
+    ∷ 77 ∷ [])) (operands 0 (77 ∷ [])) (beside [] [] [])) 42 8168 800 (done 1 12 0) ((1 ∷ 3 ∷ 1 ∷ 8 ∷ 12 ∷ 0 ∷ [])
     ∷ [])
-    (at (upto 23) (0 ∷ 4 ∷ 0 ∷ 0 ∷ 0 ∷ 30 ∷ 17 ∷ 0 ∷ 31 ∷ 9 ∷ 11 ∷ 0 ∷ 36 ∷ 14 ∷ 0 ∷ 0 ∷ 0 ∷ 0 ∷ 0 ∷ 0 ∷ 0 ∷ 0 ∷ 33 ∷ []))
-    (registers 8 (1 ∷ 5 ∷ 0 ∷ 4 ∷ 5 ∷ 0 ∷ 0 ∷ 1 ∷ 9 ∷ 77 ∷ 77 ∷ 77 ∷ 77 ∷ 77 ∷ 7 ∷ 77 ∷ []))
-    (operands 0 (0 ∷ 0 ∷ absent ∷ 0 ∷ 0 ∷ []))
-    (beside [] [] (6 ∷ []))
+    (pic ((op0 Cover ∷ fork 0 1 2 ∷ []) ∷ (op2 Alloc 9 1 ∷ op3 Cmp 10 1 1 ∷ op3 Cmp 11 1 10 ∷ op3 Cmp 10 1 11
+    ∷ op3 Cmp 11 1 10 ∷ op3 Cmp 10 1 11 ∷ op3 Cmp 11 1 10 ∷ op3 Cat 9 1 1 ∷ op2 Output 9 1 ∷ op0 Ret ∷ []) ∷ (op0 Ret
+    ∷ []) ∷ (const 1 8 ∷ op0 Br ∷ []) ∷ []) (at (0 ∷ 1 ∷ range 6 8 ++ 2 ∷ 3 ∷ 4 ∷ 5 ∷ 14 ∷ []) []) (registers 12 (0
+    ∷ 0 ∷ 1 ∷ replicate 6 0 ++ 1 ∷ 0 ∷ 0 ∷ 77 ∷ [])) (operands 0 (77 ∷ [])) (beside [] [] []))
 
-abbrev pub s1047-left : Picture
-s1047-left =
-    pic (
-    (op Const 0 (6 ∷ []) [] (absent ∷ 4294967039 ∷ []) ∷ op AddrOf 1 (7 ∷ []) [] [] ∷ op SigRead 0 (1 ∷ 0 ∷ []) [] []
-    ∷ op Edge 0 (0 ∷ 1 ∷ []) [] [] ∷ op Alloc 0 (5 ∷ 6 ∷ []) [] (0 ∷ 6 ∷ 7 ∷ 8 ∷ 1 ∷ 1 ∷ 6 ∷ [])
-    ∷ op Const 0 (1 ∷ []) [] (19604642 ∷ 3148616545 ∷ 2 ∷ 4 ∷ 5 ∷ 1 ∷ 6 ∷ []) ∷ op FCheck 0 (6 ∷ 1 ∷ 0 ∷ []) [] []
-    ∷ op Br 0 [] [] (1 ∷ 2 ∷ 4 ∷ 0 ∷ 1 ∷ 0 ∷ 5 ∷ []) ∷ [])
-    ∷ (op Br 0 [] [] (2 ∷ []) ∷ [])
-    ∷ (op Br 0 [] [] (3 ∷ []) ∷ [])
-    ∷ (op Br 0 [] [] (4 ∷ []) ∷ [])
-    ∷ (op CondBr 0 (6 ∷ []) [] (6 ∷ 5 ∷ []) ∷ [])
-    ∷ (op Cmp 0 (8 ∷ 6 ∷ 6 ∷ []) [] [] ∷ op Cmp 0 (9 ∷ 8 ∷ 8 ∷ []) [] [] ∷ op LayoutOf 0 (11 ∷ 5 ∷ []) [] []
-    ∷ op LayoutOf 0 (12 ∷ 11 ∷ []) [] [] ∷ op Cmp 0 (13 ∷ 6 ∷ 12 ∷ []) [] [] ∷ op Output 0 (9 ∷ 11 ∷ []) [] []
-    ∷ op Output 0 (11 ∷ 9 ∷ []) [] [] ∷ op Ret 0 [] [] (5 ∷ 7 ∷ 3 ∷ 4 ∷ 4 ∷ 4 ∷ 4 ∷ []) ∷ [])
-    ∷ (op Deref 0 (1 ∷ 1 ∷ []) [] [] ∷ op Ret 0 [] [] [] ∷ [])
-    ∷ (op Cat 0 (6 ∷ 6 ∷ 6 ∷ []) [] [] ∷ [])
-    ∷ [])
-    (at (0 ∷ 1 ∷ 2 ∷ 4 ∷ 6 ∷ 7 ∷ 11 ∷ 12 ∷ 13 ∷ 14 ∷ 15 ∷ 16 ∷ 3 ∷ 5 ∷ 8 ∷ 9 ∷ 10 ∷ 17 ∷ 18 ∷ 19 ∷ 20 ∷ 21 ∷ 22 ∷ []) (0 ∷ 4 ∷ 0 ∷ 0 ∷ 17 ∷ 0 ∷ 0 ∷ 36 ∷ 14 ∷ 0 ∷ 0 ∷ 0 ∷ 0 ∷ 30 ∷ 31 ∷ 9 ∷ 11 ∷ 0 ∷ 0 ∷ 0 ∷ 0 ∷ 0 ∷ 33 ∷ []))
-    (registers 14 (1 ∷ 5 ∷ 0 ∷ 4 ∷ 5 ∷ 0 ∷ 0 ∷ 1 ∷ 5 ∷ 4 ∷ 0 ∷ 0 ∷ 0 ∷ 0 ∷ 7 ∷ 77 ∷ []))
-    (operands 0 (0 ∷ 0 ∷ absent ∷ 0 ∷ 0 ∷ []))
-    (beside [] [] (6 ∷ []))
+-- the target has two predecessors: 0
+abbrev pub b62 : Row
+b62 =
+    stays (pic ((const 1 8 ∷ op2 Alloc 2 1 ∷ op3 Cmp 3 1 1 ∷ op3 Cmp 4 1 3 ∷ op3 Cmp 5 1 4 ∷ op3 Cmp 6 1 5
+    ∷ op3 Cmp 7 1 6 ∷ op3 Cmp 8 1 7 ∷ op3 Cat 2 1 1 ∷ fork 0 1 2 ∷ []) ∷ (op2 Output 2 1 ∷ op0 Ret ∷ []) ∷ (br 1 ∷ [])
+    ∷ []) (at (upto 13) []) (registers 9 (0 ∷ 0 ∷ 1 ∷ replicate 6 0 ++ 77 ∷ [])) (operands 0 (77 ∷ []))
+    (beside [] [] [])) 32 8128 800 (done 0 9 0)
 
-abbrev pub s1047 : Row
-s1047 = moves s1047-lent 64 8256 800 (done 1 14 0) ((1 ∷ 0 ∷ 5 ∷ 5 ∷ 14 ∷ 0 ∷ []) ∷ []) s1047-left
-
--- seed 1056: a seventh block decides, done 0
-abbrev pub s1056-lent : Picture
-s1056-lent =
-    pic (
-    (op Const 0 (7 ∷ []) [] (56 ∷ []) ∷ op AddrOf 1 (8 ∷ []) [] [] ∷ op Br 0 [] [] (1 ∷ []) ∷ [])
-    ∷ (op Cmp 0 (3 ∷ 7 ∷ 7 ∷ []) [] [] ∷ op Cmp 0 (4 ∷ 3 ∷ 3 ∷ []) [] (5 ∷ 4 ∷ 6 ∷ 7 ∷ 2 ∷ 1 ∷ [])
-    ∷ op Cmp 0 (6 ∷ 3 ∷ 7 ∷ []) [] [] ∷ op Move 0 (6 ∷ 4 ∷ []) [] [] ∷ op Br 0 [] [] (12 ∷ []) ∷ [])
-    ∷ (op CondBr 0 (1 ∷ []) [] (3 ∷ 10 ∷ []) ∷ [])
-    ∷ (op Output 0 (1 ∷ 1 ∷ []) [] [] ∷ op Unreachable 0 [] [] [] ∷ [])
-    ∷ (op Case 0 (1 ∷ []) [] (91 ∷ []) ∷ [])
-    ∷ (op Br 0 [] [] (7 ∷ []) ∷ [])
-    ∷ (op Cat 0 (0 ∷ 0 ∷ 0 ∷ []) [] [] ∷ [])
-    ∷ (op Br 0 [] [] (11 ∷ []) ∷ [])
-    ∷ (op Br 0 [] [] (5 ∷ []) ∷ [])
-    ∷ (op Br 0 [] [] (8 ∷ []) ∷ [])
-    ∷ (op Ret 0 [] [] [] ∷ [])
-    ∷ (op CondBr 0 (1 ∷ []) [] (2 ∷ 4 ∷ []) ∷ [])
-    ∷ (op Br 0 [] [] (9 ∷ []) ∷ [])
-    ∷ [])
-    (at (upto 20) (6 ∷ 0 ∷ 0 ∷ 2 ∷ 0 ∷ 27 ∷ 0 ∷ 0 ∷ 0 ∷ 0 ∷ 43 ∷ 0 ∷ 0 ∷ 0 ∷ 0 ∷ 46 ∷ 0 ∷ 49 ∷ 0 ∷ 38 ∷ []))
-    (registers 9 (1 ∷ 0 ∷ 0 ∷ 0 ∷ 0 ∷ 1 ∷ 0 ∷ 0 ∷ 0 ∷ 7 ∷ 7 ∷ 9 ∷ []))
-    (operands 0 (999 ∷ absent ∷ []))
-    (beside [] [] (3 ∷ 2 ∷ []))
-
-abbrev pub s1056 : Row
-s1056 = stays s1056-lent 76 8304 800 (done 0 9 0)
-
--- seed 1073: a register reused, chain of 1, done 4, empty target, moves with vias, moves without replay, new Sig,
--- target after x, target before x, target t
-abbrev pub s1073-lent : Picture
-s1073-lent =
-    pic (
-    (op Const 0 (8 ∷ []) [] (0 ∷ 256 ∷ 6 ∷ 5 ∷ 2 ∷ 6 ∷ 5 ∷ [])
-    ∷ op BoolOp 0 (3 ∷ 8 ∷ 8 ∷ []) [] (2 ∷ 5 ∷ 4 ∷ 6 ∷ 3 ∷ 5 ∷ 4 ∷ []) ∷ op Cmp 0 (2 ∷ 8 ∷ 8 ∷ []) [] []
-    ∷ op Cmp 0 (4 ∷ 2 ∷ 3 ∷ []) [] [] ∷ op BoolOp 1 (5 ∷ 3 ∷ []) [] [] ∷ op Cmp 0 (7 ∷ 8 ∷ 5 ∷ []) [] []
-    ∷ op Cmp 0 (6 ∷ 4 ∷ 7 ∷ []) [] [] ∷ op Cmp 0 (2 ∷ 8 ∷ 3 ∷ []) [] [] ∷ op Alloc 0 (6 ∷ 8 ∷ []) [] []
-    ∷ op Cat 0 (6 ∷ 4 ∷ 8 ∷ []) [] [] ∷ op Alloc 0 (3 ∷ 4 ∷ []) [] [] ∷ op Bin 1 (4 ∷ 2 ∷ 8 ∷ []) [] []
-    ∷ op CondBr 0 (0 ∷ []) [] (4 ∷ 8 ∷ []) ∷ [])
-    ∷ (op Now 0 (0 ∷ []) [] (1 ∷ 3 ∷ 7 ∷ 3 ∷ 0 ∷ 8 ∷ []) ∷ [])
-    ∷ (op Output 0 (0 ∷ 0 ∷ []) [] [] ∷ [])
-    ∷ []
-    ∷ (op CondBr 0 (8 ∷ []) [] (6 ∷ 1 ∷ []) ∷ [])
-    ∷ (op CondBr 0 (0 ∷ []) [] (7 ∷ 2 ∷ 6 ∷ 1 ∷ 7 ∷ 5 ∷ 4 ∷ []) ∷ [])
-    ∷ (op Edge 0 (1 ∷ 8 ∷ []) [] [] ∷ op Output 0 (0 ∷ 0 ∷ []) [] []
-    ∷ op CondBr 0 (1 ∷ []) [] (5 ∷ 3 ∷ 6 ∷ 2 ∷ 3 ∷ []) ∷ [])
-    ∷ []
-    ∷ (op WaitOn 0 (1 ∷ []) [] [] ∷ op Unreachable 0 [] [] [] ∷ [])
-    ∷ [])
-    (at (upto 22) (0 ∷ 0 ∷ 0 ∷ 0 ∷ 0 ∷ 3 ∷ 0 ∷ 0 ∷ 0 ∷ 35 ∷ 37 ∷ 0 ∷ 34 ∷ 0 ∷ 0 ∷ 0 ∷ 0 ∷ 14 ∷ 21 ∷ 0 ∷ 0 ∷ 35 ∷ []))
-    (registers 9 (3 ∷ 1 ∷ 4 ∷ 1 ∷ 0 ∷ 0 ∷ 3 ∷ 0 ∷ 0 ∷ 7 ∷ 9 ∷ 9 ∷ 77 ∷ 77 ∷ 77 ∷ 9 ∷ 9 ∷ 9 ∷ 7 ∷ 9 ∷ 7 ∷ 7 ∷ 7 ∷ 7 ∷ 7 ∷ 7 ∷ 7 ∷ 77 ∷ 77 ∷ 7 ∷ 9 ∷ 77 ∷ 77 ∷ 7 ∷ 77 ∷ 77 ∷ 9 ∷ 9 ∷ 77 ∷ []))
-    (operands 0 (absent ∷ absent ∷ absent ∷ 0 ∷ absent ∷ []))
-    (beside [] [] [])
-
-abbrev pub s1073-left : Picture
-s1073-left =
-    pic (
-    (op Const 0 (8 ∷ []) [] (0 ∷ 256 ∷ 6 ∷ 5 ∷ 2 ∷ 6 ∷ 5 ∷ []) ∷ op CondBr 0 (0 ∷ []) [] (4 ∷ 8 ∷ []) ∷ [])
-    ∷ (op Now 0 (0 ∷ []) [] (1 ∷ 3 ∷ 7 ∷ 3 ∷ 0 ∷ 8 ∷ []) ∷ [])
-    ∷ (op Output 0 (0 ∷ 0 ∷ []) [] [] ∷ [])
-    ∷ []
-    ∷ (op CondBr 0 (8 ∷ []) [] (6 ∷ 1 ∷ []) ∷ [])
-    ∷ (op CondBr 0 (0 ∷ []) [] (7 ∷ 2 ∷ 6 ∷ 1 ∷ 7 ∷ 5 ∷ 4 ∷ []) ∷ [])
-    ∷ (op Edge 0 (1 ∷ 8 ∷ []) [] [] ∷ op Output 0 (0 ∷ 0 ∷ []) [] []
-    ∷ op CondBr 0 (1 ∷ []) [] (5 ∷ 3 ∷ 6 ∷ 2 ∷ 3 ∷ []) ∷ [])
-    ∷ (op BoolOp 0 (30 ∷ 8 ∷ 8 ∷ []) [] (2 ∷ 5 ∷ 4 ∷ 6 ∷ 3 ∷ 5 ∷ 4 ∷ []) ∷ op Cmp 0 (31 ∷ 8 ∷ 8 ∷ []) [] []
-    ∷ op Cmp 0 (33 ∷ 31 ∷ 30 ∷ []) [] [] ∷ op BoolOp 1 (34 ∷ 30 ∷ []) [] [] ∷ op Cmp 0 (35 ∷ 8 ∷ 34 ∷ []) [] []
-    ∷ op Cmp 0 (36 ∷ 33 ∷ 35 ∷ []) [] [] ∷ op Cmp 0 (31 ∷ 8 ∷ 30 ∷ []) [] [] ∷ op Alloc 0 (36 ∷ 8 ∷ []) [] []
-    ∷ op Cat 0 (36 ∷ 33 ∷ 8 ∷ []) [] [] ∷ op Alloc 0 (30 ∷ 33 ∷ []) [] [] ∷ op Bin 1 (33 ∷ 31 ∷ 8 ∷ []) [] [] ∷ [])
-    ∷ (op WaitOn 0 (1 ∷ []) [] [] ∷ op Unreachable 0 [] [] [] ∷ [])
-    ∷ [])
-    (at (0 ∷ 12 ∷ 13 ∷ 14 ∷ 15 ∷ 16 ∷ 17 ∷ 18 ∷ 19 ∷ 1 ∷ 2 ∷ 3 ∷ 4 ∷ 5 ∷ 6 ∷ 7 ∷ 8 ∷ 9 ∷ 10 ∷ 11 ∷ 20 ∷ 21 ∷ []) (0 ∷ 34 ∷ 0 ∷ 0 ∷ 0 ∷ 0 ∷ 14 ∷ 21 ∷ 0 ∷ 0 ∷ 0 ∷ 0 ∷ 0 ∷ 3 ∷ 0 ∷ 0 ∷ 0 ∷ 35 ∷ 37 ∷ 0 ∷ 0 ∷ 35 ∷ []))
-    (registers 37 (3 ∷ 1 ∷ 4 ∷ 1 ∷ 0 ∷ 0 ∷ 3 ∷ 0 ∷ 0 ∷ 1 ∷ 4 ∷ 0 ∷ 0 ∷ 0 ∷ 0 ∷ 3 ∷ 1 ∷ 4 ∷ 0 ∷ 0 ∷ 0 ∷ 0 ∷ 3 ∷ 1 ∷ 4 ∷ 0 ∷ 0 ∷ 0 ∷ 0 ∷ 3 ∷ 1 ∷ 4 ∷ 0 ∷ 0 ∷ 0 ∷ 0 ∷ 3 ∷ 9 ∷ 77 ∷ []))
-    (operands 0 (absent ∷ absent ∷ absent ∷ 0 ∷ absent ∷ []))
-    (beside [] [] [])
-
-abbrev pub s1073 : Row
-s1073 = moves s1073-lent 114 8456 800 (done 4 37 0) ((1 ∷ 0 ∷ 4 ∷ 11 ∷ 16 ∷ 0 ∷ []) ∷ (2 ∷ 4 ∷ 6 ∷ 11 ∷ 23 ∷ 0 ∷ []) ∷ (3 ∷ 6 ∷ 5 ∷ 11 ∷ 30 ∷ 0 ∷ []) ∷ (4 ∷ 5 ∷ 7 ∷ 11 ∷ 37 ∷ 0 ∷ []) ∷ []) s1073-left
-
--- seed 1183: a register reused, chain of 1, done 8, moves with vias, moves without replay, new Sig, new list, target
--- after x, target before x, target t
-abbrev pub s1183-lent : Picture
-s1183-lent =
-    pic (
-    (op Const 0 (6 ∷ []) [] (40 ∷ []) ∷ op Case 0 (0 ∷ []) [] (94 ∷ []) ∷ [])
-    ∷ (op Alloc 0 (5 ∷ 6 ∷ []) [] (6 ∷ 2 ∷ 2 ∷ 3 ∷ 5 ∷ 4 ∷ 4 ∷ [])
-    ∷ op Cat 0 (5 ∷ 6 ∷ 6 ∷ []) (0 ∷ 4 ∷ []) (32982 ∷ 8 ∷ 2 ∷ 5 ∷ 2 ∷ 5 ∷ 2 ∷ []) ∷ op Pos 0 (1 ∷ 0 ∷ 1 ∷ []) [] []
-    ∷ op CallNative 1 (4 ∷ []) (0 ∷ 1 ∷ []) (3 ∷ 8 ∷ 7 ∷ 7 ∷ 0 ∷ 7 ∷ 1 ∷ []) ∷ op Store 3 (5 ∷ 5 ∷ []) [] []
-    ∷ op Select 0 (2 ∷ 6 ∷ 6 ∷ 6 ∷ []) [] [] ∷ op Select 0 (3 ∷ 2 ∷ 2 ∷ 6 ∷ []) [] []
-    ∷ op Index 0 (4 ∷ 4 ∷ 6 ∷ []) [] [] ∷ op Alloc 0 (4 ∷ 2 ∷ []) [] [] ∷ op MakeDope 0 (4 ∷ []) (4 ∷ []) []
-    ∷ op DopeLen 0 (5 ∷ 5 ∷ []) [] (1 ∷ 3 ∷ 5 ∷ 3 ∷ 0 ∷ 2 ∷ 2 ∷ []) ∷ op SigReadScalar 0 (5 ∷ 5 ∷ []) [] []
-    ∷ op CondBr 0 (6 ∷ []) [] (3 ∷ 5 ∷ []) ∷ [])
-    ∷ (op ConstF 0 (0 ∷ []) [] (1867957611 ∷ 2715938008 ∷ []) ∷ [])
-    ∷ (op CondBr 0 (0 ∷ []) [] (6 ∷ 2 ∷ []) ∷ [])
-    ∷ (op Cover 0 [] [] [] ∷ [])
-    ∷ (op Now 0 (1 ∷ []) [] [] ∷ op Ret 0 [] [] (6 ∷ 0 ∷ 1 ∷ 2 ∷ 2 ∷ 5 ∷ 4 ∷ []) ∷ [])
-    ∷ (op CondBr 0 (0 ∷ []) [] (1 ∷ 4 ∷ []) ∷ [])
-    ∷ [])
-    (at (upto 21) (0 ∷ 0 ∷ 0 ∷ 0 ∷ 0 ∷ 0 ∷ 40 ∷ 0 ∷ 0 ∷ 0 ∷ 1 ∷ 13 ∷ 14 ∷ 27 ∷ 0 ∷ 38 ∷ 4 ∷ 0 ∷ 18 ∷ 0 ∷ 9 ∷ []))
-    (registers 7 (0 ∷ 5 ∷ 4 ∷ 0 ∷ 1 ∷ 0 ∷ 0 ∷ 9 ∷ 77 ∷ 77 ∷ 9 ∷ 9 ∷ 9 ∷ 7 ∷ 7 ∷ 7 ∷ 7 ∷ 77 ∷ 9 ∷ 9 ∷ 9 ∷ 7 ∷ 7 ∷ 9 ∷ 77 ∷ 9 ∷ 9 ∷ 9 ∷ 7 ∷ 9 ∷ 7 ∷ 77 ∷ 9 ∷ 7 ∷ 9 ∷ 77 ∷ 9 ∷ 7 ∷ 7 ∷ 77 ∷ 9 ∷ 77 ∷ 77 ∷ 9 ∷ 7 ∷ 7 ∷ 9 ∷ 9 ∷ 9 ∷ 7 ∷ 9 ∷ 7 ∷ 9 ∷ 77 ∷ 7 ∷ []))
-    (operands 4 (5 ∷ 5 ∷ 6 ∷ 5 ∷ 0 ∷ 999 ∷ 999 ∷ 999 ∷ 0 ∷ 999 ∷ 999 ∷ 0 ∷ 0 ∷ absent ∷ absent ∷ absent ∷ 0 ∷ 999 ∷ 0 ∷ 999 ∷ absent ∷ absent ∷ 0 ∷ 0 ∷ absent ∷ absent ∷ 999 ∷ absent ∷ 0 ∷ 999 ∷ 999 ∷ 999 ∷ 999 ∷ 999 ∷ 999 ∷ absent ∷ 999 ∷ 999 ∷ 999 ∷ 0 ∷ 0 ∷ absent ∷ 0 ∷ absent ∷ []))
-    (beside [] [] [])
-
-abbrev pub s1183-left : Picture
-s1183-left =
-    pic (
-    (op Const 0 (6 ∷ []) [] (40 ∷ []) ∷ op Case 0 (0 ∷ []) [] (94 ∷ []) ∷ [])
-    ∷ (op Pos 0 (1 ∷ 0 ∷ 1 ∷ []) [] [] ∷ op CondBr 0 (6 ∷ []) [] (3 ∷ 5 ∷ []) ∷ [])
-    ∷ (op ConstF 0 (0 ∷ []) [] (1867957611 ∷ 2715938008 ∷ []) ∷ [])
-    ∷ (op CondBr 0 (0 ∷ []) [] (6 ∷ 2 ∷ []) ∷ [])
-    ∷ (op Cover 0 [] [] [] ∷ [])
-    ∷ (op Now 0 (1 ∷ []) [] [] ∷ op Ret 0 [] [] (6 ∷ 0 ∷ 1 ∷ 2 ∷ 2 ∷ 5 ∷ 4 ∷ []) ∷ [])
-    ∷ (op Alloc 0 (49 ∷ 6 ∷ []) [] (6 ∷ 2 ∷ 2 ∷ 3 ∷ 5 ∷ 4 ∷ 4 ∷ [])
-    ∷ op Cat 0 (49 ∷ 6 ∷ 6 ∷ []) (39 ∷ 4 ∷ []) (32982 ∷ 8 ∷ 2 ∷ 5 ∷ 2 ∷ 5 ∷ 2 ∷ [])
-    ∷ op CallNative 1 (50 ∷ []) (43 ∷ 1 ∷ []) (3 ∷ 8 ∷ 7 ∷ 7 ∷ 0 ∷ 7 ∷ 1 ∷ []) ∷ op Store 3 (49 ∷ 49 ∷ []) [] []
-    ∷ op Select 0 (51 ∷ 6 ∷ 6 ∷ 6 ∷ []) [] [] ∷ op Select 0 (53 ∷ 51 ∷ 51 ∷ 6 ∷ []) [] []
-    ∷ op Index 0 (54 ∷ 50 ∷ 6 ∷ []) [] [] ∷ op Alloc 0 (54 ∷ 51 ∷ []) [] [] ∷ op MakeDope 0 (54 ∷ []) (4 ∷ []) []
-    ∷ op DopeLen 0 (53 ∷ 49 ∷ []) [] (1 ∷ 3 ∷ 5 ∷ 3 ∷ 0 ∷ 2 ∷ 2 ∷ []) ∷ op SigReadScalar 0 (49 ∷ 53 ∷ []) [] []
-    ∷ op CondBr 0 (0 ∷ []) [] (1 ∷ 4 ∷ []) ∷ [])
-    ∷ [])
-    (at (0 ∷ 1 ∷ 4 ∷ 14 ∷ 15 ∷ 16 ∷ 17 ∷ 18 ∷ 19 ∷ 2 ∷ 3 ∷ 5 ∷ 6 ∷ 7 ∷ 8 ∷ 9 ∷ 10 ∷ 11 ∷ 12 ∷ 13 ∷ 20 ∷ []) (0 ∷ 0 ∷ 0 ∷ 0 ∷ 38 ∷ 4 ∷ 0 ∷ 18 ∷ 0 ∷ 0 ∷ 0 ∷ 0 ∷ 40 ∷ 0 ∷ 0 ∷ 0 ∷ 1 ∷ 13 ∷ 14 ∷ 27 ∷ 9 ∷ []))
-    (registers 55 (0 ∷ 5 ∷ 4 ∷ 0 ∷ 1 ∷ 0 ∷ 0 ∷ 0 ∷ 1 ∷ 4 ∷ 0 ∷ 0 ∷ 1 ∷ 0 ∷ 1 ∷ 4 ∷ 0 ∷ 0 ∷ 1 ∷ 0 ∷ 1 ∷ 4 ∷ 0 ∷ 0 ∷ 1 ∷ 0 ∷ 1 ∷ 4 ∷ 0 ∷ 0 ∷ 1 ∷ 0 ∷ 1 ∷ 4 ∷ 0 ∷ 0 ∷ 1 ∷ 0 ∷ 1 ∷ 4 ∷ 0 ∷ 0 ∷ 1 ∷ 0 ∷ 1 ∷ 4 ∷ 0 ∷ 0 ∷ 1 ∷ 0 ∷ 1 ∷ 4 ∷ 0 ∷ 0 ∷ 1 ∷ []))
-    (operands 44 (5 ∷ 5 ∷ 6 ∷ 5 ∷ 7 ∷ 7 ∷ 6 ∷ 7 ∷ 7 ∷ 13 ∷ 13 ∷ 6 ∷ 13 ∷ 13 ∷ 19 ∷ 19 ∷ 6 ∷ 19 ∷ 19 ∷ 25 ∷ 25 ∷ 6 ∷ 25 ∷ 25 ∷ 31 ∷ 31 ∷ 6 ∷ 31 ∷ 31 ∷ 37 ∷ 37 ∷ 6 ∷ 37 ∷ 37 ∷ 43 ∷ 43 ∷ 6 ∷ 43 ∷ 43 ∷ 49 ∷ 49 ∷ 6 ∷ 49 ∷ 49 ∷ []))
-    (beside [] [] [])
-
-abbrev pub s1183 : Row
-s1183 = moves s1183-lent 138 8552 800 (done 8 55 44) ((1 ∷ 1 ∷ 3 ∷ 11 ∷ 13 ∷ 9 ∷ []) ∷ (2 ∷ 3 ∷ 6 ∷ 11 ∷ 19 ∷ 14 ∷ []) ∷ (3 ∷ 6 ∷ 1 ∷ 11 ∷ 25 ∷ 19 ∷ []) ∷ (4 ∷ 1 ∷ 3 ∷ 11 ∷ 31 ∷ 24 ∷ []) ∷ (5 ∷ 3 ∷ 6 ∷ 11 ∷ 37 ∷ 29 ∷ []) ∷ (6 ∷ 6 ∷ 1 ∷ 11 ∷ 43 ∷ 34 ∷ []) ∷ (7 ∷ 1 ∷ 3 ∷ 11 ∷ 49 ∷ 39 ∷ []) ∷ (8 ∷ 3 ∷ 6 ∷ 11 ∷ 55 ∷ 44 ∷ []) ∷ []) s1183-left
-
--- seed 1223: a second writer decides, chain of 4, done 1, moves with replay, moves without vias, new Sig, rule 6
--- decides, target before x, target t
-abbrev pub s1223-lent : Picture
-s1223-lent =
-    pic (
-    (op Const 0 (7 ∷ []) [] (12 ∷ 0 ∷ 4 ∷ 4 ∷ 3 ∷ 6 ∷ 6 ∷ [])
-    ∷ op Const 0 (7 ∷ []) [] (12 ∷ 0 ∷ 5 ∷ 1 ∷ 3 ∷ 1 ∷ 3 ∷ []) ∷ op AddrOf 4 (8 ∷ []) [] [] ∷ op Br 0 [] [] (5 ∷ []) ∷ [])
-    ∷ (op Br 0 [] [] (9 ∷ []) ∷ [])
-    ∷ (op Output 0 (0 ∷ 0 ∷ []) [] [] ∷ op Unreachable 0 [] [] [] ∷ [])
-    ∷ (op Cat 0 (0 ∷ 0 ∷ 0 ∷ []) [] [] ∷ [])
-    ∷ (op Pos 0 (1 ∷ 1 ∷ 0 ∷ []) [] [] ∷ op Ret 0 [] [] [] ∷ [])
-    ∷ (op Alloc 0 (2 ∷ 7 ∷ []) [] [] ∷ op Cat 0 (2 ∷ 7 ∷ 7 ∷ []) (0 ∷ 4 ∷ []) (1703 ∷ [])
-    ∷ op Index 0 (3 ∷ 8 ∷ 7 ∷ []) [] [] ∷ op Index 0 (6 ∷ 2 ∷ 7 ∷ []) [] []
-    ∷ op Alloc 0 (5 ∷ 7 ∷ []) [] (8 ∷ 7 ∷ 6 ∷ 4 ∷ 5 ∷ 2 ∷ 7 ∷ []) ∷ op CallNative 1 [] (4 ∷ 1 ∷ []) []
-    ∷ op Br 0 [] [] (1 ∷ []) ∷ [])
-    ∷ (op Field 0 (1 ∷ 7 ∷ 0 ∷ []) [] [] ∷ op Unreachable 0 [] [] (1 ∷ 7 ∷ 7 ∷ 3 ∷ 0 ∷ 2 ∷ []) ∷ [])
-    ∷ (op CondBr 0 (7 ∷ []) [] (4 ∷ 8 ∷ []) ∷ [])
-    ∷ (op WaitOn 0 (1 ∷ []) [] [] ∷ op Br 0 [] [] (10 ∷ []) ∷ [])
-    ∷ (op Br 0 [] [] (7 ∷ 1 ∷ 5 ∷ 2 ∷ 5 ∷ 5 ∷ 6 ∷ []) ∷ [])
-    ∷ (op CondBr 0 (7 ∷ []) [] (2 ∷ 6 ∷ []) ∷ [])
-    ∷ [])
-    (at (upto 24) [])
-    (registers 9 (4 ∷ 0 ∷ 0 ∷ 1 ∷ 1 ∷ 1 ∷ 4 ∷ 0 ∷ 4 ∷ 7 ∷ 77 ∷ 77 ∷ 7 ∷ 9 ∷ 7 ∷ 77 ∷ 77 ∷ []))
-    (operands 5 (7 ∷ 7 ∷ 7 ∷ 7 ∷ 5 ∷ absent ∷ absent ∷ 999 ∷ 0 ∷ absent ∷ []))
-    (beside [] [] (2 ∷ 4 ∷ []))
-
-abbrev pub s1223-left : Picture
-s1223-left =
-    pic (
-    (op Const 0 (7 ∷ []) [] (12 ∷ 0 ∷ 4 ∷ 4 ∷ 3 ∷ 6 ∷ 6 ∷ [])
-    ∷ op Const 0 (7 ∷ []) [] (12 ∷ 0 ∷ 5 ∷ 1 ∷ 3 ∷ 1 ∷ 3 ∷ []) ∷ op AddrOf 4 (8 ∷ []) [] [] ∷ op Br 0 [] [] (5 ∷ []) ∷ [])
-    ∷ (op Br 0 [] [] (9 ∷ []) ∷ [])
-    ∷ (op Output 0 (0 ∷ 0 ∷ []) [] [] ∷ op Unreachable 0 [] [] [] ∷ [])
-    ∷ (op Cat 0 (0 ∷ 0 ∷ 0 ∷ []) [] [] ∷ [])
-    ∷ (op Index 0 (9 ∷ 8 ∷ 7 ∷ []) [] [] ∷ op Index 0 (10 ∷ 2 ∷ 7 ∷ []) [] [] ∷ op CallNative 1 [] (4 ∷ 1 ∷ []) []
-    ∷ op Pos 0 (1 ∷ 1 ∷ 0 ∷ []) [] [] ∷ op Ret 0 [] [] [] ∷ [])
-    ∷ (op Alloc 0 (2 ∷ 7 ∷ []) [] [] ∷ op Cat 0 (2 ∷ 7 ∷ 7 ∷ []) (0 ∷ 4 ∷ []) (1703 ∷ [])
-    ∷ op Alloc 0 (5 ∷ 7 ∷ []) [] (8 ∷ 7 ∷ 6 ∷ 4 ∷ 5 ∷ 2 ∷ 7 ∷ []) ∷ op Br 0 [] [] (1 ∷ []) ∷ [])
-    ∷ (op Field 0 (1 ∷ 7 ∷ 0 ∷ []) [] [] ∷ op Unreachable 0 [] [] (1 ∷ 7 ∷ 7 ∷ 3 ∷ 0 ∷ 2 ∷ []) ∷ [])
-    ∷ (op CondBr 0 (7 ∷ []) [] (4 ∷ 8 ∷ []) ∷ [])
-    ∷ (op WaitOn 0 (1 ∷ []) [] [] ∷ op Br 0 [] [] (10 ∷ []) ∷ [])
-    ∷ (op Br 0 [] [] (7 ∷ 1 ∷ 5 ∷ 2 ∷ 5 ∷ 5 ∷ 6 ∷ []) ∷ [])
-    ∷ (op CondBr 0 (7 ∷ []) [] (2 ∷ 6 ∷ []) ∷ [])
-    ∷ [])
-    (at (0 ∷ 1 ∷ 2 ∷ 3 ∷ 4 ∷ 5 ∷ 6 ∷ 7 ∷ 12 ∷ 13 ∷ 15 ∷ 8 ∷ 9 ∷ 10 ∷ 11 ∷ 14 ∷ 16 ∷ 17 ∷ 18 ∷ 19 ∷ 20 ∷ 21 ∷ 22 ∷ 23 ∷ []) [])
-    (registers 12 (4 ∷ 0 ∷ 0 ∷ 1 ∷ 1 ∷ 1 ∷ 4 ∷ 0 ∷ 4 ∷ 1 ∷ 4 ∷ 0 ∷ 7 ∷ 9 ∷ 7 ∷ 77 ∷ 77 ∷ []))
-    (operands 5 (7 ∷ 7 ∷ 7 ∷ 7 ∷ 5 ∷ absent ∷ absent ∷ 999 ∷ 0 ∷ absent ∷ []))
-    (beside [] [] (2 ∷ 4 ∷ []))
-
-abbrev pub s1223 : Row
-s1223 = moves s1223-lent 78 8312 800 (done 1 12 5) ((1 ∷ 5 ∷ 4 ∷ 3 ∷ 12 ∷ 5 ∷ []) ∷ []) s1223-left
-
--- seed 1246: chain of 1, chain of 2, done 4, moves with replay, moves without vias, target after x, target t
-abbrev pub s1246-lent : Picture
-s1246-lent =
-    pic (
-    (op Const 0 (7 ∷ []) [] (0 ∷ 4294967040 ∷ []) ∷ op AddrOf 0 (8 ∷ []) [] [] ∷ op Move 0 (2 ∷ 7 ∷ []) [] []
-    ∷ op FCheck 0 (7 ∷ 0 ∷ 7 ∷ []) [] [] ∷ op Alloc 0 (5 ∷ 7 ∷ []) [] [] ∷ op SigVal 0 (6 ∷ 7 ∷ 2 ∷ []) [] []
-    ∷ op Alloc 0 (4 ∷ 7 ∷ []) [] [] ∷ op Cat 0 (5 ∷ 2 ∷ 7 ∷ []) [] (13815 ∷ []) ∷ op Br 0 [] [] (1 ∷ []) ∷ [])
-    ∷ (op CondBr 0 (1 ∷ []) [] (2 ∷ 9 ∷ []) ∷ [])
-    ∷ (op CondBr 0 (1 ∷ []) [] (3 ∷ 8 ∷ []) ∷ [])
-    ∷ (op CondBr 0 (0 ∷ []) [] (4 ∷ 7 ∷ 8 ∷ 8 ∷ 3 ∷ 7 ∷ 7 ∷ []) ∷ [])
-    ∷ (op LGet 0 (1 ∷ 7 ∷ 0 ∷ []) [] [] ∷ op Output 0 (0 ∷ 0 ∷ []) [] [] ∷ op CondBr 0 (1 ∷ []) [] (6 ∷ 5 ∷ []) ∷ [])
-    ∷ (op Output 0 (7 ∷ 7 ∷ []) [] [] ∷ op Output 0 (0 ∷ 0 ∷ []) [] [] ∷ op Ret 0 [] [] [] ∷ [])
-    ∷ (op Unreachable 0 [] [] (7 ∷ 6 ∷ 7 ∷ 7 ∷ 3 ∷ 7 ∷ []) ∷ [])
-    ∷ []
-    ∷ (op Deref 0 (0 ∷ 1 ∷ []) [] (1 ∷ 8 ∷ 4 ∷ 2 ∷ 2 ∷ 5 ∷ 5 ∷ []) ∷ op Ret 0 [] [] (7 ∷ 8 ∷ 0 ∷ 2 ∷ 5 ∷ 6 ∷ 8 ∷ []) ∷ [])
-    ∷ (op Unreachable 0 [] [] [] ∷ [])
-    ∷ (op Cat 0 (0 ∷ 0 ∷ 0 ∷ []) [] [] ∷ [])
-    ∷ [])
-    (at (upto 23) [])
-    (registers 9 (0 ∷ 1 ∷ 1 ∷ 0 ∷ 6 ∷ 0 ∷ 1 ∷ 0 ∷ 4 ∷ 77 ∷ 7 ∷ 9 ∷ 7 ∷ 77 ∷ 7 ∷ 7 ∷ 7 ∷ 7 ∷ 9 ∷ 7 ∷ 7 ∷ 9 ∷ 9 ∷ 77 ∷ 9 ∷ 7 ∷ 9 ∷ 9 ∷ 7 ∷ []))
-    (operands 0 (999 ∷ absent ∷ 0 ∷ []))
-    (beside [] [] (6 ∷ 4 ∷ 3 ∷ 9 ∷ []))
-
-abbrev pub s1246-left : Picture
-s1246-left =
-    pic (
-    (op Const 0 (7 ∷ []) [] (0 ∷ 4294967040 ∷ []) ∷ op AddrOf 0 (8 ∷ []) [] [] ∷ op FCheck 0 (7 ∷ 0 ∷ 7 ∷ []) [] []
-    ∷ op Br 0 [] [] (1 ∷ []) ∷ [])
-    ∷ (op CondBr 0 (1 ∷ []) [] (2 ∷ 9 ∷ []) ∷ [])
-    ∷ (op CondBr 0 (1 ∷ []) [] (3 ∷ 8 ∷ []) ∷ [])
-    ∷ (op CondBr 0 (0 ∷ []) [] (4 ∷ 7 ∷ 8 ∷ 8 ∷ 3 ∷ 7 ∷ 7 ∷ []) ∷ [])
-    ∷ (op LGet 0 (1 ∷ 7 ∷ 0 ∷ []) [] [] ∷ op Output 0 (0 ∷ 0 ∷ []) [] [] ∷ op CondBr 0 (1 ∷ []) [] (6 ∷ 5 ∷ []) ∷ [])
-    ∷ (op Output 0 (7 ∷ 7 ∷ []) [] [] ∷ op Output 0 (0 ∷ 0 ∷ []) [] [] ∷ op Ret 0 [] [] [] ∷ [])
-    ∷ (op Move 0 (21 ∷ 7 ∷ []) [] [] ∷ op Alloc 0 (22 ∷ 7 ∷ []) [] [] ∷ op SigVal 0 (23 ∷ 7 ∷ 21 ∷ []) [] []
-    ∷ op Alloc 0 (24 ∷ 7 ∷ []) [] [] ∷ op Cat 0 (22 ∷ 21 ∷ 7 ∷ []) [] (13815 ∷ [])
-    ∷ op Unreachable 0 [] [] (7 ∷ 6 ∷ 7 ∷ 7 ∷ 3 ∷ 7 ∷ []) ∷ [])
-    ∷ []
-    ∷ (op Deref 0 (0 ∷ 1 ∷ []) [] (1 ∷ 8 ∷ 4 ∷ 2 ∷ 2 ∷ 5 ∷ 5 ∷ []) ∷ op Ret 0 [] [] (7 ∷ 8 ∷ 0 ∷ 2 ∷ 5 ∷ 6 ∷ 8 ∷ []) ∷ [])
-    ∷ (op Unreachable 0 [] [] [] ∷ [])
-    ∷ (op Cat 0 (0 ∷ 0 ∷ 0 ∷ []) [] [] ∷ [])
-    ∷ [])
-    (at (0 ∷ 1 ∷ 3 ∷ 8 ∷ 9 ∷ 10 ∷ 11 ∷ 12 ∷ 13 ∷ 14 ∷ 15 ∷ 16 ∷ 17 ∷ 2 ∷ 4 ∷ 5 ∷ 6 ∷ 7 ∷ 18 ∷ 19 ∷ 20 ∷ 21 ∷ 22 ∷ []) [])
-    (registers 25 (0 ∷ 1 ∷ 1 ∷ 0 ∷ 6 ∷ 0 ∷ 1 ∷ 0 ∷ 4 ∷ 1 ∷ 0 ∷ 1 ∷ 6 ∷ 1 ∷ 0 ∷ 1 ∷ 6 ∷ 1 ∷ 0 ∷ 1 ∷ 6 ∷ 1 ∷ 0 ∷ 1 ∷ 6 ∷ 7 ∷ 9 ∷ 9 ∷ 7 ∷ []))
-    (operands 0 (999 ∷ absent ∷ 0 ∷ []))
-    (beside [] [] (6 ∷ 4 ∷ 3 ∷ 9 ∷ []))
-
-abbrev pub s1246 : Row
-s1246 = moves s1246-lent 102 8408 800 (done 4 25 0) ((1 ∷ 0 ∷ 2 ∷ 5 ∷ 13 ∷ 0 ∷ []) ∷ (2 ∷ 2 ∷ 3 ∷ 5 ∷ 17 ∷ 0 ∷ []) ∷ (3 ∷ 3 ∷ 4 ∷ 5 ∷ 21 ∷ 0 ∷ []) ∷ (4 ∷ 4 ∷ 6 ∷ 5 ∷ 25 ∷ 0 ∷ []) ∷ []) s1246-left
+-- the target leads to itself: 0
+abbrev pub b63 : Row
+b63 =
+    stays (pic ((const 1 8 ∷ op2 Alloc 2 1 ∷ op3 Cmp 3 1 1 ∷ op3 Cmp 4 1 3 ∷ op3 Cmp 5 1 4 ∷ op3 Cmp 6 1 5
+    ∷ op3 Cmp 7 1 6 ∷ op3 Cmp 8 1 7 ∷ op3 Cat 2 1 1 ∷ fork 0 1 2 ∷ []) ∷ (op2 Output 2 1 ∷ br 1 ∷ []) ∷ (op0 Ret ∷ [])
+    ∷ []) (at (upto 13) []) (registers 9 (0 ∷ 0 ∷ 1 ∷ replicate 6 0 ++ 77 ∷ [])) (operands 0 (77 ∷ []))
+    (beside [] [] [])) 32 8128 800 (done 0 9 0)
 
 abbrev pub rows7 : List Row
 rows7 =
-    s855 ∷ s859 ∷ s1047 ∷ s1056 ∷ s1073 ∷ s1183 ∷ s1223 ∷ s1246
-    ∷ []
+    b2 ∷ b5 ∷ b6 ∷ b7 ∷ b8 ∷ b12 ∷ b13 ∷ b14 ∷ b16 ∷ b18 ∷ b22 ∷ b23 ∷ b25 ∷ b29 ∷ b33 ∷ b34 ∷ b45 ∷ b46 ∷ b47 ∷ b48
+    ∷ b49 ∷ b50 ∷ b51 ∷ b52 ∷ b53 ∷ b54 ∷ b55 ∷ b56 ∷ b57 ∷ b58 ∷ b59 ∷ b60 ∷ b61 ∷ b62 ∷ b63 ∷ []

@@ -30,6 +30,7 @@ damages! {
     1 "131,073 operands lent" |p, _| resize(&mut p.ops, 131073);
     0 "131,072 operands lent" |p, _| resize(&mut p.ops, 131072);
     1 "65,537 pair words" |p, _| resize(&mut p.pairs, 65537);
+    0 "65,536 pair words" |p, _| { p.targets.push(0); p.pairs = [p.targets.len() as u32 - 1, 1].repeat(32768); p.nblocks() > 0 };
     1 "65,537 target words" |p, _| resize(&mut p.targets, 65537);
     0 "65,536 target words" |p, _| p.nblocks() > 0 && resize(&mut p.targets, 65536);
     1 "more registers in use than lent" |p, _| { p.regs = p.types.len() as u32 + 1; true };
@@ -79,6 +80,7 @@ damages! {
     9 "a type in use of 8" |p, r| p.regs > 0 && { let k = r.below(p.regs as usize); p.types[k] = 8; true };
     0 "512 registers and 4,096 blocks, within the gate" |p, _| grow_blocks(p, 4096) && grow_registers(p, 512);
     0 "513 registers and 4,096 blocks, past the gate" |p, _| grow_blocks(p, 4096) && grow_registers(p, 513);
+    0 "512 registers in use, 600 lent, and 4,096 blocks, within the gate" |p, _| grow_blocks(p, 4096) && grow_registers(p, 512) && resize(&mut p.types, 600);
     0 "no Cat of form 0 left, past the gate" |p, _| { while record(p, &mut Random::new(0), |k| k == CAT, |w, _| *w = Record::new(STMT, 0, &[], (0, 0), &[]).0) {}; true };
     0 "a type of 8 past those in use" |p, _| { p.types.truncate(p.regs as usize); push(&mut p.types, 8) };
 }

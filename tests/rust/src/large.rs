@@ -1,5 +1,5 @@
 //! The pass over lent slices held against the Rust, beyond the program's sizes: large generated pictures, copies of one up to
-//! 32,768 instructions, chains of 800 and 801, and damaged ones. Compared are the number, the registers and operands in use,
+//! 32,768 instructions, chains of 800 and 801, the gate and the case tables at their sizes, and damaged ones. Compared are the number, the registers and operands in use,
 //! every word of the picture and of the room past it, and for a refusal the work slices and the list of facts too.
 
 use std::collections::BTreeMap;
@@ -11,7 +11,7 @@ use crate::damage::DAMAGES;
 use crate::driver::{Facts, Trace};
 use crate::fact::Fact;
 use crate::generate::{Size, bare};
-use crate::oracle::{Answer, Lent, Outcome, oracle};
+use crate::oracle::{Answer, Lent, Outcome, oracle, oracle_with_work};
 use crate::picture::{Picture, Work};
 use crate::random::Random;
 use crate::rooms::rooms;
@@ -40,6 +40,7 @@ pub fn large(n: usize, seed: u64, mut pass: impl Slices) -> Stats {
     let mut stats = Stats { pictures: n, ..Stats::default() };
     stats.long_chains(&mut pass);
     stats.long_lists(&mut pass);
+    stats.largest(&mut pass);
     for k in 0..n {
         let this = seed.wrapping_mul(1_000_003).wrapping_add(k as u64);
         let mut rnd = Random::new(this ^ 0x1A46_E000);
@@ -170,6 +171,18 @@ impl Stats {
             let trace = self.accepted(&p, &name, &mut Random::new(1), pass);
             if trace.rounds.len() != 1 {
                 self.faults.push(format!("{name}: the Rust has {} rounds, not one", trace.rounds.len()));
+            }
+        }
+    }
+
+    /// The gate and the case tables at their sizes, with more registers lent than in use too.
+    fn largest(&mut self, pass: &mut impl Slices) {
+        for (name, p, rounds) in boundary::largest() {
+            self.accepted(&p, name, &mut Random::new(1), pass);
+            let lent = with_room(&p, (p.types.len() + 88, p.ops.len()));
+            let found = oracle_with_work(&lent).expect("few types").lines.len();
+            if found != rounds {
+                self.faults.push(format!("{name}: the Rust has {found} rounds, not {rounds}"));
             }
         }
     }

@@ -4,7 +4,7 @@
 use std::collections::BTreeSet;
 
 use crate::accept::may_move;
-use crate::boundary::boundaries;
+use crate::boundary::{alike, boundaries};
 use crate::bytes::{self, Hosted, OPERANDS, REGISTERS, RESULT, loose_bytes};
 use crate::crossed::shows::{decided, features};
 use crate::damage::DAMAGES;
@@ -67,9 +67,9 @@ impl Vector {
 
 const ROOM: (usize, usize) = (REGISTERS, OPERANDS);
 
-/// The bounds. Of those with many instructions only the longest chain is taken.
+/// The bounds, without those that are much alike. Of those with many instructions only the longest chain is taken.
 fn bounds() -> Vec<Vector> {
-    let kept = boundaries().into_iter().filter(|b| b.name.contains("as long a chain of six") || b.picture.locs.len() < 100);
+    let kept = boundaries().into_iter().filter(|b| b.name.contains("as long a chain of six") || (b.picture.locs.len() < 100 && !alike(&b.name)));
     kept.filter_map(|b| Vector::new(b.name, loose_bytes(&b.picture), ROOM)).collect()
 }
 

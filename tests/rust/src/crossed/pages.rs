@@ -3,31 +3,47 @@
 use std::collections::BTreeSet;
 use std::fmt::Write;
 
-use super::SEEDS;
-use super::pick::{picked, refused};
+use super::pick::{at_bounds, picked, refused};
 use super::text::{broken, row_text};
+use super::{Row, SEEDS};
 
 /// Lines of a file at most.
 const LINES: usize = 390;
 
+/// A row as text, with the kinds that it names.
+struct Text {
+    name: String,
+    text: String,
+    kinds: BTreeSet<&'static str>,
+}
+
+impl Text {
+    fn new(row: &Row) -> Text {
+        let mut kinds = BTreeSet::new();
+        Text { name: row.name.clone(), text: row_text(row, &mut kinds), kinds }
+    }
+}
+
 /// The files of the crate that hold the rows, with the list and the proofs of them all: path and text.
 pub fn files(many: usize) -> Vec<(String, String)> {
-    let mut rows = picked(many);
-    rows.extend(refused());
+    let seeds = format!("of the first {SEEDS} seeds of the generator, those that show\n-- something new");
+    let sorts = [
+        (format!("Pictures by seed and what the Rust makes of them, page N: {seeds}"), picked(many)),
+        ("Refused pictures, page N: one for each way to damage a generated one, with tests/rust's judgement".into(), refused()),
+        ("Pictures at the bounds of document 01, page N: what the Rust makes of them, and tests/rust's judgement of refused ones".into(), at_bounds()),
+    ];
     let mut out: Vec<(String, String)> = Vec::new();
-    let mut texts: Vec<(String, String, BTreeSet<&str>)> = Vec::new();
-    for row in &rows {
-        let mut used = BTreeSet::new();
-        texts.push((row.name.clone(), row_text(row, &mut used), used));
-    }
-    let mut rest = &texts[..];
-    while !rest.is_empty() {
-        let mut lines = 24;
-        let many = rest.iter().take_while(|t| { lines += t.1.lines().count() + 2; lines < LINES }).count().max(1);
-        let (here, later) = rest.split_at(many);
-        rest = later;
-        let number = out.len() + 1;
-        out.push((format!("specs/Rows{number}.antt"), page(number, here)));
+    for (what, rows) in sorts {
+        let texts: Vec<Text> = rows.iter().map(Text::new).collect();
+        let mut rest = &texts[..];
+        while !rest.is_empty() {
+            let mut lines = 24;
+            let many = rest.iter().take_while(|t| { lines += t.text.lines().count() + 1; lines < LINES }).count().max(1);
+            let (here, later) = rest.split_at(many);
+            rest = later;
+            let number = out.len() + 1;
+            out.push((format!("specs/Rows{number}.antt"), page(&what.replace('N', &number.to_string()), number, here)));
+        }
     }
     let pages = 1..=out.len();
     let modules: String = pages.clone().map(|k| format!("pub mod Rows{k}\n")).collect();
@@ -56,31 +72,38 @@ fn proofs(pages: std::ops::RangeInclusive<usize>) -> String {
     t
 }
 
-fn page(number: usize, rows: &[(String, String, BTreeSet<&str>)]) -> String {
-    let kinds: BTreeSet<&str> = rows.iter().flat_map(|r| r.2.iter().copied()).collect();
-    let used = |word: &str| rows.iter().any(|r| r.1.contains(word));
-    let mut t = format!("-- Pictures by seed and what the Rust makes of them, page {number}: of the first {SEEDS} seeds of the generator, those that show\n");
-    t += "-- something new. Printed by `compare crossed` in tests/rust, and again by its compare.sh: not to be edited.\n";
-    t += "-- Assumes nothing.\n";
-    t += "use mathlib.Core.List.{List, [], _∷_}\n";
-    t += "use Rattle.words.specs.Lists.{upto}\n";
+fn page(what: &str, number: usize, rows: &[Text]) -> String {
+    let kinds: BTreeSet<&str> = rows.iter().flat_map(|r| r.kinds.iter().copied()).collect();
+    let words: BTreeSet<&str> = rows.iter().flat_map(|r| r.text.split([' ', '(', ')', '\n'])).collect();
+    // those of the names that the page uses, behind commas
+    let used = |names: &[&str]| names.iter().filter(|n| words.contains(**n)).map(|n| format!(", {n}")).collect::<String>();
+    let mut t = format!("-- {what}. Printed by\n-- `compare crossed` in tests/rust, and again by its compare.sh: not to be edited. Assumes nothing.\n");
+    let append = if words.contains("++") { ", _++_" } else { "" };
+    let _ = writeln!(t, "use mathlib.Core.List.{{List, [], _∷_{append}}}");
+    if words.contains("replicate") {
+        t += "use lib.ListN.{replicate}\n";
+    }
+    let runs = used(&["range", "upto"]);
+    if !runs.is_empty() {
+        let _ = writeln!(t, "use Rattle.words.specs.Lists.{{{}}}", &runs[2..]);
+    }
     let kinds: Vec<&str> = kinds.into_iter().collect();
     for some in kinds.chunks(10) {
         let _ = writeln!(t, "use Rattle.model.specs.Kinds.{{{}}}", some.join(", "));
     }
-    let absent = if used("absent") { ", absent" } else { "" };
-    let _ = writeln!(t, "use Rattle.model.specs.Picture.{{Picture{absent}}}");
-    t += "use Rattle.model.specs.Build.{op}\n";
-    let helpers = ["bounded", "longer", "moves", "stays", "done", "short", "refused"].into_iter().filter(|h| used(&format!("{h} ")));
-    let helpers: String = helpers.map(|h| format!(", {h}")).collect();
-    let _ = writeln!(t, "use Rattle.crossed.specs.Row.{{Row, pic, at, registers, operands, beside{helpers}}}");
+    if words.contains("absent") {
+        t += "use Rattle.model.specs.Picture.{absent}\n";
+    }
+    if words.contains("op") {
+        t += "use Rattle.model.specs.Build.{op}\n";
+    }
+    let short = used(&["op0", "op1", "op2", "op3", "op4", "op5", "br", "fork", "const", "bounded", "longer", "moves", "stays", "done", "short", "refused"]);
+    let _ = writeln!(t, "use Rattle.crossed.specs.Row.{{Row, pic, at, registers, operands, beside{short}}}");
     for r in rows {
         t += "\n";
-        t += &r.1;
+        t += &r.text;
     }
-    let _ = writeln!(t, "\nabbrev pub rows{number} : List Row\nrows{number} =");
-    let names: Vec<String> = rows.iter().map(|r| r.0.clone()).collect();
-    t += &broken(&names, "    ", "    ∷ ", "");
-    t += "    ∷ []\n";
+    let names: Vec<&str> = rows.iter().map(|r| r.name.as_str()).collect();
+    let _ = write!(t, "\nabbrev pub rows{number} : List Row\nrows{number} =\n{}", broken(&format!("{} ∷ []", names.join(" ∷ "))));
     t
 }

@@ -4,15 +4,20 @@ use std::collections::BTreeMap;
 
 use super::shows::{decided, features};
 use super::{Row, SEEDS};
+use crate::boundary::{alike, boundaries};
 use crate::damage::DAMAGES;
 use crate::driver::Facts;
 use crate::generate::{Size, picture};
-use crate::oracle::{Answer, Lent, oracle};
-use crate::picture::{Picture, Work};
+use crate::oracle::{Answer, Lent, oracle, oracle_with_work};
+use crate::kinds::RET;
+use crate::picture::{Picture, Record, Work};
 use crate::random::Random;
 
 /// Instructions of a picture at most.
 const CODE: usize = 24;
+/// The same of a picture at the bounds, and the words of its lists at most.
+const BOUND_CODE: usize = 30;
+const WORDS: usize = 40;
 
 /// How many rows are to show a thing.
 fn wanted(feature: &str) -> usize {
@@ -70,6 +75,53 @@ pub fn picked(many: usize) -> Vec<Row> {
     rows
 }
 
+/// Words past those in use, in the room that a row lends.
+const ROOM: u32 = 77;
+
+/// Pictures at the bounds that are rows of `model` already, and those that show what another shows.
+fn left_out(name: &str) -> bool {
+    let marked = [
+        "the listing",
+        "neither blocks nor instructions",
+        "7 members",
+        "7 members, block 1 in replay",
+        "r8 read in the other branch",
+        "Const 2^40",
+        "Const 2^40+1",
+        "Stmt after the Cat",
+        "both branches to 1",
+        "Suspend behind x, in the chain",
+        "the target writes again what it reads",
+        "what a member reads is written behind it",
+        "a result live out of the target",
+        "a Cat list of 34",
+    ];
+    marked.contains(&name) || alike(name) || name.ends_with(" rounds to be had")
+}
+
+/// The pictures at the bounds that are small, with just a little room.
+pub fn at_bounds() -> Vec<Row> {
+    let mut rows = Vec::new();
+    for (k, b) in boundaries().into_iter().enumerate() {
+        let mut what = b.picture;
+        let words = [what.regs as usize, what.opers as usize, what.bounds.len(), what.pairs.len(), what.targets.len()];
+        if b.number == 300 || what.locs.len() > BOUND_CODE || words.iter().any(|&n| n > WORDS) || left_out(&b.name) {
+            continue;
+        }
+        what.locs = (0..what.locs.len() as u32).collect();
+        let after = oracle_with_work(&what).expect("few types").picture;
+        for (words, used, most) in [(&mut what.types, what.regs, after.regs), (&mut what.ops, what.opers, after.opers)] {
+            words.truncate(used as usize);
+            words.resize(most as usize + 1, ROOM);
+        }
+        let work = what.work();
+        let gives = oracle(&what, work).expect("few types");
+        assert_eq!(gives.answer.number(), b.number, "{}", b.name);
+        rows.push(Row { name: format!("b{k}"), notes: format!("{}: {}", b.name, b.number), what, work, gives });
+    }
+    rows
+}
+
 /// One row for each way to damage a picture that leaves it small.
 pub fn refused() -> Vec<Row> {
     let mut rows = Vec::new();
@@ -89,14 +141,24 @@ pub fn refused() -> Vec<Row> {
             break;
         }
     }
-    // Work slices one word too short, either of them; a record too few.
+    // Work slices one word too short, either of them; a record too few. Then slices long enough for the registers in use, not for
+    // those lent.
+    let small = (0..SEEDS).map(|seed| picture(seed, Size::Small)).find(|p| p.locs.len() <= 14).expect("a small one");
+    let mut more = Picture { regs: 2, types: vec![0; 4], ..Picture::of_blocks(&[vec![Record::new(RET, 0, &[], (0, 0), &[])]]) };
+    more.types[3] = ROOM;
     let too_short = "a work slice one word too short: refused 10";
-    for (name, [a, b, c], notes) in [("w64", [1, 0, 0], too_short), ("w32", [0, 1, 0], too_short), ("few", [0, 0, 1], "799 records: refused 10")] {
-        let what = (0..SEEDS).map(|seed| picture(seed, Size::Small)).find(|p| p.locs.len() <= 14).expect("a small one");
+    let lent = "a work slice one word too short for the registers lent: refused 10";
+    for (name, what, [a, b, c], notes) in [
+        ("w64", &small, [1, 0, 0], too_short),
+        ("w32", &small, [0, 1, 0], too_short),
+        ("few", &small, [0, 0, 1], "799 records: refused 10"),
+        ("w64k", &more, [1, 0, 0], lent),
+        ("w32k", &more, [0, 1, 0], lent),
+    ] {
         let need = what.work();
         let work = Work { w64: need.w64 - a, w32: need.w32 - b, records: need.records - c };
-        let gives = oracle(&what, work).expect("few types");
-        rows.push(Row { name: name.into(), notes: notes.into(), what, work, gives });
+        let gives = oracle(what, work).expect("few types");
+        rows.push(Row { name: name.into(), notes: notes.into(), what: what.clone(), work, gives });
     }
     rows
 }
