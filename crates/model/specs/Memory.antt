@@ -14,30 +14,25 @@ use Rattle.model.specs.Small.{in1, in2, in3, in4, frame, pool, load, nat
 
 -- ---- three members and what stands behind them
 
--- three values
-abbrev values-past : Inst → Row
-values-past i = goes 1 9 (cmp-to 9 ∷ two-to 9 ++ keep i ∷ [])
-
+-- these stop three values
 abbrev values-stop : Inst → Row
 values-stop i = rests (cmp 3 1 ∷ two ++ i ∷ [])
 
--- a block, and two values
+-- these stop the maker of a block, and two values are too few
 abbrev block-stops : Inst → Row
 block-stops i = rests (in2 Alloc 0 5 1 ∷ two ++ i ∷ [])
 
--- a read of what `a` leaves in r4, and two values
-abbrev read-past : Inst → List Inst → Row
-read-past a is = goes 1 9 (keep a ∷ send (load 5 4) (load 9 4) ∷ two-to 9 ++ map keep is)
+-- these stop a read of the pool
+abbrev pool-stops : Inst → Row
+pool-stops i = rests (pool ∷ load 5 4 ∷ two ++ i ∷ [])
 
-abbrev read-stops : Inst → List Inst → Row
-read-stops a is = rests (a ∷ load 5 4 ∷ two ++ is)
-
--- the same past many at once: x goes on to block 3, where they stand
+-- all go past many at once: x goes on to block 3, where these stand
 abbrev all-past : List Step → List Inst → Row
 all-past ss is = let bs = other ∷ (is ++ branch 1 2 ∷ []) ∷ [] in once 1 (keep (konst 8) ∷ ss ++ keep (jump 3) ∷ []) (shown 3 ∷ bs) (shown 9) bs
 
-abbrev reads-past : Inst → List Inst → Row
-reads-past a is = all-past (keep a ∷ send (load 5 4) (load 9 4) ∷ two-to 9) is
+-- a read of what `a` leaves in r4, and two values
+abbrev read-past : Inst → List Inst → Row
+read-past a is = all-past (keep a ∷ send (load 5 4) (load 9 4) ∷ two-to 9) is
 
 -- a Call of form f that writes nothing and has no list
 abbrev call : ℕ → Inst
@@ -47,19 +42,13 @@ call f = op Call f [] [] []
 
 abbrev pub suspensions : List Row
 suspensions =
+    -- Suspend, CallIndirect, and Call and CallProt of form 1
     values-stop suspend
     ∷ values-stop (in1 CallIndirect 0 0)
-    -- Call and CallProt of form 1; of form 0 they do not
     ∷ values-stop (call 1)
-    ∷ values-past (call 0)
     ∷ values-stop (in1 CallProt 1 0)
-    ∷ values-past (in1 CallProt 0 0)
-    -- no other call, nor a wait
-    ∷ values-past (op CallForeign 0 [] [] [])
-    ∷ values-past (nat 0 6 1)
-    ∷ values-past (in1 WaitOn 0 0)
-    -- a barrier does not matter to values
-    ∷ values-past stmt
+    -- not those of form 0, nor another call, nor a wait; and a barrier does not matter to values
+    ∷ all-past (cmp-to 9 ∷ two-to 9) (call 0 ∷ in1 CallProt 0 0 ∷ op CallForeign 0 [] [] [] ∷ nat 0 6 1 ∷ in1 WaitOn 0 0 ∷ stmt ∷ [])
     ∷ []
 
 pub suspensions-cases : map answered suspensions ≡ map given suspensions
@@ -93,18 +82,12 @@ abbrev pub barriers : List Row
 barriers =
     map block-stops barrier
     ++ all-past (send (in2 Alloc 0 5 1) (in2 Alloc 0 9 1) ∷ two-to 9) no-barrier
-    -- a layout and an image are made too
-    ∷ rests (pool ∷ in2 LayoutOf 0 5 4 ∷ two ++ stmt ∷ [])
-    ∷ rests (nat 1 5 1 ∷ two ++ stmt ∷ [])
-    -- what is read from Ro goes past one; from the frame, a kept block, a kept image it does not
+    -- one stops what creates: Alloc, LayoutOf, an image; and what is read from the frame, a kept block, a kept image
+    ∷ rests (frame ∷ nat 2 6 1 ∷ nat 1 7 1 ∷ output 7 ∷ in1 AddrOf 4 8 ∷ in2 Alloc 0 5 1 ∷ in2 LayoutOf 0 5 8 ∷ nat 1 5 1 ∷ load 5 4 ∷ load 5 6 ∷ load 5 7 ∷ two ++ stmt ∷ [])
+    -- what is read from Ro goes past one
     ∷ read-past pool (stmt ∷ [])
-    ∷ read-past (in1 AddrOf 2 4) (stmt ∷ [])
-    ∷ read-stops frame (stmt ∷ [])
-    ∷ read-stops (nat 2 4 1) (stmt ∷ [])
-    ∷ rests (nat 1 4 1 ∷ output 4 ∷ load 5 4 ∷ two ++ stmt ∷ [])
-    -- it goes past a light native, which is none and writes nothing
+    -- what is read from the frame goes past a light native, which is none and writes nothing
     ∷ read-past frame (nat 2 6 1 ∷ [])
-    ∷ read-past pool (nat 2 6 1 ∷ [])
     ∷ []
 
 pub barriers-cases : map answered barriers ≡ map given barriers
@@ -112,7 +95,7 @@ barriers-cases = refl
 
 -- ---- rule 5: writes that may alias
 
--- r6 as each origin, and a Copy into it
+-- a Copy into what `a` leaves in r6
 abbrev into : Inst → List Inst
 into a = a ∷ in3 Copy 0 6 1 1 ∷ []
 
@@ -131,70 +114,49 @@ to-block = into (nat 2 6 1)
 abbrev to-image : List Inst
 to-image = into (nat 1 6 1)
 
--- a write nobody can place, and one to where r4 points
-abbrev anywhere : List Inst
-anywhere = in1 Zero 0 0 ∷ []
-
-abbrev there : List Inst
-there = in3 Copy 0 4 1 1 ∷ []
-
 abbrev pub aliases : List Row
 aliases =
-    -- a write nobody can place reaches everything
-    read-stops pool anywhere
-    ∷ read-stops frame anywhere
-    ∷ read-stops (nat 2 4 1) anywhere
-    ∷ rests (nat 1 4 1 ∷ load 5 4 ∷ cmp 3 1 ∷ anywhere)
-    -- a write to Ro or the heap reaches nothing that is known
-    ∷ read-past pool to-ro
-    ∷ read-past frame to-ro
-    ∷ read-past (nat 2 4 1) to-ro
-    ∷ read-past pool to-heap
-    ∷ read-past frame to-heap
-    ∷ read-past (nat 2 4 1) to-heap
-    ∷ read-past pool there
-    -- a write to the frame reaches the frame
-    ∷ read-stops frame to-frame
-    ∷ read-past pool to-frame
-    ∷ read-past (nat 2 4 1) to-frame
-    -- a write to a block reaches that block, and no other
-    ∷ read-stops (nat 2 4 1) there
-    ∷ read-past (nat 2 4 1) to-block
-    ∷ read-past frame to-block
-    ∷ read-past pool to-block
-    -- a write to an image reaches that image, which stays since the Copy does, and no other
-    ∷ read-stops (nat 1 4 1) there
+    -- a write nobody can place reaches Ro, the frame, a kept block and an image
+    rests (pool ∷ in1 AddrOf 0 6 ∷ nat 2 7 1 ∷ nat 1 8 1 ∷ load 5 4 ∷ load 5 6 ∷ load 5 7 ∷ load 5 8 ∷ two ++ in1 Zero 0 0 ∷ [])
+    -- what is read from Ro is reached by nothing else, not even a write to Ro
+    ∷ read-past pool (to-ro ++ to-heap ++ to-frame ++ to-block ++ to-image)
+    -- what is read from the frame, not by a write to Ro, the heap, a block, an image
+    ∷ read-past frame (to-ro ++ to-heap ++ to-block ++ to-image)
+    -- what is read from a block, not by a write to Ro, the heap, the frame, another block
+    ∷ read-past (nat 2 4 1) (to-ro ++ to-heap ++ to-frame ++ to-block)
+    -- what is read from an image, not by a write to another
     ∷ goes 2 10 (send (nat 1 4 1) (nat 1 9 1) ∷ send (load 5 4) (load 10 9) ∷ cmp-to 10 ∷ map keep to-image)
-    ∷ read-past frame to-image
-    ∷ read-past pool to-image
-    -- DopeLen and LayoutOf read as a Load does
-    ∷ rests (frame ∷ in2 DopeLen 0 5 4 ∷ two ++ to-frame)
-    ∷ rests (frame ∷ in2 LayoutOf 0 5 4 ∷ two ++ to-frame)
+    -- a write to the frame, a kept block, a kept image reaches what is read there, by a Load, a DopeLen or a LayoutOf
+    ∷ rests (frame ∷ nat 2 7 1 ∷ nat 1 8 1 ∷ load 5 4 ∷ in2 DopeLen 0 5 4 ∷ in2 LayoutOf 0 5 4 ∷ load 5 7 ∷ load 5 8 ∷ two ++ in3 Copy 0 4 1 1 ∷ in3 Copy 0 7 1 1 ∷ in3 Copy 0 8 1 1 ∷ [])
     ∷ []
 
 pub aliases-cases : map answered aliases ≡ map given aliases
 aliases-cases = refl
 
--- ---- what writes at its first register: behind a read of the pool it is past, behind a read of the frame it is not
+-- ---- what writes at its first register, and nowhere else
 
-abbrev at-4 : List Inst
-at-4 =
-    in1 CopyConst 0 4
-    ∷ in3 Copy 0 4 1 1
-    ∷ in3 Fill 0 4 1 1
-    ∷ in4 LogicOp 0 4 1 1 1
-    ∷ in3 LSet 0 4 1 1
-    ∷ in4 LFill 0 4 1 1 1
-    ∷ op LCopy 0 (4 ∷ 1 ∷ 1 ∷ 1 ∷ 1 ∷ []) [] []
-    -- these would move, but write no member's memory
-    ∷ in2 Store 1 4 1
-    ∷ in2 SigRead 0 4 0
-    ∷ op MakeDope 0 (4 ∷ []) (0 ∷ 2 ∷ []) []
-    ∷ cat 0 4 0
-    ∷ []
+abbrev at-first : ℕ → ℕ → ℕ → ℕ → List Inst
+at-first a b c d = in1 CopyConst 0 a ∷ in3 Fill 0 b 1 1 ∷ in4 LogicOp 0 c 1 1 1 ∷ in3 LSet 0 d 1 1 ∷ []
+
+abbrev at-first-too : ℕ → ℕ → ℕ → ℕ → List Inst
+at-first-too a b c d = in4 LFill 0 a 1 1 1 ∷ op LCopy 0 (b ∷ 1 ∷ 1 ∷ 1 ∷ 1 ∷ []) [] [] ∷ in3 Copy 0 c 1 1 ∷ in2 Store 1 d 1 ∷ []
+
+-- these would move, as the Store, but write no member's memory
+abbrev at-first-last : ℕ → ℕ → ℕ → ℕ → List Inst
+at-first-last a b c d = in2 SigRead 0 a 0 ∷ op MakeDope 0 (b ∷ []) (0 ∷ 2 ∷ []) [] ∷ cat 0 c 0 ∷ cat 1 d 0 ∷ []
+
+-- reads of four blocks, each stopped by one of these
+abbrev four-stop : (ℕ → ℕ → ℕ → ℕ → List Inst) → Row
+four-stop w = rests (nat 2 4 1 ∷ nat 2 6 1 ∷ nat 2 7 1 ∷ nat 2 8 1 ∷ load 5 4 ∷ load 5 6 ∷ load 5 7 ∷ load 5 8 ∷ two ++ w 4 6 7 8)
 
 abbrev pub placed : List Row
-placed = reads-past pool at-4 ∷ map (λ i. read-stops frame (i ∷ [])) at-4
+placed =
+    -- a read of the pool goes past writes into it, which nothing else is then
+    read-past pool (at-first 4 4 4 4 ++ at-first-too 4 4 4 4 ++ at-first-last 4 4 4 4)
+    ∷ four-stop at-first
+    ∷ four-stop at-first-too
+    ∷ four-stop at-first-last
+    ∷ []
 
 pub placed-cases : map answered placed ≡ map given placed
 placed-cases = refl
@@ -280,7 +242,7 @@ loud =
     ∷ []
 
 abbrev pub named : List Row
-named = reads-past pool quiet ∷ map (λ i. read-stops pool (i ∷ [])) loud
+named = read-past pool quiet ∷ map pool-stops loud
 
 pub named-cases : map answered named ≡ map given named
 named-cases = refl

@@ -33,29 +33,19 @@ replayed rs bs = let P = lent bs (wide 0) rs in record { what = P; gives = ends-
 
 -- ---- facts on registers, by what block 2 writes
 
--- x reads r4 by i, then has two Cmps; block 2 has these, then its Cat
-abbrev known : List Inst → Inst → Inst → Row
-known js i i' = once 1 (steps (send i i' ∷ two-to 9)) (shown 3 ∷ (js ++ other) ∷ []) (shown 9) ((js ++ other) ∷ [])
+abbrev known : List Inst
+known = in1 AddrOf 0 4 ∷ in1 AddrOf 2 6 ∷ in1 AddrOf 4 7 ∷ value 8 8 0 ∷ other
 
-abbrev unknown : List Inst → Inst → Row
-unknown js i = still (whole (i ∷ two) ∷ shown 3 ∷ (js ++ other) ∷ [])
+abbrev unknown : List Inst
+unknown = in1 AddrOf 1 4 ∷ in1 AddrOf 3 6 ∷ in1 AddrOf 5 7 ∷ in1 AddrOf 4 8 ∷ in1 AddrOf 4 8 ∷ value 2 8 0 ∷ value 2 8 0 ∷ other
 
 abbrev pub facts-rows : List Row
 facts-rows =
-    -- AddrOf's Frame, Inst and Const can be read; its Up, Pkg and Shared cannot
-    known (in1 AddrOf 0 4 ∷ []) (load 5 4) (load 9 4)
-    ∷ known (in1 AddrOf 2 4 ∷ []) (load 5 4) (load 9 4)
-    ∷ known (in1 AddrOf 4 4 ∷ []) (load 5 4) (load 9 4)
-    ∷ unknown (in1 AddrOf 1 4 ∷ []) (load 5 4)
-    ∷ unknown (in1 AddrOf 3 4 ∷ []) (load 5 4)
-    ∷ unknown (in1 AddrOf 5 4 ∷ []) (load 5 4)
-    -- a constant is a length
-    ∷ known (value 4 8 0 ∷ []) (in2 Alloc 0 5 4) (in2 Alloc 0 9 4)
-    -- two writers, even of the same: no fact
-    ∷ unknown (in1 AddrOf 4 4 ∷ in1 AddrOf 4 4 ∷ []) (load 5 4)
-    ∷ unknown (value 4 8 0 ∷ value 4 8 0 ∷ []) (in2 Alloc 0 5 4)
-    -- the chain's writer counts first: r4 is a constant before round 1, but something here
-    ∷ rests (value 4 8 0 ∷ in2 Load 4 4 0 ∷ in2 Alloc 0 5 4 ∷ two)
+    -- AddrOf's Frame, Inst and Const can be read, a constant is a length
+    once 1 (steps (send (load 5 4) (load 9 4) ∷ send (load 5 6) (load 9 6) ∷ send (load 5 7) (load 9 7) ∷ send (in2 Alloc 0 5 8) (in2 Alloc 0 9 8) ∷ two-to 9))
+    (shown 3 ∷ known ∷ []) (shown 9) (known ∷ [])
+    -- AddrOf's Up, Pkg and Shared cannot be read, nor what has two writers, even if they write the same
+    ∷ still (whole (load 5 4 ∷ load 5 6 ∷ load 5 7 ∷ load 5 8 ∷ in2 Alloc 0 5 2 ∷ two) ∷ shown 3 ∷ unknown ∷ [])
     ∷ []
 
 pub facts-cases : map answered facts-rows ≡ map given facts-rows
