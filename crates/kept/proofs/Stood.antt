@@ -9,7 +9,8 @@ use lib.Dec.{T, eqb, ltb, eqb→eq, eqb-refl, lt→ltb}
 use lib.ListN.{getD, length}
 use Rattle.words.specs.Lists.{In, _implies_, upto, conj, all, same, mem}
 use Rattle.words.proofs.Bools.{T-true, true-T, T-false, clash, both, implies-of, conj-of}
-use Rattle.words.proofs.Members.{all-of, all-in, range-in, in-getD, in-mem}
+use Rattle.words.proofs.Alls.{all-range}
+use Rattle.words.proofs.Members.{all-of, all-in, in-getD, in-mem}
 use Rattle.model.specs.Picture.{Picture, inst, nblocks, succs}
 use Rattle.kept.specs.Walk.{bare, is-walk, Once}
 use Rattle.kept.specs.Stood.{same-answer, shortest, each, as-many?, old-place?, stands?, once?, bare?, loc?, via?, succs?, walks?, clauses, Wrong, wrongs}
@@ -34,7 +35,7 @@ answers-alike : (a b : Bool) → a ≡ b → T (same-answer a b)
 answers-alike a b e = subst (λ (c : Bool). T (same-answer a c)) e (answer-self a)
 
 below : (n : ℕ) (f : ℕ → Bool) → ((p : ℕ) → p < n → T (f p)) → T (all f (upto n))
-below n f h = all-of f (upto n) (λ p i. let r = range-in p 0 n i .1 in h p (omega arith))
+below n f h = all-range f 0 n (λ p a b. h p (omega arith))
 
 -- ---- clause by clause
 
