@@ -111,7 +111,7 @@ fn seek<'a>(
     s: Sizes,
     x: BlockId,
 ) -> MaybeLook
-    requires { ⌜ (now t ≡ rows) × (refusal (picture-of (now bounds) (now recs) (now locs) (now vias) (now types) registers (now ops) operands (now pairs) (now targets) (now replay)) (length (now work64)) (length (now work32)) records ≡ 0) × (x .0 < nblocks (picture-of (now bounds) (now recs) (now locs) (now vias) (now types) registers (now ops) operands (now pairs) (now targets) (now replay))) × (s ≡ sizes-of (picture-of (now bounds) (now recs) (now locs) (now vias) (now types) registers (now ops) operands (now pairs) (now targets) (now replay))) ⌝ }
+    requires { ⌜ (let P = picture-of (now bounds) (now recs) (now locs) (now vias) (now types) registers (now ops) operands (now pairs) (now targets) (now replay) in (now t ≡ rows) × (refusal P (length (now work64)) (length (now work32)) records ≡ 0) × (x .0 < nblocks P) × (s ≡ sizes-of P)) ⌝ }
     ensures { λ r. ⌜ Seen (picture-of (now (bounds .entry)) (now (recs .entry)) (now (locs .entry)) (now (vias .entry)) (now (types .entry)) registers (now (ops .entry)) operands (now (pairs .entry)) (now (targets .entry)) (now (replay .entry))) (now (work64 .entry)) (now (work32 .entry)) (now (work64 .exit)) (now (work32 .exit)) (x .0) r ⌝ }
 {
     begin(
@@ -204,71 +204,6 @@ fn set_out<'a>(
     take(r, s)
 }
 
-// The search by the table of opcodes.
-fn try_by<'a>(
-    t: &[u32; 202],
-    bounds: &[u32],
-    recs: &'a [u32],
-    locs: &[u32],
-    vias: &[u32],
-    types: &[u32],
-    registers: u32,
-    ops: &[u32],
-    operands: u32,
-    pairs: &[u32],
-    targets: &'a [u32],
-    replay: &[u32],
-    work64: &mut [u64],
-    work32: &mut [u32],
-    facts: &mut [Fact],
-    x: u32,
-    out: &mut [usize],
-) -> u32
-    requires { ⌜ now t ≡ rows ⌝ }
-    ensures { λ r. ⌜ (r ≡ attempt (picture-of (now (bounds .entry)) (now (recs .entry)) (now (locs .entry)) (now (vias .entry)) (now (types .entry)) registers (now (ops .entry)) operands (now (pairs .entry)) (now (targets .entry)) (now (replay .entry))) (length (now (work64 .entry))) (length (now (work32 .entry))) (length (now (facts .entry))) x)
-        × (now (out .exit) ≡ with-attempt (now (out .entry)) (picture-of (now (bounds .entry)) (now (recs .entry)) (now (locs .entry)) (now (vias .entry)) (now (types .entry)) registers (now (ops .entry)) operands (now (pairs .entry)) (now (targets .entry)) (now (replay .entry))) (length (now (work64 .entry))) (length (now (work32 .entry))) (length (now (facts .entry))) x)
-        × Left (picture-of (now (bounds .entry)) (now (recs .entry)) (now (locs .entry)) (now (vias .entry)) (now (types .entry)) registers (now (ops .entry)) operands (now (pairs .entry)) (now (targets .entry)) (now (replay .entry))) x (length (now (facts .entry))) (now (work64 .entry)) (now (work32 .entry)) (now (work64 .exit)) (now (work32 .exit))
-        × Listed (picture-of (now (bounds .entry)) (now (recs .entry)) (now (locs .entry)) (now (vias .entry)) (now (types .entry)) registers (now (ops .entry)) operands (now (pairs .entry)) (now (targets .entry)) (now (replay .entry))) x (length (now (work64 .entry))) (length (now (work32 .entry))) (now (facts .entry)) (now (facts .exit)) ⌝ }
-{
-    let k = set_out(
-        t,
-        bounds,
-        recs,
-        locs,
-        vias,
-        types,
-        registers,
-        ops,
-        operands,
-        pairs,
-        targets,
-        replay,
-        work64,
-        work32,
-        facts.len(),
-        x,
-    );
-    if k.over {
-        return k.number;
-    }
-    let r = try_chain(
-        t,
-        bounds,
-        recs,
-        ops,
-        pairs,
-        targets,
-        replay,
-        work64,
-        work32,
-        facts,
-        k.sizes,
-        k.look.x,
-        k.look.c,
-    );
-    put_move(out, r)
-}
-
 // 1 if block x has a move, 0 if not; 200 and the number of a refusal; 300 where x is no block. Of a move, at the head of `out`, if it
 // has four words: the target, the positions in x but for its last, those of the chain, the members. The chain's facts are then the first
 // of `facts`, one a position, and its words the first 8,000 of `work32`, ten a position (docs/DESIGN.md).
@@ -291,13 +226,14 @@ pub extern "C" fn virdzeba_try<'a>(
     x: u32,
     out: &mut [usize],
 ) -> u32
-    ensures { λ r. ⌜ (r ≡ attempt (picture-of (now (bounds .entry)) (now (recs .entry)) (now (locs .entry)) (now (vias .entry)) (now (types .entry)) registers (now (ops .entry)) operands (now (pairs .entry)) (now (targets .entry)) (now (replay .entry))) (length (now (work64 .entry))) (length (now (work32 .entry))) (length (now (facts .entry))) x)
-        × (now (out .exit) ≡ with-attempt (now (out .entry)) (picture-of (now (bounds .entry)) (now (recs .entry)) (now (locs .entry)) (now (vias .entry)) (now (types .entry)) registers (now (ops .entry)) operands (now (pairs .entry)) (now (targets .entry)) (now (replay .entry))) (length (now (work64 .entry))) (length (now (work32 .entry))) (length (now (facts .entry))) x)
-        × Left (picture-of (now (bounds .entry)) (now (recs .entry)) (now (locs .entry)) (now (vias .entry)) (now (types .entry)) registers (now (ops .entry)) operands (now (pairs .entry)) (now (targets .entry)) (now (replay .entry))) x (length (now (facts .entry))) (now (work64 .entry)) (now (work32 .entry)) (now (work64 .exit)) (now (work32 .exit))
-        × Listed (picture-of (now (bounds .entry)) (now (recs .entry)) (now (locs .entry)) (now (vias .entry)) (now (types .entry)) registers (now (ops .entry)) operands (now (pairs .entry)) (now (targets .entry)) (now (replay .entry))) x (length (now (work64 .entry))) (length (now (work32 .entry))) (now (facts .entry)) (now (facts .exit)) ⌝ }
+    ensures { λ r. ⌜ (let P = picture-of (now (bounds .entry)) (now (recs .entry)) (now (locs .entry)) (now (vias .entry)) (now (types .entry)) registers (now (ops .entry)) operands (now (pairs .entry)) (now (targets .entry)) (now (replay .entry)) in
+        let n64 = length (now (work64 .entry)) in
+        let n32 = length (now (work32 .entry)) in
+        let lent = length (now (facts .entry)) in
+        (r ≡ attempt P n64 n32 lent x) × (now (out .exit) ≡ with-attempt (now (out .entry)) P n64 n32 lent x) × Left P x lent (now (work64 .entry)) (now (work32 .entry)) (now (work64 .exit)) (now (work32 .exit)) × Listed P x n64 n32 (now (facts .entry)) (now (facts .exit))) ⌝ }
 {
     let t = table();
-    try_by(
+    let k = set_out(
         &t,
         bounds,
         recs,
@@ -312,8 +248,26 @@ pub extern "C" fn virdzeba_try<'a>(
         replay,
         work64,
         work32,
-        facts,
+        facts.len(),
         x,
-        out,
-    )
+    );
+    if k.over {
+        return k.number;
+    }
+    let r = try_chain(
+        &t,
+        bounds,
+        recs,
+        ops,
+        pairs,
+        targets,
+        replay,
+        work64,
+        work32,
+        facts,
+        k.sizes,
+        k.look.x,
+        k.look.c,
+    );
+    put_move(out, r)
 }
