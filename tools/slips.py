@@ -5,6 +5,7 @@
     tools/slips.py a-load al-*    those of these names; * and ? stand for anything
     tools/slips.py --jobs 2       two at a time (one, if not said)
     tools/slips.py --model        by `model` alone
+    tools/slips.py --from FILE    the slips of another list
     tools/slips.py --list         names, and what each says; nothing is checked
 
 Each slip is put into a copy of crate `model`, outside the repository, and `model` is checked: first the table or law that the list
@@ -34,10 +35,10 @@ TABLE = re.compile(r"^pub (\S+-cases) : .*\n\1 = refl\n", re.M)
 ERROR = re.compile(r"\S*?((?:src|specs|proofs)/\S+?)\.\w+:\d+:\d+: (?:error: )?`([^`]+)`")
 
 
-def slips():
-    """The entries of the list: name, what it says, replacements (file, old, new)."""
+def slips(path):
+    """The entries of a list: name, what it says, the table that refuses it, replacements (file, old, new)."""
     found, entry, file, old = [], None, None, None
-    for number, line in enumerate(open(SLIPS, encoding="utf-8"), 1):
+    for number, line in enumerate(open(path, encoding="utf-8"), 1):
         key, colon, text = line.rstrip("\n").partition(":")
         text = text[1:] if text.startswith(" ") else text
         if line.startswith("#") or not line.strip():
@@ -57,7 +58,7 @@ def slips():
             entry["edits"].append((file, old, text))
             old = None
         else:
-            sys.exit(f"tools/slips.txt:{number}: not understood: {line.rstrip()}")
+            sys.exit(f"{path}:{number}: not understood: {line.rstrip()}")
     return found
 
 
@@ -206,12 +207,13 @@ def main():
     want.add_argument("names", nargs="*")
     want.add_argument("--jobs", type=int, default=1)
     want.add_argument("--model", action="store_true")
+    want.add_argument("--from", dest="path", default=SLIPS)
     want.add_argument("--list", action="store_true")
     given = want.parse_args()
-    known = slips()
+    known = slips(given.path)
     for name in given.names:
         if not any(fnmatch.fnmatchcase(s["name"], name) for s in known):
-            sys.exit(f"tools/slips.txt has no {name}")
+            sys.exit(f"{given.path} has no {name}")
     chosen = [s for s in known if not given.names or any(fnmatch.fnmatchcase(s["name"], n) for n in given.names)]
     if given.list:
         for s in chosen:

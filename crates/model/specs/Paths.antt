@@ -5,7 +5,7 @@ use mathlib.Core.List.{List, [], _∷_, _++_, map}
 use Prim.Native.Nat.{ℕ}
 use lib.ListN.{replicate}
 use Rattle.model.specs.declared.Answer.the-variants.{Done}
-use Rattle.model.specs.Kinds.{AddrOf, Alloc, Case, Check, Cmp, LNum, Load, Select, Store}
+use Rattle.model.specs.Kinds.{AddrOf, Alloc, Case, Check, Cmp, LNum, Select, Store}
 use Rattle.model.specs.Picture.{Picture, Inst}
 use Rattle.model.specs.Pass.{ends-in, used}
 use Rattle.model.specs.Build.{op, Room, shows}
@@ -51,12 +51,15 @@ facts-rows =
 pub facts-cases : map answered facts-rows ≡ map given facts-rows
 facts-cases = refl
 
+-- ---- the listing changed in one place
+
 -- ten registers in use, r2 a Ptr, and new ones
 abbrev ten : List ℕ → Room
 ten ts = record { types = 0 ∷ 0 ∷ 1 ∷ replicate 7 0 ++ ts; registers = 16; ops = []; operands = 1 }
 
-abbrev ten-rest : List (List Inst) → List ℕ → Row
-ten-rest bs rs = let P = lent bs (ten []) rs in record { what = P; gives = ends-in (Done (used 0 P)) P }
+-- nothing moves where block 0 is this, without replay
+abbrev ten-rest : Room → List Inst → Row
+ten-rest m is = let P = lent (is ∷ (output 2 ∷ ret [] ∷ []) ∷ (ret [] ∷ []) ∷ []) m [] in record { what = P; gives = ends-in (Done (used 0 P)) P }
 
 -- block 3 of the first row: a listing whose length is r9
 abbrev by-r9 : List Inst
@@ -68,24 +71,24 @@ twice-written =
     (konst 8 ∷ alloc 2 ∷ cmps 5 ++ cmp 9 1 ∷ cat 0 2 0 ∷ branch 1 2 ∷ []) ∷ (output 2 ∷ ret [] ∷ []) ∷ (value 9 8 0 ∷ ret [] ∷ [])
     ∷ by-r9 ∷ (output 2 ∷ ret [] ∷ []) ∷ (ret [] ∷ []) ∷ []
 
-abbrev pub holes : List Row
-holes =
+abbrev pub listings : List Row
+listings =
     -- "come once, before round 1": r9 had two writers then, so block 3 has no length in round 2
     moves (lent twice-written (ten []) []) ((1 ∷ 0 ∷ 1 ∷ 8 ∷ 13 ∷ 0 ∷ []) ∷ [])
     (shows ((konst 8 ∷ branch 1 2 ∷ []) ∷ (alloc 10 ∷ sunk-cmps 5 11 12 1 ++ cmp 11 1 ∷ cat 0 10 0 ∷ output 10 ∷ ret [] ∷ []) ∷ (value 9 8 0 ∷ ret [] ∷ [])
     ∷ by-r9 ∷ (output 2 ∷ ret [] ∷ []) ∷ (ret [] ∷ []) ∷ []) (ten (1 ∷ 0 ∷ 0 ∷ [])) []
     (0 ∷ 9 ∷ 1 ∷ 2 ∷ 3 ∷ 4 ∷ 5 ∷ 6 ∷ 7 ∷ 8 ∷ 10 ∷ 11 ∷ 12 ∷ 13 ∷ 14 ∷ 15 ∷ 16 ∷ 17 ∷ 18 ∷ 19 ∷ 20 ∷ 21 ∷ 22 ∷ 23 ∷ 24 ∷ 25 ∷ []))
     -- a Select's origin is that of both its values: in place of the listing's last Cmp, a read of the pool or something
-    ∷ ten-rest ((konst 8 ∷ alloc 2 ∷ cmps 5 ++ in1 AddrOf 4 8 ∷ in4 Select 0 9 0 8 0 ∷ load 8 9 ∷ cat 0 2 0 ∷ branch 1 2 ∷ []) ∷ (output 2 ∷ ret [] ∷ []) ∷ (ret [] ∷ []) ∷ []) []
+    ∷ ten-rest (ten []) (konst 8 ∷ alloc 2 ∷ cmps 5 ++ in1 AddrOf 4 8 ∷ in4 Select 0 9 0 8 0 ∷ load 8 9 ∷ cat 0 2 0 ∷ branch 1 2 ∷ [])
     -- rule 6: an image is no Temp: in place of the last Cmp, an image and a Store into it
-    ∷ (let P = lent ((konst 8 ∷ alloc 2 ∷ cmps 5 ++ nat 1 9 1 ∷ in2 Store 1 9 1 ∷ cat 0 2 0 ∷ branch 1 2 ∷ []) ∷ (output 2 ∷ ret [] ∷ []) ∷ (ret [] ∷ []) ∷ [])
-    (record { types = 0 ∷ 0 ∷ 1 ∷ replicate 7 0; registers = 16; ops = 1 ∷ []; operands = 1 }) [] in record { what = P; gives = ends-in (Done (used 0 P)) P })
+    ∷ ten-rest (record { types = 0 ∷ 0 ∷ 1 ∷ replicate 7 0; registers = 16; ops = 1 ∷ []; operands = 1 })
+    (konst 8 ∷ alloc 2 ∷ cmps 5 ++ nat 1 9 1 ∷ in2 Store 1 9 1 ∷ cat 0 2 0 ∷ branch 1 2 ∷ [])
     -- "without replay x needs a Cat of form 0": one of form 1 is none, and one in block 2 is not in x
     ∷ replayed [] (whole (three ++ three ++ two ++ cat 1 0 0 ∷ []) ∷ shown 3 ∷ other ∷ [])
     ∷ []
 
-pub holes-cases : map answered holes ≡ map given holes
-holes-cases = refl
+pub listings-cases : map answered listings ≡ map given listings
+listings-cases = refl
 
 -- ---- the chain
 
