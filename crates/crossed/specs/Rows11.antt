@@ -4,111 +4,11 @@ use mathlib.Core.List.{List, [], _∷_, _++_}
 use lib.ListN.{replicate}
 use Rattle.words.specs.Lists.{range, upto}
 use Rattle.model.specs.Kinds.{AddrOf, Alloc, Call, CallForeign, CallNative, CallProt, Cat, Cmp, Copy, CopyConst}
-use Rattle.model.specs.Kinds.{Cover, Drive, Fill, Free, LCopy, LFill, LSet, LayoutOf, Load, LogicOp}
-use Rattle.model.specs.Kinds.{New, NewFill, NewFrame, Output, PkgAlloc, Report, Ret, SigAttr, Stmt, TempRoot}
-use Rattle.model.specs.Kinds.{Zero}
+use Rattle.model.specs.Kinds.{Cover, Drive, Free, LCopy, LFill, LSet, Load, LogicOp, New, NewFill}
+use Rattle.model.specs.Kinds.{NewFrame, Output, PkgAlloc, Report, Ret, SigAttr, Zero}
 use Rattle.model.specs.Picture.{absent}
 use Rattle.model.specs.Build.{op}
 use Rattle.crossed.specs.Row.{Row, pic, at, registers, operands, beside, op0, op1, op2, op3, op4, op5, br, fork, const, moves, stays, done}
-
--- a Cat's odd operand, the frame written behind it: 1
-abbrev pub b194 : Row
-b194 =
-    moves (pic ((op1 AddrOf 9 ∷ const 1 8 ∷ op2 Alloc 2 1 ∷ op3 Cmp 3 1 1 ∷ op3 Cmp 4 1 3 ∷ op3 Cmp 5 1 4
-    ∷ op3 Cmp 6 1 5 ∷ op3 Cmp 7 1 6 ∷ op3 Cmp 8 1 7 ∷ op Cat 0 (2 ∷ 1 ∷ 1 ∷ []) (0 ∷ 1 ∷ []) [] ∷ op3 Fill 9 1 1
-    ∷ fork 0 1 2 ∷ []) ∷ (op2 Output 2 1 ∷ op0 Ret ∷ []) ∷ (op0 Ret ∷ []) ∷ []) (at (upto 15) []) (registers 10 (0 ∷ 0
-    ∷ 1 ∷ replicate 7 0 ++ 77 ∷ 77 ∷ 77 ∷ 77 ∷ [])) (operands 2 (9 ∷ 1 ∷ 77 ∷ [])) (beside [] [] [])) 40 8160 800
-    (done 1 13 2) ((1 ∷ 0 ∷ 1 ∷ 8 ∷ 13 ∷ 2 ∷ []) ∷ [])
-    (pic ((op1 AddrOf 9 ∷ const 1 8 ∷ op3 Fill 9 1 1 ∷ fork 0 1 2 ∷ []) ∷ (op2 Alloc 10 1 ∷ op3 Cmp 11 1 1
-    ∷ op3 Cmp 12 1 11 ∷ op3 Cmp 11 1 12 ∷ op3 Cmp 12 1 11 ∷ op3 Cmp 11 1 12 ∷ op3 Cmp 12 1 11 ∷ op Cat 0 (10 ∷ 1 ∷ 1
-    ∷ []) (0 ∷ 1 ∷ []) [] ∷ op2 Output 10 1 ∷ op0 Ret ∷ []) ∷ (op0 Ret ∷ []) ∷ []) (at (0 ∷ 1 ∷ 10 ∷ 11
-    ∷ range 2 8 ++ 12 ∷ 13 ∷ 14 ∷ []) []) (registers 13 (0 ∷ 0 ∷ 1 ∷ replicate 7 0 ++ 1 ∷ 0 ∷ 0 ∷ 77 ∷ []))
-    (operands 2 (9 ∷ 1 ∷ 77 ∷ [])) (beside [] [] []))
-
--- a Cmp and two Cmps before a Stmt: 1
-abbrev pub b195 : Row
-b195 =
-    moves (pic ((const 1 8 ∷ op3 Cmp 2 1 1 ∷ op3 Cmp 3 1 1 ∷ op3 Cmp 4 1 3 ∷ op0 Stmt ∷ fork 0 1 2 ∷ [])
-    ∷ (op2 Output 5 5 ∷ []) ∷ (op3 Cat 1 1 1 ∷ []) ∷ []) (at (upto 8) []) (registers 11 (0 ∷ 0 ∷ 1
-    ∷ replicate 8 0 ++ 77 ∷ 77 ∷ 77 ∷ 77 ∷ [])) (operands 1 (1 ∷ 77 ∷ [])) (beside [] [] (1 ∷ []))) 42 8168 800
-    (done 1 14 1) ((1 ∷ 0 ∷ 1 ∷ 3 ∷ 14 ∷ 1 ∷ []) ∷ [])
-    (pic ((const 1 8 ∷ op0 Stmt ∷ fork 0 1 2 ∷ []) ∷ (op3 Cmp 11 1 1 ∷ op3 Cmp 12 1 1 ∷ op3 Cmp 13 1 12
-    ∷ op2 Output 5 5 ∷ []) ∷ (op3 Cat 1 1 1 ∷ []) ∷ []) (at (0 ∷ 4 ∷ 5 ∷ 1 ∷ 2 ∷ 3 ∷ 6 ∷ 7 ∷ []) []) (registers 14 (0
-    ∷ 0 ∷ 1 ∷ replicate 8 0 ++ 1 ∷ 0 ∷ 0 ∷ 77 ∷ [])) (operands 1 (1 ∷ 77 ∷ [])) (beside [] [] (1 ∷ [])))
-
--- an Alloc and two Cmps before a Stmt: 0
-abbrev pub b196 : Row
-b196 =
-    stays (pic ((const 1 8 ∷ op2 Alloc 2 1 ∷ op3 Cmp 3 1 1 ∷ op3 Cmp 4 1 3 ∷ op0 Stmt ∷ fork 0 1 2 ∷ [])
-    ∷ (op2 Output 5 5 ∷ []) ∷ (op3 Cat 1 1 1 ∷ []) ∷ []) (at (upto 8) []) (registers 11 (0 ∷ 0 ∷ 1
-    ∷ replicate 8 0 ++ 77 ∷ [])) (operands 1 (1 ∷ 77 ∷ [])) (beside [] [] (1 ∷ []))) 36 8144 800 (done 0 11 1)
-
--- a layout and two Cmps before a Stmt: 0
-abbrev pub b197 : Row
-b197 =
-    stays (pic ((const 1 8 ∷ op AddrOf 4 (9 ∷ []) [] [] ∷ op2 LayoutOf 2 9 ∷ op3 Cmp 3 1 1 ∷ op3 Cmp 4 1 3 ∷ op0 Stmt
-    ∷ fork 0 1 2 ∷ []) ∷ (op2 Output 5 5 ∷ []) ∷ (op3 Cat 1 1 1 ∷ []) ∷ []) (at (upto 9) []) (registers 11 (0 ∷ 0 ∷ 1
-    ∷ replicate 8 0 ++ 77 ∷ [])) (operands 1 (1 ∷ 77 ∷ [])) (beside [] [] (1 ∷ []))) 36 8144 800 (done 0 11 1)
-
--- an image and two Cmps before a Stmt: 0
-abbrev pub b198 : Row
-b198 =
-    stays (pic ((const 1 8 ∷ op CallNative 1 (2 ∷ []) (0 ∷ 1 ∷ []) [] ∷ op3 Cmp 3 1 1 ∷ op3 Cmp 4 1 3 ∷ op0 Stmt
-    ∷ fork 0 1 2 ∷ []) ∷ (op2 Output 5 5 ∷ []) ∷ (op3 Cat 1 1 1 ∷ []) ∷ []) (at (upto 8) []) (registers 11 (0 ∷ 0 ∷ 1
-    ∷ replicate 8 0 ++ 77 ∷ [])) (operands 1 (1 ∷ 77 ∷ [])) (beside [] [] (1 ∷ []))) 36 8144 800 (done 0 11 1)
-
--- a read of the pool and two Cmps before a Stmt: 1
-abbrev pub b199 : Row
-b199 =
-    moves (pic ((const 1 8 ∷ op AddrOf 4 (9 ∷ []) [] [] ∷ op Load 3 (2 ∷ 9 ∷ []) [] [] ∷ op3 Cmp 3 1 1 ∷ op3 Cmp 4 1 3
-    ∷ op0 Stmt ∷ fork 0 1 2 ∷ []) ∷ (op2 Output 5 5 ∷ []) ∷ (op3 Cat 1 1 1 ∷ []) ∷ []) (at (upto 9) []) (registers 11
-    (0 ∷ 0 ∷ 1 ∷ replicate 8 0 ++ 77 ∷ 77 ∷ 77 ∷ 77 ∷ [])) (operands 1 (1 ∷ 77 ∷ [])) (beside [] [] (1
-    ∷ []))) 42 8168 800 (done 1 14 1) ((1 ∷ 0 ∷ 1 ∷ 3 ∷ 14 ∷ 1 ∷ []) ∷ [])
-    (pic ((const 1 8 ∷ op AddrOf 4 (9 ∷ []) [] [] ∷ op0 Stmt ∷ fork 0 1 2 ∷ []) ∷ (op Load 3 (11 ∷ 9 ∷ []) [] []
-    ∷ op3 Cmp 12 1 1 ∷ op3 Cmp 13 1 12 ∷ op2 Output 5 5 ∷ []) ∷ (op3 Cat 1 1 1 ∷ []) ∷ []) (at (0 ∷ 1 ∷ 5 ∷ 6 ∷ 2 ∷ 3
-    ∷ 4 ∷ 7 ∷ 8 ∷ []) []) (registers 14 (0 ∷ 0 ∷ 1 ∷ replicate 8 0 ++ 1 ∷ 0 ∷ 0 ∷ 77 ∷ [])) (operands 1 (1 ∷ 77 ∷ []))
-    (beside [] [] (1 ∷ [])))
-
--- a read of the frame and two Cmps before a Stmt: 0
-abbrev pub b200 : Row
-b200 =
-    stays (pic ((const 1 8 ∷ op1 AddrOf 9 ∷ op Load 3 (2 ∷ 9 ∷ []) [] [] ∷ op3 Cmp 3 1 1 ∷ op3 Cmp 4 1 3 ∷ op0 Stmt
-    ∷ fork 0 1 2 ∷ []) ∷ (op2 Output 5 5 ∷ []) ∷ (op3 Cat 1 1 1 ∷ []) ∷ []) (at (upto 9) []) (registers 11 (0 ∷ 0 ∷ 1
-    ∷ replicate 8 0 ++ 77 ∷ [])) (operands 1 (1 ∷ 77 ∷ [])) (beside [] [] (1 ∷ []))) 36 8144 800 (done 0 11 1)
-
--- a read of a kept block and two Cmps before a Stmt: 0
-abbrev pub b201 : Row
-b201 =
-    stays (pic ((const 1 8 ∷ op CallNative 2 (9 ∷ []) (0 ∷ 1 ∷ []) [] ∷ op Load 3 (2 ∷ 9 ∷ []) [] [] ∷ op3 Cmp 3 1 1
-    ∷ op3 Cmp 4 1 3 ∷ op0 Stmt ∷ fork 0 1 2 ∷ []) ∷ (op2 Output 5 5 ∷ []) ∷ (op3 Cat 1 1 1 ∷ []) ∷ []) (at
-    (upto 9) []) (registers 11 (0 ∷ 0 ∷ 1 ∷ replicate 8 0 ++ 77 ∷ [])) (operands 1 (1 ∷ 77 ∷ [])) (beside [] [] (1
-    ∷ []))) 36 8144 800 (done 0 11 1)
-
--- a read of a kept image and two Cmps before a Stmt: 0
-abbrev pub b202 : Row
-b202 =
-    stays (pic ((const 1 8 ∷ op CallNative 1 (9 ∷ []) (0 ∷ 1 ∷ []) [] ∷ op Load 3 (2 ∷ 9 ∷ []) [] [] ∷ op3 Cmp 3 1 1
-    ∷ op3 Cmp 4 1 3 ∷ op0 Stmt ∷ fork 0 1 2 ∷ []) ∷ (op2 Output 5 5 ∷ []) ∷ (op3 Cat 1 1 1 ∷ []) ∷ []) (at
-    (upto 9) []) (registers 11 (0 ∷ 0 ∷ 1 ∷ replicate 8 0 ++ 77 ∷ [])) (operands 1 (1 ∷ 77 ∷ [])) (beside [] [] (1
-    ∷ []))) 36 8144 800 (done 0 11 1)
-
--- an Alloc and two Cmps before a Cover: 1
-abbrev pub b203 : Row
-b203 =
-    moves (pic ((const 1 8 ∷ op2 Alloc 2 1 ∷ op3 Cmp 3 1 1 ∷ op3 Cmp 4 1 3 ∷ op0 Cover ∷ fork 0 1 2 ∷ [])
-    ∷ (op2 Output 5 5 ∷ []) ∷ (op3 Cat 1 1 1 ∷ []) ∷ []) (at (upto 8) []) (registers 11 (0 ∷ 0 ∷ 1
-    ∷ replicate 8 0 ++ 77 ∷ 77 ∷ 77 ∷ 77 ∷ [])) (operands 1 (1 ∷ 77 ∷ [])) (beside [] [] (1 ∷ []))) 42 8168 800
-    (done 1 14 1) ((1 ∷ 0 ∷ 1 ∷ 3 ∷ 14 ∷ 1 ∷ []) ∷ [])
-    (pic ((const 1 8 ∷ op0 Cover ∷ fork 0 1 2 ∷ []) ∷ (op2 Alloc 11 1 ∷ op3 Cmp 12 1 1 ∷ op3 Cmp 13 1 12
-    ∷ op2 Output 5 5 ∷ []) ∷ (op3 Cat 1 1 1 ∷ []) ∷ []) (at (0 ∷ 4 ∷ 5 ∷ 1 ∷ 2 ∷ 3 ∷ 6 ∷ 7 ∷ []) []) (registers 14 (0
-    ∷ 0 ∷ 1 ∷ replicate 8 0 ++ 1 ∷ 0 ∷ 0 ∷ 77 ∷ [])) (operands 1 (1 ∷ 77 ∷ [])) (beside [] [] (1 ∷ [])))
-
--- an Alloc and two Cmps before a TempRoot: 0
-abbrev pub b204 : Row
-b204 =
-    stays (pic ((const 1 8 ∷ op2 Alloc 2 1 ∷ op3 Cmp 3 1 1 ∷ op3 Cmp 4 1 3 ∷ op1 TempRoot 1 ∷ fork 0 1 2 ∷ [])
-    ∷ (op2 Output 5 5 ∷ []) ∷ (op3 Cat 1 1 1 ∷ []) ∷ []) (at (upto 8) []) (registers 11 (0 ∷ 0 ∷ 1
-    ∷ replicate 8 0 ++ 77 ∷ [])) (operands 1 (1 ∷ 77 ∷ [])) (beside [] [] (1 ∷ []))) 36 8144 800 (done 0 11 1)
 
 -- an Alloc and two Cmps before a Call: 0
 abbrev pub b205 : Row
@@ -368,8 +268,108 @@ b232 =
     ∷ (op2 Output 8 1 ∷ fork 0 1 2 ∷ []) ∷ []) (at (upto 15) []) (registers 9 (0 ∷ 0 ∷ 1 ∷ replicate 6 0 ++ 77 ∷ []))
     (operands 0 (77 ∷ [])) (beside [] [] [])) 36 8144 800 (done 0 9 0)
 
+-- a result written in the other branch before it is read: 1
+abbrev pub b234 : Row
+b234 =
+    moves (pic ((const 1 8 ∷ op2 Alloc 2 1 ∷ op3 Cmp 3 1 1 ∷ op3 Cmp 4 1 3 ∷ op3 Cmp 5 1 4 ∷ op3 Cmp 6 1 5
+    ∷ op3 Cmp 7 1 6 ∷ op3 Cmp 8 1 7 ∷ op3 Cat 2 1 1 ∷ fork 0 1 2 ∷ []) ∷ (op2 Output 2 1 ∷ op0 Ret ∷ []) ∷ (const 8 3
+    ∷ br 3 ∷ []) ∷ (op1 Ret 8 ∷ []) ∷ [] ∷ [] ∷ [] ∷ []) (at (upto 15) []) (registers 9 (0 ∷ 0 ∷ 1
+    ∷ replicate 6 0 ++ 77 ∷ 77 ∷ 77 ∷ 77 ∷ [])) (operands 0 (77 ∷ [])) (beside [] [] [])) 54 8216 800 (done 1 12 0)
+    ((1 ∷ 0 ∷ 1 ∷ 8 ∷ 12 ∷ 0 ∷ []) ∷ [])
+    (pic ((const 1 8 ∷ fork 0 1 2 ∷ []) ∷ (op2 Alloc 9 1 ∷ op3 Cmp 10 1 1 ∷ op3 Cmp 11 1 10 ∷ op3 Cmp 10 1 11
+    ∷ op3 Cmp 11 1 10 ∷ op3 Cmp 10 1 11 ∷ op3 Cmp 11 1 10 ∷ op3 Cat 9 1 1 ∷ op2 Output 9 1 ∷ op0 Ret ∷ [])
+    ∷ (const 8 3 ∷ br 3 ∷ []) ∷ (op1 Ret 8 ∷ []) ∷ [] ∷ [] ∷ [] ∷ []) (at (0 ∷ 9 ∷ range 1 8 ++ range 10 5) [])
+    (registers 12 (0 ∷ 0 ∷ 1 ∷ replicate 6 0 ++ 1 ∷ 0 ∷ 0 ∷ 77 ∷ [])) (operands 0 (77 ∷ [])) (beside [] [] []))
+
+-- a result written behind the target before it is read: 1
+abbrev pub b235 : Row
+b235 =
+    moves (pic ((const 1 8 ∷ op2 Alloc 2 1 ∷ op3 Cmp 3 1 1 ∷ op3 Cmp 4 1 3 ∷ op3 Cmp 5 1 4 ∷ op3 Cmp 6 1 5
+    ∷ op3 Cmp 7 1 6 ∷ op3 Cmp 8 1 7 ∷ op3 Cat 2 1 1 ∷ fork 0 1 2 ∷ []) ∷ (op2 Output 2 1 ∷ br 3 ∷ []) ∷ (op0 Ret ∷ [])
+    ∷ (const 8 3 ∷ op1 Ret 8 ∷ []) ∷ []) (at (upto 15) []) (registers 9 (0 ∷ 0 ∷ 1 ∷ replicate 6 0 ++ 77 ∷ 77 ∷ 77
+    ∷ 77 ∷ [])) (operands 0 (77 ∷ [])) (beside [] [] [])) 42 8168 800 (done 1 12 0) ((1 ∷ 0 ∷ 1 ∷ 8 ∷ 12 ∷ 0 ∷ [])
+    ∷ [])
+    (pic ((const 1 8 ∷ fork 0 1 2 ∷ []) ∷ (op2 Alloc 9 1 ∷ op3 Cmp 10 1 1 ∷ op3 Cmp 11 1 10 ∷ op3 Cmp 10 1 11
+    ∷ op3 Cmp 11 1 10 ∷ op3 Cmp 10 1 11 ∷ op3 Cmp 11 1 10 ∷ op3 Cat 9 1 1 ∷ op2 Output 9 1 ∷ br 3 ∷ []) ∷ (op0 Ret
+    ∷ []) ∷ (const 8 3 ∷ op1 Ret 8 ∷ []) ∷ []) (at (0 ∷ 9 ∷ range 1 8 ++ range 10 5) []) (registers 12 (0 ∷ 0 ∷ 1
+    ∷ replicate 6 0 ++ 1 ∷ 0 ∷ 0 ∷ 77 ∷ [])) (operands 0 (77 ∷ [])) (beside [] [] []))
+
+-- a result live round a loop behind the target: 0
+abbrev pub b236 : Row
+b236 =
+    stays (pic ((const 1 8 ∷ op2 Alloc 2 1 ∷ op3 Cmp 3 1 1 ∷ op3 Cmp 4 1 3 ∷ op3 Cmp 5 1 4 ∷ op3 Cmp 6 1 5
+    ∷ op3 Cmp 7 1 6 ∷ op3 Cmp 8 1 7 ∷ op3 Cat 2 1 1 ∷ fork 0 1 2 ∷ []) ∷ (op2 Output 2 1 ∷ br 3 ∷ []) ∷ (op0 Ret ∷ [])
+    ∷ (op0 Cover ∷ fork 0 4 5 ∷ []) ∷ (br 3 ∷ []) ∷ (op2 Output 8 8 ∷ []) ∷ []) (at (upto 17) []) (registers 9 (0 ∷ 0
+    ∷ 1 ∷ replicate 6 0 ++ 77 ∷ [])) (operands 0 (77 ∷ [])) (beside [] [] [])) 44 8176 800 (done 0 9 0)
+
+-- a result written in that loop's way out: 1
+abbrev pub b237 : Row
+b237 =
+    moves (pic ((const 1 8 ∷ op2 Alloc 2 1 ∷ op3 Cmp 3 1 1 ∷ op3 Cmp 4 1 3 ∷ op3 Cmp 5 1 4 ∷ op3 Cmp 6 1 5
+    ∷ op3 Cmp 7 1 6 ∷ op3 Cmp 8 1 7 ∷ op3 Cat 2 1 1 ∷ fork 0 1 2 ∷ []) ∷ (op2 Output 2 1 ∷ br 3 ∷ []) ∷ (op0 Ret ∷ [])
+    ∷ (op0 Cover ∷ fork 0 4 5 ∷ []) ∷ (br 3 ∷ []) ∷ (const 8 1 ∷ op2 Output 8 8 ∷ []) ∷ []) (at (upto 18) [])
+    (registers 9 (0 ∷ 0 ∷ 1 ∷ replicate 6 0 ++ 77 ∷ 77 ∷ 77 ∷ 77 ∷ [])) (operands 0 (77 ∷ []))
+    (beside [] [] [])) 50 8200 800 (done 1 12 0) ((1 ∷ 0 ∷ 1 ∷ 8 ∷ 12 ∷ 0 ∷ []) ∷ [])
+    (pic ((const 1 8 ∷ fork 0 1 2 ∷ []) ∷ (op2 Alloc 9 1 ∷ op3 Cmp 10 1 1 ∷ op3 Cmp 11 1 10 ∷ op3 Cmp 10 1 11
+    ∷ op3 Cmp 11 1 10 ∷ op3 Cmp 10 1 11 ∷ op3 Cmp 11 1 10 ∷ op3 Cat 9 1 1 ∷ op2 Output 9 1 ∷ br 3 ∷ []) ∷ (op0 Ret
+    ∷ []) ∷ (op0 Cover ∷ fork 0 4 5 ∷ []) ∷ (br 3 ∷ []) ∷ (const 8 1 ∷ op2 Output 8 8 ∷ []) ∷ []) (at (0 ∷ 9
+    ∷ range 1 8 ++ range 10 8) []) (registers 12 (0 ∷ 0 ∷ 1 ∷ replicate 6 0 ++ 1 ∷ 0 ∷ 0 ∷ 77 ∷ [])) (operands 0 (77
+    ∷ [])) (beside [] [] []))
+
+-- the same, written in the target: 1
+abbrev pub b238 : Row
+b238 =
+    moves (pic ((const 1 8 ∷ op2 Alloc 2 1 ∷ op3 Cmp 3 1 1 ∷ op3 Cmp 4 1 3 ∷ op3 Cmp 5 1 4 ∷ op3 Cmp 6 1 5
+    ∷ op3 Cmp 7 1 6 ∷ op3 Cmp 8 1 7 ∷ op3 Cat 2 1 1 ∷ fork 0 1 2 ∷ []) ∷ (const 8 3 ∷ op2 Output 2 1 ∷ br 3 ∷ [])
+    ∷ (op0 Ret ∷ []) ∷ (op1 Ret 8 ∷ []) ∷ []) (at (upto 15) []) (registers 9 (0 ∷ 0 ∷ 1 ∷ replicate 6 0 ++ 77 ∷ 77
+    ∷ 77 ∷ 77 ∷ [])) (operands 0 (77 ∷ [])) (beside [] [] [])) 42 8168 800 (done 1 12 0) ((1 ∷ 0 ∷ 1 ∷ 8 ∷ 12 ∷ 0
+    ∷ []) ∷ [])
+    (pic ((const 1 8 ∷ fork 0 1 2 ∷ []) ∷ (op2 Alloc 9 1 ∷ op3 Cmp 10 1 1 ∷ op3 Cmp 11 1 10 ∷ op3 Cmp 10 1 11
+    ∷ op3 Cmp 11 1 10 ∷ op3 Cmp 10 1 11 ∷ op3 Cmp 11 1 10 ∷ op3 Cat 9 1 1 ∷ const 8 3 ∷ op2 Output 9 1 ∷ br 3 ∷ [])
+    ∷ (op0 Ret ∷ []) ∷ (op1 Ret 8 ∷ []) ∷ []) (at (0 ∷ 9 ∷ range 1 8 ++ range 10 5) []) (registers 12 (0 ∷ 0 ∷ 1
+    ∷ replicate 6 0 ++ 1 ∷ 0 ∷ 0 ∷ 77 ∷ [])) (operands 0 (77 ∷ [])) (beside [] [] []))
+
+-- the same, read and then written in the target: 1
+abbrev pub b239 : Row
+b239 =
+    moves (pic ((const 1 8 ∷ op2 Alloc 2 1 ∷ op3 Cmp 3 1 1 ∷ op3 Cmp 4 1 3 ∷ op3 Cmp 5 1 4 ∷ op3 Cmp 6 1 5
+    ∷ op3 Cmp 7 1 6 ∷ op3 Cmp 8 1 7 ∷ op3 Cat 2 1 1 ∷ fork 0 1 2 ∷ []) ∷ (op2 Output 8 8 ∷ const 8 3 ∷ op2 Output 2 1
+    ∷ br 3 ∷ []) ∷ (op0 Ret ∷ []) ∷ (op1 Ret 8 ∷ []) ∷ []) (at (upto 16) []) (registers 9 (0 ∷ 0 ∷ 1
+    ∷ replicate 6 0 ++ 77 ∷ 77 ∷ 77 ∷ 77 ∷ [])) (operands 0 (77 ∷ [])) (beside [] [] [])) 42 8168 800 (done 1 12 0)
+    ((1 ∷ 0 ∷ 1 ∷ 8 ∷ 12 ∷ 0 ∷ []) ∷ [])
+    (pic ((const 1 8 ∷ fork 0 1 2 ∷ []) ∷ (op2 Alloc 9 1 ∷ op3 Cmp 10 1 1 ∷ op3 Cmp 11 1 10 ∷ op3 Cmp 10 1 11
+    ∷ op3 Cmp 11 1 10 ∷ op3 Cmp 10 1 11 ∷ op3 Cmp 11 1 10 ∷ op3 Cat 9 1 1 ∷ op2 Output 11 11 ∷ const 8 3
+    ∷ op2 Output 9 1 ∷ br 3 ∷ []) ∷ (op0 Ret ∷ []) ∷ (op1 Ret 8 ∷ []) ∷ []) (at (0 ∷ 9 ∷ range 1 8 ++ range 10 6) [])
+    (registers 12 (0 ∷ 0 ∷ 1 ∷ replicate 6 0 ++ 1 ∷ 0 ∷ 0 ∷ 77 ∷ [])) (operands 0 (77 ∷ [])) (beside [] [] []))
+
+-- a result that is written again, the last one live: 1
+abbrev pub b240 : Row
+b240 =
+    moves (pic ((const 1 8 ∷ op2 Alloc 2 1 ∷ op3 Cmp 3 1 1 ∷ op3 Cmp 4 1 3 ∷ op3 Cmp 5 1 4 ∷ op3 Cmp 6 1 5
+    ∷ op3 Cmp 7 1 6 ∷ op3 Cmp 8 1 7 ∷ op3 Cmp 8 1 1 ∷ op3 Cat 2 1 1 ∷ fork 0 1 2 ∷ []) ∷ (op2 Output 2 1 ∷ br 3 ∷ [])
+    ∷ (op0 Ret ∷ []) ∷ (op1 Ret 8 ∷ []) ∷ []) (at (upto 15) []) (registers 9 (0 ∷ 0 ∷ 1 ∷ replicate 6 0 ++ 77 ∷ 77
+    ∷ 77 ∷ 77 ∷ [])) (operands 0 (77 ∷ [])) (beside [] [] [])) 42 8168 800 (done 1 12 0) ((1 ∷ 0 ∷ 1 ∷ 8 ∷ 12 ∷ 0
+    ∷ []) ∷ [])
+    (pic ((const 1 8 ∷ op3 Cmp 8 1 1 ∷ fork 0 1 2 ∷ []) ∷ (op2 Alloc 9 1 ∷ op3 Cmp 10 1 1 ∷ op3 Cmp 11 1 10
+    ∷ op3 Cmp 10 1 11 ∷ op3 Cmp 11 1 10 ∷ op3 Cmp 10 1 11 ∷ op3 Cmp 11 1 10 ∷ op3 Cat 9 1 1 ∷ op2 Output 9 1 ∷ br 3
+    ∷ []) ∷ (op0 Ret ∷ []) ∷ (op1 Ret 8 ∷ []) ∷ []) (at (0 ∷ 8 ∷ 10 ∷ range 1 7 ++ 9 ∷ 11 ∷ 12 ∷ 13 ∷ 14 ∷ []) [])
+    (registers 12 (0 ∷ 0 ∷ 1 ∷ replicate 6 0 ++ 1 ∷ 0 ∷ 0 ∷ 77 ∷ [])) (operands 0 (77 ∷ [])) (beside [] [] []))
+
+-- a result that a kept one writes again, that live: 1
+abbrev pub b241 : Row
+b241 =
+    moves (pic ((const 1 8 ∷ op2 Alloc 2 1 ∷ op3 Cmp 3 1 1 ∷ op3 Cmp 4 1 3 ∷ op3 Cmp 5 1 4 ∷ op3 Cmp 6 1 5
+    ∷ op3 Cmp 7 1 6 ∷ op3 Cmp 8 1 7 ∷ const 8 3 ∷ op3 Cat 2 1 1 ∷ fork 0 1 2 ∷ []) ∷ (op2 Output 2 1 ∷ br 3 ∷ [])
+    ∷ (op0 Ret ∷ []) ∷ (op1 Ret 8 ∷ []) ∷ []) (at (upto 15) []) (registers 9 (0 ∷ 0 ∷ 1 ∷ replicate 6 0 ++ 77 ∷ 77
+    ∷ 77 ∷ 77 ∷ [])) (operands 0 (77 ∷ [])) (beside [] [] [])) 42 8168 800 (done 1 12 0) ((1 ∷ 0 ∷ 1 ∷ 8 ∷ 12 ∷ 0
+    ∷ []) ∷ [])
+    (pic ((const 1 8 ∷ const 8 3 ∷ fork 0 1 2 ∷ []) ∷ (op2 Alloc 9 1 ∷ op3 Cmp 10 1 1 ∷ op3 Cmp 11 1 10
+    ∷ op3 Cmp 10 1 11 ∷ op3 Cmp 11 1 10 ∷ op3 Cmp 10 1 11 ∷ op3 Cmp 11 1 10 ∷ op3 Cat 9 1 1 ∷ op2 Output 9 1 ∷ br 3
+    ∷ []) ∷ (op0 Ret ∷ []) ∷ (op1 Ret 8 ∷ []) ∷ []) (at (0 ∷ 8 ∷ 10 ∷ range 1 7 ++ 9 ∷ 11 ∷ 12 ∷ 13 ∷ 14 ∷ []) [])
+    (registers 12 (0 ∷ 0 ∷ 1 ∷ replicate 6 0 ++ 1 ∷ 0 ∷ 0 ∷ 77 ∷ [])) (operands 0 (77 ∷ [])) (beside [] [] []))
+
 abbrev pub rows11 : List Row
 rows11 =
-    b194 ∷ b195 ∷ b196 ∷ b197 ∷ b198 ∷ b199 ∷ b200 ∷ b201 ∷ b202 ∷ b203 ∷ b204 ∷ b205 ∷ b206 ∷ b207 ∷ b208 ∷ b209
-    ∷ b210 ∷ b211 ∷ b212 ∷ b213 ∷ b214 ∷ b215 ∷ b216 ∷ b217 ∷ b218 ∷ b219 ∷ b220 ∷ b221 ∷ b222 ∷ b223 ∷ b224 ∷ b225
-    ∷ b226 ∷ b227 ∷ b228 ∷ b229 ∷ b230 ∷ b231 ∷ b232 ∷ []
+    b205 ∷ b206 ∷ b207 ∷ b208 ∷ b209 ∷ b210 ∷ b211 ∷ b212 ∷ b213 ∷ b214 ∷ b215 ∷ b216 ∷ b217 ∷ b218 ∷ b219 ∷ b220
+    ∷ b221 ∷ b222 ∷ b223 ∷ b224 ∷ b225 ∷ b226 ∷ b227 ∷ b228 ∷ b229 ∷ b230 ∷ b231 ∷ b232 ∷ b234 ∷ b235 ∷ b236 ∷ b237
+    ∷ b238 ∷ b239 ∷ b240 ∷ b241 ∷ []

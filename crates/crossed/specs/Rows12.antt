@@ -3,111 +3,11 @@
 use mathlib.Core.List.{List, [], _∷_, _++_}
 use lib.ListN.{replicate}
 use Rattle.words.specs.Lists.{range, upto}
-use Rattle.model.specs.Kinds.{Alloc, Call, CallProt, Case, Cat, Check, Cmp, Cover, Drive, LNum}
-use Rattle.model.specs.Kinds.{Output, Ret, SigGather, Stmt, Suspend}
+use Rattle.model.specs.Kinds.{Alloc, Call, CallForeign, CallIndirect, CallNative, CallProt, Case, Cat, Check, Cmp}
+use Rattle.model.specs.Kinds.{Drive, LNum, Output, Ret, SigGather, Stmt, Suspend}
 use Rattle.model.specs.Picture.{absent}
 use Rattle.model.specs.Build.{op}
-use Rattle.crossed.specs.Row.{Row, pic, at, registers, operands, beside, op0, op1, op2, op3, op4, br, fork, const, moves, stays, done}
-
--- a result written in the other branch before it is read: 1
-abbrev pub b234 : Row
-b234 =
-    moves (pic ((const 1 8 ∷ op2 Alloc 2 1 ∷ op3 Cmp 3 1 1 ∷ op3 Cmp 4 1 3 ∷ op3 Cmp 5 1 4 ∷ op3 Cmp 6 1 5
-    ∷ op3 Cmp 7 1 6 ∷ op3 Cmp 8 1 7 ∷ op3 Cat 2 1 1 ∷ fork 0 1 2 ∷ []) ∷ (op2 Output 2 1 ∷ op0 Ret ∷ []) ∷ (const 8 3
-    ∷ br 3 ∷ []) ∷ (op1 Ret 8 ∷ []) ∷ [] ∷ [] ∷ [] ∷ []) (at (upto 15) []) (registers 9 (0 ∷ 0 ∷ 1
-    ∷ replicate 6 0 ++ 77 ∷ 77 ∷ 77 ∷ 77 ∷ [])) (operands 0 (77 ∷ [])) (beside [] [] [])) 54 8216 800 (done 1 12 0)
-    ((1 ∷ 0 ∷ 1 ∷ 8 ∷ 12 ∷ 0 ∷ []) ∷ [])
-    (pic ((const 1 8 ∷ fork 0 1 2 ∷ []) ∷ (op2 Alloc 9 1 ∷ op3 Cmp 10 1 1 ∷ op3 Cmp 11 1 10 ∷ op3 Cmp 10 1 11
-    ∷ op3 Cmp 11 1 10 ∷ op3 Cmp 10 1 11 ∷ op3 Cmp 11 1 10 ∷ op3 Cat 9 1 1 ∷ op2 Output 9 1 ∷ op0 Ret ∷ [])
-    ∷ (const 8 3 ∷ br 3 ∷ []) ∷ (op1 Ret 8 ∷ []) ∷ [] ∷ [] ∷ [] ∷ []) (at (0 ∷ 9 ∷ range 1 8 ++ range 10 5) [])
-    (registers 12 (0 ∷ 0 ∷ 1 ∷ replicate 6 0 ++ 1 ∷ 0 ∷ 0 ∷ 77 ∷ [])) (operands 0 (77 ∷ [])) (beside [] [] []))
-
--- a result written behind the target before it is read: 1
-abbrev pub b235 : Row
-b235 =
-    moves (pic ((const 1 8 ∷ op2 Alloc 2 1 ∷ op3 Cmp 3 1 1 ∷ op3 Cmp 4 1 3 ∷ op3 Cmp 5 1 4 ∷ op3 Cmp 6 1 5
-    ∷ op3 Cmp 7 1 6 ∷ op3 Cmp 8 1 7 ∷ op3 Cat 2 1 1 ∷ fork 0 1 2 ∷ []) ∷ (op2 Output 2 1 ∷ br 3 ∷ []) ∷ (op0 Ret ∷ [])
-    ∷ (const 8 3 ∷ op1 Ret 8 ∷ []) ∷ []) (at (upto 15) []) (registers 9 (0 ∷ 0 ∷ 1 ∷ replicate 6 0 ++ 77 ∷ 77 ∷ 77
-    ∷ 77 ∷ [])) (operands 0 (77 ∷ [])) (beside [] [] [])) 42 8168 800 (done 1 12 0) ((1 ∷ 0 ∷ 1 ∷ 8 ∷ 12 ∷ 0 ∷ [])
-    ∷ [])
-    (pic ((const 1 8 ∷ fork 0 1 2 ∷ []) ∷ (op2 Alloc 9 1 ∷ op3 Cmp 10 1 1 ∷ op3 Cmp 11 1 10 ∷ op3 Cmp 10 1 11
-    ∷ op3 Cmp 11 1 10 ∷ op3 Cmp 10 1 11 ∷ op3 Cmp 11 1 10 ∷ op3 Cat 9 1 1 ∷ op2 Output 9 1 ∷ br 3 ∷ []) ∷ (op0 Ret
-    ∷ []) ∷ (const 8 3 ∷ op1 Ret 8 ∷ []) ∷ []) (at (0 ∷ 9 ∷ range 1 8 ++ range 10 5) []) (registers 12 (0 ∷ 0 ∷ 1
-    ∷ replicate 6 0 ++ 1 ∷ 0 ∷ 0 ∷ 77 ∷ [])) (operands 0 (77 ∷ [])) (beside [] [] []))
-
--- a result live round a loop behind the target: 0
-abbrev pub b236 : Row
-b236 =
-    stays (pic ((const 1 8 ∷ op2 Alloc 2 1 ∷ op3 Cmp 3 1 1 ∷ op3 Cmp 4 1 3 ∷ op3 Cmp 5 1 4 ∷ op3 Cmp 6 1 5
-    ∷ op3 Cmp 7 1 6 ∷ op3 Cmp 8 1 7 ∷ op3 Cat 2 1 1 ∷ fork 0 1 2 ∷ []) ∷ (op2 Output 2 1 ∷ br 3 ∷ []) ∷ (op0 Ret ∷ [])
-    ∷ (op0 Cover ∷ fork 0 4 5 ∷ []) ∷ (br 3 ∷ []) ∷ (op2 Output 8 8 ∷ []) ∷ []) (at (upto 17) []) (registers 9 (0 ∷ 0
-    ∷ 1 ∷ replicate 6 0 ++ 77 ∷ [])) (operands 0 (77 ∷ [])) (beside [] [] [])) 44 8176 800 (done 0 9 0)
-
--- a result written in that loop's way out: 1
-abbrev pub b237 : Row
-b237 =
-    moves (pic ((const 1 8 ∷ op2 Alloc 2 1 ∷ op3 Cmp 3 1 1 ∷ op3 Cmp 4 1 3 ∷ op3 Cmp 5 1 4 ∷ op3 Cmp 6 1 5
-    ∷ op3 Cmp 7 1 6 ∷ op3 Cmp 8 1 7 ∷ op3 Cat 2 1 1 ∷ fork 0 1 2 ∷ []) ∷ (op2 Output 2 1 ∷ br 3 ∷ []) ∷ (op0 Ret ∷ [])
-    ∷ (op0 Cover ∷ fork 0 4 5 ∷ []) ∷ (br 3 ∷ []) ∷ (const 8 1 ∷ op2 Output 8 8 ∷ []) ∷ []) (at (upto 18) [])
-    (registers 9 (0 ∷ 0 ∷ 1 ∷ replicate 6 0 ++ 77 ∷ 77 ∷ 77 ∷ 77 ∷ [])) (operands 0 (77 ∷ []))
-    (beside [] [] [])) 50 8200 800 (done 1 12 0) ((1 ∷ 0 ∷ 1 ∷ 8 ∷ 12 ∷ 0 ∷ []) ∷ [])
-    (pic ((const 1 8 ∷ fork 0 1 2 ∷ []) ∷ (op2 Alloc 9 1 ∷ op3 Cmp 10 1 1 ∷ op3 Cmp 11 1 10 ∷ op3 Cmp 10 1 11
-    ∷ op3 Cmp 11 1 10 ∷ op3 Cmp 10 1 11 ∷ op3 Cmp 11 1 10 ∷ op3 Cat 9 1 1 ∷ op2 Output 9 1 ∷ br 3 ∷ []) ∷ (op0 Ret
-    ∷ []) ∷ (op0 Cover ∷ fork 0 4 5 ∷ []) ∷ (br 3 ∷ []) ∷ (const 8 1 ∷ op2 Output 8 8 ∷ []) ∷ []) (at (0 ∷ 9
-    ∷ range 1 8 ++ range 10 8) []) (registers 12 (0 ∷ 0 ∷ 1 ∷ replicate 6 0 ++ 1 ∷ 0 ∷ 0 ∷ 77 ∷ [])) (operands 0 (77
-    ∷ [])) (beside [] [] []))
-
--- the same, written in the target: 1
-abbrev pub b238 : Row
-b238 =
-    moves (pic ((const 1 8 ∷ op2 Alloc 2 1 ∷ op3 Cmp 3 1 1 ∷ op3 Cmp 4 1 3 ∷ op3 Cmp 5 1 4 ∷ op3 Cmp 6 1 5
-    ∷ op3 Cmp 7 1 6 ∷ op3 Cmp 8 1 7 ∷ op3 Cat 2 1 1 ∷ fork 0 1 2 ∷ []) ∷ (const 8 3 ∷ op2 Output 2 1 ∷ br 3 ∷ [])
-    ∷ (op0 Ret ∷ []) ∷ (op1 Ret 8 ∷ []) ∷ []) (at (upto 15) []) (registers 9 (0 ∷ 0 ∷ 1 ∷ replicate 6 0 ++ 77 ∷ 77
-    ∷ 77 ∷ 77 ∷ [])) (operands 0 (77 ∷ [])) (beside [] [] [])) 42 8168 800 (done 1 12 0) ((1 ∷ 0 ∷ 1 ∷ 8 ∷ 12 ∷ 0
-    ∷ []) ∷ [])
-    (pic ((const 1 8 ∷ fork 0 1 2 ∷ []) ∷ (op2 Alloc 9 1 ∷ op3 Cmp 10 1 1 ∷ op3 Cmp 11 1 10 ∷ op3 Cmp 10 1 11
-    ∷ op3 Cmp 11 1 10 ∷ op3 Cmp 10 1 11 ∷ op3 Cmp 11 1 10 ∷ op3 Cat 9 1 1 ∷ const 8 3 ∷ op2 Output 9 1 ∷ br 3 ∷ [])
-    ∷ (op0 Ret ∷ []) ∷ (op1 Ret 8 ∷ []) ∷ []) (at (0 ∷ 9 ∷ range 1 8 ++ range 10 5) []) (registers 12 (0 ∷ 0 ∷ 1
-    ∷ replicate 6 0 ++ 1 ∷ 0 ∷ 0 ∷ 77 ∷ [])) (operands 0 (77 ∷ [])) (beside [] [] []))
-
--- the same, read and then written in the target: 1
-abbrev pub b239 : Row
-b239 =
-    moves (pic ((const 1 8 ∷ op2 Alloc 2 1 ∷ op3 Cmp 3 1 1 ∷ op3 Cmp 4 1 3 ∷ op3 Cmp 5 1 4 ∷ op3 Cmp 6 1 5
-    ∷ op3 Cmp 7 1 6 ∷ op3 Cmp 8 1 7 ∷ op3 Cat 2 1 1 ∷ fork 0 1 2 ∷ []) ∷ (op2 Output 8 8 ∷ const 8 3 ∷ op2 Output 2 1
-    ∷ br 3 ∷ []) ∷ (op0 Ret ∷ []) ∷ (op1 Ret 8 ∷ []) ∷ []) (at (upto 16) []) (registers 9 (0 ∷ 0 ∷ 1
-    ∷ replicate 6 0 ++ 77 ∷ 77 ∷ 77 ∷ 77 ∷ [])) (operands 0 (77 ∷ [])) (beside [] [] [])) 42 8168 800 (done 1 12 0)
-    ((1 ∷ 0 ∷ 1 ∷ 8 ∷ 12 ∷ 0 ∷ []) ∷ [])
-    (pic ((const 1 8 ∷ fork 0 1 2 ∷ []) ∷ (op2 Alloc 9 1 ∷ op3 Cmp 10 1 1 ∷ op3 Cmp 11 1 10 ∷ op3 Cmp 10 1 11
-    ∷ op3 Cmp 11 1 10 ∷ op3 Cmp 10 1 11 ∷ op3 Cmp 11 1 10 ∷ op3 Cat 9 1 1 ∷ op2 Output 11 11 ∷ const 8 3
-    ∷ op2 Output 9 1 ∷ br 3 ∷ []) ∷ (op0 Ret ∷ []) ∷ (op1 Ret 8 ∷ []) ∷ []) (at (0 ∷ 9 ∷ range 1 8 ++ range 10 6) [])
-    (registers 12 (0 ∷ 0 ∷ 1 ∷ replicate 6 0 ++ 1 ∷ 0 ∷ 0 ∷ 77 ∷ [])) (operands 0 (77 ∷ [])) (beside [] [] []))
-
--- a result that is written again, the last one live: 1
-abbrev pub b240 : Row
-b240 =
-    moves (pic ((const 1 8 ∷ op2 Alloc 2 1 ∷ op3 Cmp 3 1 1 ∷ op3 Cmp 4 1 3 ∷ op3 Cmp 5 1 4 ∷ op3 Cmp 6 1 5
-    ∷ op3 Cmp 7 1 6 ∷ op3 Cmp 8 1 7 ∷ op3 Cmp 8 1 1 ∷ op3 Cat 2 1 1 ∷ fork 0 1 2 ∷ []) ∷ (op2 Output 2 1 ∷ br 3 ∷ [])
-    ∷ (op0 Ret ∷ []) ∷ (op1 Ret 8 ∷ []) ∷ []) (at (upto 15) []) (registers 9 (0 ∷ 0 ∷ 1 ∷ replicate 6 0 ++ 77 ∷ 77
-    ∷ 77 ∷ 77 ∷ [])) (operands 0 (77 ∷ [])) (beside [] [] [])) 42 8168 800 (done 1 12 0) ((1 ∷ 0 ∷ 1 ∷ 8 ∷ 12 ∷ 0
-    ∷ []) ∷ [])
-    (pic ((const 1 8 ∷ op3 Cmp 8 1 1 ∷ fork 0 1 2 ∷ []) ∷ (op2 Alloc 9 1 ∷ op3 Cmp 10 1 1 ∷ op3 Cmp 11 1 10
-    ∷ op3 Cmp 10 1 11 ∷ op3 Cmp 11 1 10 ∷ op3 Cmp 10 1 11 ∷ op3 Cmp 11 1 10 ∷ op3 Cat 9 1 1 ∷ op2 Output 9 1 ∷ br 3
-    ∷ []) ∷ (op0 Ret ∷ []) ∷ (op1 Ret 8 ∷ []) ∷ []) (at (0 ∷ 8 ∷ 10 ∷ range 1 7 ++ 9 ∷ 11 ∷ 12 ∷ 13 ∷ 14 ∷ []) [])
-    (registers 12 (0 ∷ 0 ∷ 1 ∷ replicate 6 0 ++ 1 ∷ 0 ∷ 0 ∷ 77 ∷ [])) (operands 0 (77 ∷ [])) (beside [] [] []))
-
--- a result that a kept one writes again, that live: 1
-abbrev pub b241 : Row
-b241 =
-    moves (pic ((const 1 8 ∷ op2 Alloc 2 1 ∷ op3 Cmp 3 1 1 ∷ op3 Cmp 4 1 3 ∷ op3 Cmp 5 1 4 ∷ op3 Cmp 6 1 5
-    ∷ op3 Cmp 7 1 6 ∷ op3 Cmp 8 1 7 ∷ const 8 3 ∷ op3 Cat 2 1 1 ∷ fork 0 1 2 ∷ []) ∷ (op2 Output 2 1 ∷ br 3 ∷ [])
-    ∷ (op0 Ret ∷ []) ∷ (op1 Ret 8 ∷ []) ∷ []) (at (upto 15) []) (registers 9 (0 ∷ 0 ∷ 1 ∷ replicate 6 0 ++ 77 ∷ 77
-    ∷ 77 ∷ 77 ∷ [])) (operands 0 (77 ∷ [])) (beside [] [] [])) 42 8168 800 (done 1 12 0) ((1 ∷ 0 ∷ 1 ∷ 8 ∷ 12 ∷ 0
-    ∷ []) ∷ [])
-    (pic ((const 1 8 ∷ const 8 3 ∷ fork 0 1 2 ∷ []) ∷ (op2 Alloc 9 1 ∷ op3 Cmp 10 1 1 ∷ op3 Cmp 11 1 10
-    ∷ op3 Cmp 10 1 11 ∷ op3 Cmp 11 1 10 ∷ op3 Cmp 10 1 11 ∷ op3 Cmp 11 1 10 ∷ op3 Cat 9 1 1 ∷ op2 Output 9 1 ∷ br 3
-    ∷ []) ∷ (op0 Ret ∷ []) ∷ (op1 Ret 8 ∷ []) ∷ []) (at (0 ∷ 8 ∷ 10 ∷ range 1 7 ++ 9 ∷ 11 ∷ 12 ∷ 13 ∷ 14 ∷ []) [])
-    (registers 12 (0 ∷ 0 ∷ 1 ∷ replicate 6 0 ++ 1 ∷ 0 ∷ 0 ∷ 77 ∷ [])) (operands 0 (77 ∷ [])) (beside [] [] []))
+use Rattle.crossed.specs.Row.{Row, pic, at, registers, operands, beside, op0, op1, op2, op3, op4, br, fork, const, bounded, moves, stays, done, refused}
 
 -- a Cat's list of a kept and a new register: 1
 abbrev pub b243 : Row
@@ -372,8 +272,106 @@ b270 =
     ∷ []) ∷ (op2 Output 5 5 ∷ []) ∷ (op3 Cat 1 1 1 ∷ []) ∷ []) (at (upto 8) []) (registers 9 (0 ∷ 0 ∷ 1
     ∷ replicate 6 0 ++ 77 ∷ [])) (operands 0 (77 ∷ [])) (beside [] [] (1 ∷ []))) 32 8128 800 (done 0 9 0)
 
+-- CallProt that may suspend behind three members, in the chain behind x: 0
+abbrev pub b271 : Row
+b271 =
+    stays (pic ((const 1 8 ∷ op3 Cmp 3 1 1 ∷ op3 Cmp 4 1 3 ∷ op3 Cmp 5 1 4 ∷ br 3 ∷ []) ∷ (op2 Output 5 5 ∷ [])
+    ∷ (op3 Cat 1 1 1 ∷ []) ∷ (op CallProt 1 (1 ∷ []) [] [] ∷ fork 0 1 2 ∷ []) ∷ []) (at (upto 9) []) (registers 9 (0
+    ∷ 0 ∷ 1 ∷ replicate 6 0 ++ 77 ∷ [])) (operands 0 (77 ∷ [])) (beside [] [] (1 ∷ []))) 36 8144 800 (done 0 9 0)
+
+-- CallIndirect behind three members: 0
+abbrev pub b272 : Row
+b272 =
+    stays (pic ((const 1 8 ∷ op3 Cmp 3 1 1 ∷ op3 Cmp 4 1 3 ∷ op3 Cmp 5 1 4 ∷ op1 CallIndirect 1 ∷ fork 0 1 2 ∷ [])
+    ∷ (op2 Output 5 5 ∷ []) ∷ (op3 Cat 1 1 1 ∷ []) ∷ []) (at (upto 8) []) (registers 9 (0 ∷ 0 ∷ 1
+    ∷ replicate 6 0 ++ 77 ∷ [])) (operands 0 (77 ∷ [])) (beside [] [] (1 ∷ []))) 32 8128 800 (done 0 9 0)
+
+-- CallIndirect behind three members, in the chain behind x: 0
+abbrev pub b273 : Row
+b273 =
+    stays (pic ((const 1 8 ∷ op3 Cmp 3 1 1 ∷ op3 Cmp 4 1 3 ∷ op3 Cmp 5 1 4 ∷ br 3 ∷ []) ∷ (op2 Output 5 5 ∷ [])
+    ∷ (op3 Cat 1 1 1 ∷ []) ∷ (op1 CallIndirect 1 ∷ fork 0 1 2 ∷ []) ∷ []) (at (upto 9) []) (registers 9 (0 ∷ 0 ∷ 1
+    ∷ replicate 6 0 ++ 77 ∷ [])) (operands 0 (77 ∷ [])) (beside [] [] (1 ∷ []))) 36 8144 800 (done 0 9 0)
+
+-- CallForeign behind three members: 1
+abbrev pub b274 : Row
+b274 =
+    moves (pic ((const 1 8 ∷ op3 Cmp 3 1 1 ∷ op3 Cmp 4 1 3 ∷ op3 Cmp 5 1 4 ∷ op0 CallForeign ∷ fork 0 1 2 ∷ [])
+    ∷ (op2 Output 5 5 ∷ []) ∷ (op3 Cat 1 1 1 ∷ []) ∷ []) (at (upto 8) []) (registers 9 (0 ∷ 0 ∷ 1
+    ∷ replicate 6 0 ++ 77 ∷ 77 ∷ 77 ∷ [])) (operands 0 (77 ∷ [])) (beside [] [] (1 ∷ []))) 36 8144 800 (done 1 11 0)
+    ((1 ∷ 0 ∷ 1 ∷ 3 ∷ 11 ∷ 0 ∷ []) ∷ [])
+    (pic ((const 1 8 ∷ op0 CallForeign ∷ fork 0 1 2 ∷ []) ∷ (op3 Cmp 9 1 1 ∷ op3 Cmp 10 1 9 ∷ op3 Cmp 9 1 10
+    ∷ op2 Output 9 9 ∷ []) ∷ (op3 Cat 1 1 1 ∷ []) ∷ []) (at (0 ∷ 4 ∷ 5 ∷ 1 ∷ 2 ∷ 3 ∷ 6 ∷ 7 ∷ []) []) (registers 11 (0
+    ∷ 0 ∷ 1 ∷ replicate 8 0 ++ 77 ∷ [])) (operands 0 (77 ∷ [])) (beside [] [] (1 ∷ [])))
+
+-- CallForeign behind three members, in the chain behind x: 1
+abbrev pub b275 : Row
+b275 =
+    moves (pic ((const 1 8 ∷ op3 Cmp 3 1 1 ∷ op3 Cmp 4 1 3 ∷ op3 Cmp 5 1 4 ∷ br 3 ∷ []) ∷ (op2 Output 5 5 ∷ [])
+    ∷ (op3 Cat 1 1 1 ∷ []) ∷ (op0 CallForeign ∷ fork 0 1 2 ∷ []) ∷ []) (at (upto 9) []) (registers 9 (0 ∷ 0 ∷ 1
+    ∷ replicate 6 0 ++ 77 ∷ 77 ∷ 77 ∷ [])) (operands 0 (77 ∷ [])) (beside [] [] (1 ∷ []))) 40 8160 800 (done 1 11 0)
+    ((1 ∷ 0 ∷ 1 ∷ 3 ∷ 11 ∷ 0 ∷ []) ∷ [])
+    (pic ((const 1 8 ∷ br 3 ∷ []) ∷ (op3 Cmp 9 1 1 ∷ op3 Cmp 10 1 9 ∷ op3 Cmp 9 1 10 ∷ op2 Output 9 9 ∷ [])
+    ∷ (op3 Cat 1 1 1 ∷ []) ∷ (op0 CallForeign ∷ fork 0 1 2 ∷ []) ∷ []) (at (0 ∷ 4 ∷ 1 ∷ 2 ∷ 3 ∷ 5 ∷ 6 ∷ 7 ∷ 8
+    ∷ []) []) (registers 11 (0 ∷ 0 ∷ 1 ∷ replicate 8 0 ++ 77 ∷ [])) (operands 0 (77 ∷ [])) (beside [] [] (1 ∷ [])))
+
+-- plain CallNative behind three members: 1
+abbrev pub b276 : Row
+b276 =
+    moves (pic ((const 1 8 ∷ op3 Cmp 3 1 1 ∷ op3 Cmp 4 1 3 ∷ op3 Cmp 5 1 4 ∷ op0 CallNative ∷ fork 0 1 2 ∷ [])
+    ∷ (op2 Output 5 5 ∷ []) ∷ (op3 Cat 1 1 1 ∷ []) ∷ []) (at (upto 8) []) (registers 9 (0 ∷ 0 ∷ 1
+    ∷ replicate 6 0 ++ 77 ∷ 77 ∷ 77 ∷ [])) (operands 0 (77 ∷ [])) (beside [] [] (1 ∷ []))) 36 8144 800 (done 1 11 0)
+    ((1 ∷ 0 ∷ 1 ∷ 3 ∷ 11 ∷ 0 ∷ []) ∷ [])
+    (pic ((const 1 8 ∷ op0 CallNative ∷ fork 0 1 2 ∷ []) ∷ (op3 Cmp 9 1 1 ∷ op3 Cmp 10 1 9 ∷ op3 Cmp 9 1 10
+    ∷ op2 Output 9 9 ∷ []) ∷ (op3 Cat 1 1 1 ∷ []) ∷ []) (at (0 ∷ 4 ∷ 5 ∷ 1 ∷ 2 ∷ 3 ∷ 6 ∷ 7 ∷ []) []) (registers 11 (0
+    ∷ 0 ∷ 1 ∷ replicate 8 0 ++ 77 ∷ [])) (operands 0 (77 ∷ [])) (beside [] [] (1 ∷ [])))
+
+-- a block that ends before it starts, without a gap: 203
+abbrev pub b294 : Row
+b294 =
+    stays (bounded (0 ∷ 5 ∷ 5 ∷ 3 ∷ 3 ∷ 13 ∷ []) (pic ((const 1 8 ∷ op2 Alloc 2 1 ∷ op3 Cmp 3 1 1 ∷ op3 Cmp 4 1 3
+    ∷ op3 Cmp 5 1 4 ∷ op3 Cmp 6 1 5 ∷ op3 Cmp 7 1 6 ∷ op3 Cmp 8 1 7 ∷ op3 Cat 2 1 1 ∷ fork 0 1 2 ∷ op2 Output 2 1
+    ∷ op0 Ret ∷ op0 Ret ∷ []) ∷ []) (at (upto 13) []) (registers 9 (0 ∷ 0 ∷ 1 ∷ replicate 6 0 ++ 77 ∷ [])) (operands 0
+    (77 ∷ [])) (beside [] [] []))) 32 8128 800 (refused 3)
+
+-- a block that starts before the last one ends: 203
+abbrev pub b295 : Row
+b295 =
+    stays (bounded (0 ∷ 10 ∷ 9 ∷ 12 ∷ 12 ∷ 13 ∷ []) (pic ((const 1 8 ∷ op2 Alloc 2 1 ∷ op3 Cmp 3 1 1 ∷ op3 Cmp 4 1 3
+    ∷ op3 Cmp 5 1 4 ∷ op3 Cmp 6 1 5 ∷ op3 Cmp 7 1 6 ∷ op3 Cmp 8 1 7 ∷ op3 Cat 2 1 1 ∷ fork 0 1 2 ∷ op2 Output 2 1
+    ∷ op0 Ret ∷ op0 Ret ∷ []) ∷ []) (at (upto 13) []) (registers 9 (0 ∷ 0 ∷ 1 ∷ replicate 6 0 ++ 77 ∷ [])) (operands 0
+    (77 ∷ [])) (beside [] [] []))) 32 8128 800 (refused 3)
+
+-- a gap between two blocks: 203
+abbrev pub b296 : Row
+b296 =
+    stays (bounded (0 ∷ 10 ∷ 11 ∷ 12 ∷ 12 ∷ 13 ∷ []) (pic ((const 1 8 ∷ op2 Alloc 2 1 ∷ op3 Cmp 3 1 1 ∷ op3 Cmp 4 1 3
+    ∷ op3 Cmp 5 1 4 ∷ op3 Cmp 6 1 5 ∷ op3 Cmp 7 1 6 ∷ op3 Cmp 8 1 7 ∷ op3 Cat 2 1 1 ∷ fork 0 1 2 ∷ op2 Output 2 1
+    ∷ op0 Ret ∷ op0 Ret ∷ []) ∷ []) (at (upto 13) []) (registers 9 (0 ∷ 0 ∷ 1 ∷ replicate 6 0 ++ 77 ∷ [])) (operands 0
+    (77 ∷ [])) (beside [] [] []))) 32 8128 800 (refused 3)
+
+-- a first block that starts late: 203
+abbrev pub b297 : Row
+b297 =
+    stays (bounded (1 ∷ 10 ∷ 10 ∷ 12 ∷ 12 ∷ 13 ∷ []) (pic ((const 1 8 ∷ op2 Alloc 2 1 ∷ op3 Cmp 3 1 1 ∷ op3 Cmp 4 1 3
+    ∷ op3 Cmp 5 1 4 ∷ op3 Cmp 6 1 5 ∷ op3 Cmp 7 1 6 ∷ op3 Cmp 8 1 7 ∷ op3 Cat 2 1 1 ∷ fork 0 1 2 ∷ op2 Output 2 1
+    ∷ op0 Ret ∷ op0 Ret ∷ []) ∷ []) (at (upto 13) []) (registers 9 (0 ∷ 0 ∷ 1 ∷ replicate 6 0 ++ 77 ∷ [])) (operands 0
+    (77 ∷ [])) (beside [] [] []))) 32 8128 800 (refused 3)
+
+-- a Call that writes no register below R: 205
+abbrev pub b298 : Row
+b298 =
+    stays (pic ((op1 Call 2 ∷ []) ∷ []) (at (0 ∷ []) []) (registers 2 (0 ∷ 0 ∷ 77 ∷ [])) (operands 1 (1 ∷ 77 ∷ []))
+    (beside [] [] [])) 10 8040 800 (refused 5)
+
+-- a Call that writes nothing: 0
+abbrev pub b299 : Row
+b299 =
+    stays (pic ((op0 Call ∷ []) ∷ []) (at (0 ∷ []) []) (registers 2 (0 ∷ 0 ∷ 77 ∷ [])) (operands 1 (1 ∷ 77 ∷ []))
+    (beside [] [] [])) 10 8040 800 (done 0 2 1)
+
 abbrev pub rows12 : List Row
 rows12 =
-    b234 ∷ b235 ∷ b236 ∷ b237 ∷ b238 ∷ b239 ∷ b240 ∷ b241 ∷ b243 ∷ b244 ∷ b245 ∷ b246 ∷ b247 ∷ b248 ∷ b249 ∷ b250
-    ∷ b251 ∷ b252 ∷ b253 ∷ b254 ∷ b255 ∷ b256 ∷ b257 ∷ b258 ∷ b259 ∷ b260 ∷ b262 ∷ b264 ∷ b265 ∷ b266 ∷ b267 ∷ b268
-    ∷ b269 ∷ b270 ∷ []
+    b243 ∷ b244 ∷ b245 ∷ b246 ∷ b247 ∷ b248 ∷ b249 ∷ b250 ∷ b251 ∷ b252 ∷ b253 ∷ b254 ∷ b255 ∷ b256 ∷ b257 ∷ b258
+    ∷ b259 ∷ b260 ∷ b262 ∷ b264 ∷ b265 ∷ b266 ∷ b267 ∷ b268 ∷ b269 ∷ b270 ∷ b271 ∷ b272 ∷ b273 ∷ b274 ∷ b275 ∷ b276
+    ∷ b294 ∷ b295 ∷ b296 ∷ b297 ∷ b298 ∷ b299 ∷ []

@@ -14,17 +14,17 @@ fn lengths(add: &mut impl FnMut(&str, u32, u32, Picture)) {
     // r9 is made so; the sum of it and a length moves if it is one, and takes r9 along.
     let light = Record::new(CALL_NATIVE, 2, &[9], (0, 1), &[]);
     let sources: [(&str, &[Record], u32); 21] = [
-        ("a Cmp", &[op(CMP, &[9, 0, 0])], 9),
-        ("an FCmp", &[op(F_CMP, &[9, 0, 0])], 9),
-        ("a Bool", &[op(BOOL, &[9, 0, 0])], 9),
-        ("a Not", &[form(BOOL, 1, &[9, 0])], 9),
-        ("a BoundsLen", &[op(BOUNDS_LEN, &[9, 0, 0, 0])], 9),
-        ("a DopeLen", &[pool, op(DOPE_LEN, &[9, 10])], 9),
-        ("a word of a layout", &[pool, op(LAYOUT_OF, &[9, 10]), form(LOAD, 3, &[9, 9])], 10),
+        ("a Cmp", &[op(CMP, &[9, 0, 0])], 4),
+        ("an FCmp", &[op(F_CMP, &[9, 0, 0])], 4),
+        ("a Bool", &[op(BOOL, &[9, 0, 0])], 4),
+        ("a Not", &[form(BOOL, 1, &[9, 0])], 4),
+        ("a BoundsLen", &[op(BOUNDS_LEN, &[9, 0, 0, 0])], 4),
+        ("a DopeLen", &[pool, op(DOPE_LEN, &[9, 10])], 4),
+        ("a word of a layout", &[pool, op(LAYOUT_OF, &[9, 10]), form(LOAD, 3, &[9, 9])], 5),
         ("a word of the pool", &[pool, form(LOAD, 3, &[9, 10])], 0),
-        ("a copy of a length", &[op(MOVE, &[9, 1])], 9),
+        ("a copy of a length", &[op(MOVE, &[9, 1])], 4),
         ("a copy of another", &[op(MOVE, &[9, 0])], 0),
-        ("one of two lengths", &[op(SELECT, &[9, 0, 1, 1])], 9),
+        ("one of two lengths", &[op(SELECT, &[9, 0, 1, 1])], 4),
         ("a length or another", &[op(SELECT, &[9, 0, 1, 0])], 0),
         ("another or a length", &[op(SELECT, &[9, 0, 0, 1])], 0),
         ("a block made here", &[op(ALLOC, &[9, 1])], 0),
@@ -51,7 +51,7 @@ fn lengths(add: &mut impl FnMut(&str, u32, u32, Picture)) {
         ("of no length", &by(1), form(BIN, 4, &[8, 0, 9]), 0),
     ];
     for (name, made, quotient, rounds) in quotients {
-        add(&format!("a quotient {name}"), rounds, 8 * rounds, reading(made, quotient, &[]));
+        add(&format!("a quotient {name}"), rounds, 3 * rounds, reading(made, quotient, &[]));
     }
     let others = [
         ("a difference of lengths", form(BIN, 2, &[8, 1, 1]), 1),
@@ -73,7 +73,7 @@ fn lengths(add: &mut impl FnMut(&str, u32, u32, Picture)) {
         ("a MakeDope into something", Record::new(MAKE_DOPE, 0, &[0], (0, 1), &[]), 0),
     ];
     for (name, read, rounds) in others {
-        add(name, rounds, 8 * rounds, reading(&[], read, &[]));
+        add(name, rounds, 3 * rounds, reading(&[], read, &[]));
     }
 }
 
@@ -82,15 +82,15 @@ fn facts(add: &mut impl FnMut(&str, u32, u32, Picture)) {
     let elsewhere = |made: Record, read: Record| {
         let mut blocks = reading(&[], read, &[]).blocks();
         blocks[2].insert(0, made);
-        lay(&blocks, 11, &[1])
+        replay(lay(&blocks, 11, &[1]), &[1])
     };
     let names = ["the frame", "the frame above", "the instance", "a package", "the pool", "a shared place"];
     for (form, (name, rounds)) in names.into_iter().zip([1, 0, 1, 0, 1, 0]).enumerate() {
         let made = Record::new(ADDR_OF, form as u32, &[9], (0, 0), &[]);
-        add(&format!("a read of {name}, whose address is made elsewhere"), rounds, 8 * rounds, elsewhere(made, Record::new(LOAD, 3, &[8, 9], (0, 0), &[])));
+        add(&format!("a read of {name}, whose address is made elsewhere"), rounds, 3 * rounds, elsewhere(made, Record::new(LOAD, 3, &[8, 9], (0, 0), &[])));
     }
     for (name, made, rounds) in [("a constant", constant(9, 3), 1), ("a float", Record::new(CONST_F, 0, &[9], (0, 0), &[3]), 0)] {
-        add(&format!("a sum with {name} made elsewhere"), rounds, 8 * rounds, elsewhere(made, Record::new(BIN, 1, &[8, 9, 1], (0, 0), &[])));
+        add(&format!("a sum with {name} made elsewhere"), rounds, 3 * rounds, elsewhere(made, Record::new(BIN, 1, &[8, 9, 1], (0, 0), &[])));
     }
     // Round 1 takes one of r9's two writers away; block 3 is a listing that would need r9 as a length.
     add("a register with one writer after round 1", 1, 8, {

@@ -16,42 +16,42 @@ fn memory(add: &mut impl FnMut(&str, u32, u32, Picture)) {
     let native = |dst: u32, form: u32| Record::new(CALL_NATIVE, form, &[dst], (0, 1), &[]);
     for (name, form, free, behind) in [("the frame", 0, 1, 0), ("the instance", 2, 1, 1), ("the pool", 4, 1, 1), ("a package", 3, 0, 0)] {
         let at = address(9, form);
-        add(&format!("a read of {name}"), free, 8 * free, reading(&[at], load(9), &[]));
-        add(&format!("a read of {name}, written behind it"), behind, 8 * behind, reading(&[at], load(9), &[fill(9)]));
-        add(&format!("a read of {name}, written before it"), free, 8 * free, reading(&[at, fill(9)], load(9), &[]));
+        add(&format!("a read of {name}"), free, 3 * free, reading(&[at], load(9), &[]));
+        add(&format!("a read of {name}, written behind it"), behind, 3 * behind, reading(&[at], load(9), &[fill(9)]));
+        add(&format!("a read of {name}, written before it"), free, 3 * free, reading(&[at, fill(9)], load(9), &[]));
     }
     for (name, form) in [("the frame above", 1), ("a shared place", 5)] {
         add(&format!("a read of {name}"), 0, 0, reading(&[address(9, form)], load(9), &[]));
     }
     let (light, image) = (native(9, 2), native(9, 1));
-    add("a read of a kept block", 1, 8, reading(&[light], load(9), &[]));
+    add("a read of a kept block", 1, 3, reading(&[light], load(9), &[]));
     add("a read of a kept block, written behind it", 0, 0, reading(&[light], load(9), &[fill(9)]));
-    add("a read of a kept block, another written behind it", 1, 8, reading(&[light, native(10, 2)], load(9), &[fill(10)]));
-    add("a read of an image", 1, 9, reading(&[image], load(9), &[]));
-    add("a read of a kept image", 1, 8, reading(&[image, fill(9)], load(9), &[]));
+    add("a read of a kept block, another written behind it", 1, 3, reading(&[light, native(10, 2)], load(9), &[fill(10)]));
+    add("a read of an image", 1, 4, reading(&[image], load(9), &[]));
+    add("a read of a kept image", 1, 3, reading(&[image, fill(9)], load(9), &[]));
     add("a read of a kept image, written behind it", 0, 0, reading(&[image], load(9), &[fill(9)]));
     add("a read of an image, something written behind it", 0, 0, reading(&[image], load(9), &[fill(0)]));
     add("a Store into a member's image", 0, 0, reading(&[image], Record::new(STORE, 3, &[9, 1], (0, 0), &[]), &[]));
     let two = Record::new(CALL_NATIVE, 1, &[9], (0, 2), &[]);
-    add("a read of what an image of two operands gives", 0, 0, lay(&reading(&[two], load(9), &[]).blocks(), 11, &[1, 1]));
+    add("a read of what an image of two operands gives", 0, 0, replay(lay(&reading(&[two], load(9), &[]).blocks(), 11, &[1, 1]), &[1]));
     for (name, first, second, rounds) in [("the pool or the pool", 9, 9, 1), ("the pool or something", 9, 0, 0), ("something or the pool", 0, 9, 0)] {
         let either = op(SELECT, &[10, 0, first, second]);
-        add(&format!("a read of {name}"), rounds, 9 * rounds, reading(&[address(9, 4), either], load(10), &[]));
+        add(&format!("a read of {name}"), rounds, 4 * rounds, reading(&[address(9, 4), either], load(10), &[]));
     }
     let inside = Record::new(LOAD, 3, &[10, 9], (0, 0), &[]);
-    add("a read through an image's pointer", 1, 10, reading(&[image, inside], load(10), &[]));
+    add("a read through an image's pointer", 1, 5, reading(&[image, inside], load(10), &[]));
     add("a read through an image's pointer, the image written behind it", 0, 0, reading(&[image, inside], load(10), &[fill(9)]));
     add("a read through a kept block's pointer", 0, 0, reading(&[light, inside], load(10), &[]));
-    add("a read of a kept Alloc", 1, 8, reading(&[op(ALLOC, &[9, 0])], load(9), &[]));
+    add("a read of a kept Alloc", 1, 3, reading(&[op(ALLOC, &[9, 0])], load(9), &[]));
     add("a read of a kept Alloc, written behind it", 0, 0, reading(&[op(ALLOC, &[9, 0])], load(9), &[fill(9)]));
     add("a read of a place in a kept block, written behind it", 0, 0, reading(&[light, op(INDEX, &[10, 9, 1])], load(10), &[fill(9)]));
     add("a read of a copy of the frame's address, written behind it", 0, 0, reading(&[address(9, 0), op(MOVE, &[10, 9])], load(10), &[fill(9)]));
     add("a read of the heap", 0, 0, reading(&[op(DEREF, &[9, 1])], load(9), &[]));
-    add("a read of the pool, the heap written behind it", 1, 8, reading(&[address(9, 4), op(DEREF, &[10, 1])], load(9), &[fill(10)]));
+    add("a read of the pool, the heap written behind it", 1, 3, reading(&[address(9, 4), op(DEREF, &[10, 1])], load(9), &[fill(10)]));
     add("a read of the pool, something written behind it", 0, 0, reading(&[address(9, 4)], load(9), &[fill(0)]));
     add("a length of the frame, written behind it", 0, 0, reading(&[address(9, 0)], op(DOPE_LEN, &[8, 9]), &[fill(9)]));
     add("a layout of the frame, written behind it", 0, 0, reading(&[address(9, 0)], op(LAYOUT_OF, &[8, 9]), &[fill(9)]));
-    add("a Store into a member's block", 1, 8, reading(&[], Record::new(STORE, 3, &[2, 1], (0, 0), &[]), &[]));
+    add("a Store into a member's block", 1, 3, reading(&[], Record::new(STORE, 3, &[2, 1], (0, 0), &[]), &[]));
     add("a Store into a kept block", 0, 0, reading(&[light], Record::new(STORE, 3, &[9, 1], (0, 0), &[]), &[]));
     add("a Store of a Sig into a member's block", 0, 0, reading(&[], Record::new(STORE, 4, &[2, 1], (0, 0), &[]), &[]));
     add("a Store of a Sig", 0, 0, reading(&[], load(2), &[Record::new(STORE, 4, &[0, 1], (0, 0), &[])]));

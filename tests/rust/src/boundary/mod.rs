@@ -153,11 +153,12 @@ pub fn alike(name: &str) -> bool {
         || (name.ends_with("in the chain behind x") && !name.starts_with("Call"))
 }
 
-/// The listing with its last Cmp, of eight members, in the place of `read`, and these around it; r9 and r10 are free for them.
+/// The listing's Const, Alloc and Cat with `read` as the third that moves, block 1 being in replay, and these around it; r9 and
+/// r10 are free for them.
 fn reading(before: &[Record], read: Record, after: &[Record]) -> Picture {
     let mut blocks = listing().blocks();
-    blocks[0].splice(7..8, before.iter().copied().chain([read]).chain(after.iter().copied()));
-    lay(&blocks, 11, &[1])
+    blocks[0].splice(2..8, before.iter().copied().chain([read]).chain(after.iter().copied()));
+    replay(lay(&blocks, 11, &[1]), &[1])
 }
 
 /// Block 0 of these with block 1 in replay, so that three members are enough; the Cat that the gate asks for is in block 2.
