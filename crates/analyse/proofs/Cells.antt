@@ -16,7 +16,7 @@ use Rattle.analyse.specs.Cells.{cells, mark-of, marks-of, Told}
 
 -- ---- lengths
 
-pub length-cells : (fs : List Fact) → length (cells fs) ≡ length fs * 10
+pub length-cells : (fs : List Fact) → length (cells fs) ≡ 10 * length fs
 unfolding cells words-of
 length-cells [] = refl
 length-cells (f ∷ fs) = let e = length-cells fs in omega (arith, e)
@@ -37,8 +37,8 @@ unfolding cell cells words-of
 cell-of [] p j h = sym (nothing j h)
 cell-of (f ∷ fs) zero j h = ap (λ (k : ℕ). getD (words-of f ++ cells fs) k 0) (zero-add j) ∙ List·getD-append (words-of f) (cells fs) 0 j h
 cell-of (f ∷ fs) (suc p) j h =
-    let e : suc p * 10 + j ≡ 10 + (p * 10 + j) = omega arith in
-    ap (λ (k : ℕ). getD (words-of f ++ cells fs) k 0) e ∙ getD-append-add (words-of f) (cells fs) (p * 10 + j) 0 ∙ cell-of fs p j h
+    let e : 10 * suc p + j ≡ 10 + (10 * p + j) = omega arith in
+    ap (λ (k : ℕ). getD (words-of f ++ cells fs) k 0) e ∙ getD-append-add (words-of f) (cells fs) (10 * p + j) 0 ∙ cell-of fs p j h
 
 pub told : (fs : List Fact) (p : ℕ) → Told (cells fs) p (getD fs p no-fact)
 unfolding words-of
@@ -65,7 +65,7 @@ mark-at (f ∷ fs) (suc p) = mark-at fs p
 
 pub put-cells : (fs : List Fact) (p : ℕ) (f : Fact) → p < length fs → Put (cells fs) (cells (set fs p f)) p f
 put-cells fs p f h = record {
-  size = length-cells (set fs p f) ∙ ap (λ (n : ℕ). n * 10) (length-set fs p f) ∙ sym (length-cells fs);
+  size = length-cells (set fs p f) ∙ ap (λ (n : ℕ). 10 * n) (length-set fs p f) ∙ sym (length-cells fs);
   inside = λ j l. cell-of (set fs p f) p j l ∙ ap (λ (x : Fact). getD (words-of x) j 0) (getD-set-same fs p f no-fact h);
   others = λ q j n l. cell-of (set fs p f) q j l ∙ ap (λ (x : Fact). getD (words-of x) j 0) (getD-set-other fs p q f no-fact n) ∙ sym (cell-of fs q j l);
 }

@@ -18,7 +18,7 @@ use Rattle.chains.proofs.Seeking.{next-left, nothing-left}
 use Rattle.inst.specs.Table.{rows}
 use Rattle.facts.specs.declared.Fact as F
 use Rattle.regfacts.specs.Flags.{Seen}
-use Rattle.analyse.specs.State.{cell, opt-at, State, Ranged, Safe}
+use Rattle.analyse.specs.State.{cell, place-at, State, Ranged, Safe}
 use Rattle.analyse.specs.Step.{Forgot, Good, Learned, Holds, Ran, Begun, Ready, Analysed}
 use Rattle.analyse.specs.Cells.{cells}
 use Rattle.analyse.proofs.Cells.{length-cells, put-cells}
@@ -39,9 +39,9 @@ no-writer : {R : ℕ} {xs ys : List ℕ} → Forgot R xs ys → (r : ℕ) → r 
 no-writer f r h = let e = none-yet f r h in omega (arith, e)
 
 fresh-state : {G : Facts} {R : ℕ} {xs ys : List ℕ} (w : List ℕ) → Forgot R xs ys → Seen G R xs → State G [] R ys w
-unfolding opt-at
+unfolding place-at
 fresh-state w f s = record {
-  marked = record { seen = seen-kept (forgot-flags f) s; writer = λ r h. ap opt-at (no-writer f r h); left = λ r h d e. absurd (omega (arith, no-writer f r h, e)) };
+  marked = record { seen = seen-kept (forgot-flags f) s; writer = λ r h. ap place-at (no-writer f r h); left = λ r h d e. absurd (omega (arith, no-writer f r h, e)) };
   each = λ p h. absurd (not-suc-le-zero h);
 }
 

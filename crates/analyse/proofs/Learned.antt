@@ -26,7 +26,7 @@ use Rattle.effects.specs.declared.arms.Input.{Input}
 use Rattle.analyse.specs.declared.look.Value.{Value}
 use Rattle.regfacts.specs.Written.{Fits, Written, settle}
 use Rattle.regfacts.specs.Flags.{Seen}
-use Rattle.analyse.specs.State.{opt-at, left-in, Left, Marked, Ranges, Ranged, Asked, Low, Judged}
+use Rattle.analyse.specs.State.{place-at, left-in, Left, Marked, Ranges, Ranged, Asked, Low, Judged}
 use Rattle.analyse.specs.Step.{stamp, marked, more, fact-of, Good, Stands, Sized, Learned}
 use Rattle.analyse.proofs.Layouts.{lay-keep}
 use Rattle.analyse.proofs.Marking.{last-more, settle-flags, writer-new, left-new, ranges-settle, opt-settle}
@@ -119,7 +119,7 @@ module _ (recs ops : List ℕ) (e : Effect) (b : Bool) (y : Input) {regs regs′
     marked-new = record {
       seen = seen-kept (flags-kept-by d i m) (s .seen);
       writer = λ r h.
-          ap (λ (n : ℕ). opt-at (n / 16 % 1024)) (word r h) ∙ opt-settle p (e .org) (e .len) (leads a y e) few (low .org) (mem r (writes i)) (getD regs r 0)
+          ap (λ (n : ℕ). place-at (n / 16 % 1024)) (word r h) ∙ opt-settle p (e .org) (e .len) (leads a y e) few (low .org) (mem r (writes i)) (getD regs r 0)
           ∙ ap (λ (o : Option ℕ). cond (mem r (writes i)) (some p) o) (s .writer r h)
           ∙ ap (λ (n : ℕ). cond (mem r (writes i)) (some n) (last-writer 0 past r)) (sym el ∙ sym (zero-add (length past)))
           ∙ sym (last-more 0 past f r);

@@ -9,5 +9,4 @@ pub mod Puts
 pub mod Run
 pub mod Chained
 pub mod Accepted
-pub mod RunOf
 pub mod Cells

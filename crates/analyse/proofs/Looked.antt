@@ -12,17 +12,13 @@ use lib.ListN.{getD, List·getD-eq-default}
 use Rattle.model.specs.Picture.{absent}
 use Rattle.model.specs.Analyse.{Facts, Fact, Known, unknown, Org, Unknown, Ro, Frame, no-fact, last-writer, org-of, len-of, when-some, known-of, small, positive, Read}
 use Rattle.effects.specs.Origin.{org-at, num}
+use Rattle.effects.proofs.Origins.{num-le}
 use Rattle.analyse.specs.declared.look.Value.{Value}
 use Rattle.regfacts.specs.Flags.{flags-of, Seen}
-use Rattle.analyse.specs.State.{opt-at, left-in, Left, Marked, Ranges, org-reg, len-reg, Reg?, Valued}
+use Rattle.analyse.specs.State.{place-at, left-in, Left, Marked, Ranges, org-reg, len-reg, Reg?, Valued}
 use Rattle.analyse.proofs.Layouts.{lay-low}
 
 -- ---- bits
-
-pub num-small : (b : Bool) → num b ≤ 1
-unfolding num
-num-small true = omega arith
-num-small false = omega arith
 
 pub num-bit : (b : Bool) (n : ℕ) → n ≡ num b → eqb n 1 ≡ b
 unfolding num
@@ -35,16 +31,16 @@ module _ (k : Known) (f : ℕ) (e : f % 16 ≡ flags-of k) where
   parts = e
 
   pub ro-bit : eqb (f % 2) 1 ≡ k .ro
-  ro-bit = num-bit (k .ro) (f % 2) (omega (arith, parts, num-small (k .ro)))
+  ro-bit = num-bit (k .ro) (f % 2) (omega (arith, parts, num-le (k .ro)))
 
   pub frame-bit : eqb (f / 2 % 2) 1 ≡ k .frame
-  frame-bit = num-bit (k .frame) (f / 2 % 2) (omega (arith, parts, num-small (k .ro), num-small (k .frame)))
+  frame-bit = num-bit (k .frame) (f / 2 % 2) (omega (arith, parts, num-le (k .ro), num-le (k .frame)))
 
   pub small-bit : eqb (f / 4 % 2) 1 ≡ when-some small (k .konst)
-  small-bit = num-bit (when-some small (k .konst)) (f / 4 % 2) (omega (arith, parts, num-small (k .ro), num-small (k .frame), num-small (when-some small (k .konst))))
+  small-bit = num-bit (when-some small (k .konst)) (f / 4 % 2) (omega (arith, parts, num-le (k .ro), num-le (k .frame), num-le (when-some small (k .konst))))
 
   pub positive-bit : eqb (f / 8 % 2) 1 ≡ when-some positive (k .konst)
-  positive-bit = num-bit (when-some positive (k .konst)) (f / 8 % 2) (omega (arith, parts, num-small (k .ro), num-small (k .frame), num-small (when-some small (k .konst)), num-small (when-some positive (k .konst))))
+  positive-bit = num-bit (when-some positive (k .konst)) (f / 8 % 2) (omega (arith, parts, num-le (k .ro), num-le (k .frame), num-le (when-some small (k .konst)), num-le (when-some positive (k .konst))))
 
   abbrev points : Bool → Bool → Org
   points x y = cond x Ro (cond y Frame Unknown)
@@ -107,12 +103,12 @@ module _ {G : Facts} {past : List Fact} {R : ℕ} {regs : List ℕ} (s : Marked 
   flags-at : v % 16 ≡ flags-of (known-of G r)
   flags-at = ap (λ (x : ℕ). x % 16) ev ∙ s .seen .flags r h
 
-  writer-at : opt-at (v / 16 % 1024) ≡ last-writer 0 past r
-  writer-at = ap (λ (x : ℕ). opt-at (x / 16 % 1024)) ev ∙ s .writer r h
+  writer-at : place-at (v / 16 % 1024) ≡ last-writer 0 past r
+  writer-at = ap (λ (x : ℕ). place-at (x / 16 % 1024)) ev ∙ s .writer r h
 
   nobody : v < 16 → last-writer 0 past r ≡ none
-  unfolding opt-at
-  nobody l = let z : v / 16 % 1024 ≡ 0 = omega arith in sym writer-at ∙ ap opt-at z
+  unfolding place-at
+  nobody l = let z : v / 16 % 1024 ≡ 0 = omega arith in sym writer-at ∙ ap place-at z
 
   -- by the flags
   pub valued-flags : (o : ℕ) → o < 4 → v < 16 → ((k : Known) → v % 16 ≡ flags-of k → org-at o ≡ cond (k .ro) Ro (cond (k .frame) Frame Unknown)) → Valued G past r (record { org = o; len = eqb (v / 4 % 2) 1; layout = false })
@@ -124,10 +120,10 @@ module _ {G : Facts} {past : List Fact} {R : ℕ} {regs : List ℕ} (s : Marked 
 
   -- by what the last writer left
   pub valued-left : {x : Value} → x ≡ left-in v → (d : ℕ) → v / 16 % 1024 ≡ suc d → Valued G past r x
-  unfolding opt-at
+  unfolding place-at
   valued-left {x} e d ed =
       let l : Left past x (getD past d no-fact) = subst (λ (z : Value). Left past z (getD past d no-fact)) (sym (e ∙ ap left-in ev)) (s .left r h d (sym (ap (λ (z : ℕ). z / 16 % 1024) ev) ∙ ed)) in
-      let w : last-writer 0 past r ≡ some d = sym writer-at ∙ ap opt-at ed in
+      let w : last-writer 0 past r ≡ some d = sym writer-at ∙ ap place-at ed in
       record { org = l .org ∙ sym (org-by G past r n (some d) w); len = l .len ∙ sym (len-by G past r n (some d) w); layout = l .layout }
 
 pub valued-none : (G : Facts) (past : List Fact) (r : ℕ) → r ≡ absent → Valued G past r (record { org = 0; len = false; layout = false })

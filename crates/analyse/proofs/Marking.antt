@@ -12,11 +12,12 @@ use lib.ListN.{getD, length, set, length-set}
 use lib.Seq.{getD-set-same, getD-set-other}
 use Rattle.words.specs.Lists.{mem}
 use Rattle.model.specs.Analyse.{Fact, last-writer}
+use Rattle.effects.proofs.Origins.{num-le}
 use Rattle.regfacts.specs.Written.{settle}
 use Rattle.effects.specs.Origin.{num}
-use Rattle.analyse.specs.State.{opt-at, left-in, Ranges}
+use Rattle.analyse.specs.State.{place-at, left-in, Ranges}
 use Rattle.analyse.specs.Step.{stamp, marked, Forgot}
-use Rattle.analyse.proofs.Looked.{num-small, num-bit}
+use Rattle.analyse.proofs.Looked.{num-bit}
 
 pub marked-twice : (p v : ℕ) → marked p (marked p v) ≡ marked p v
 unfolding marked
@@ -68,8 +69,8 @@ module _ (p o : ℕ) (l y : Bool) (few : p + 1 < 1000) (low : o < 6 + 2 * p) whe
   pub left-new : (v : ℕ) → left-in (marked d v) ≡ record { org = o; len = l; layout = y }
   unfolding left-in
   left-new v =
-      let a : eqb (marked d v / 16384 / 2048 % 2) 1 ≡ l = num-bit l (marked d v / 16384 / 2048 % 2) (ap (λ (n : ℕ). n / 2048 % 2) (over v) ∙ omega (arith, few, low, num-small l)) in
-      let b : eqb (marked d v / 16384 / 4096 % 2) 1 ≡ y = num-bit y (marked d v / 16384 / 4096 % 2) (ap (λ (n : ℕ). n / 4096 % 2) (over v) ∙ omega (arith, few, low, num-small l, num-small y)) in
+      let a : eqb (marked d v / 16384 / 2048 % 2) 1 ≡ l = num-bit l (marked d v / 16384 / 2048 % 2) (ap (λ (n : ℕ). n / 2048 % 2) (over v) ∙ omega (arith, few, low, num-le l)) in
+      let b : eqb (marked d v / 16384 / 4096 % 2) 1 ≡ y = num-bit y (marked d v / 16384 / 4096 % 2) (ap (λ (n : ℕ). n / 4096 % 2) (over v) ∙ omega (arith, few, low, num-le l, num-le y)) in
       rw (org-new v, a, b)
 
   pub ranges-settle : (b : Bool) (v : ℕ) → Ranges p v → Ranges (p + 1) (settle (marked d) b v)
@@ -81,9 +82,9 @@ module _ (p o : ℕ) (l y : Bool) (few : p + 1 < 1000) (low : o < 6 + 2 * p) whe
   }
   ranges-settle false v g = record { writer = omega (arith, g .writer); org = omega (arith, g .org); none = g .none }
 
-  pub opt-settle : (b : Bool) (v : ℕ) → opt-at (settle (marked d) b v / 16 % 1024) ≡ cond b (some p) (opt-at (v / 16 % 1024))
-  unfolding settle opt-at
-  opt-settle true v = ap opt-at (writer-new v)
+  pub opt-settle : (b : Bool) (v : ℕ) → place-at (settle (marked d) b v / 16 % 1024) ≡ cond b (some p) (place-at (v / 16 % 1024))
+  unfolding settle place-at
+  opt-settle true v = ap place-at (writer-new v)
   opt-settle false v = refl
 
 -- ---- forgetting

@@ -59,7 +59,7 @@ unfolding num
 not-one true e = absurd (omega arith)
 not-one false e = refl
 
-module _ {recs ops regs w regs′ w′ : List ℕ} {g p R : ℕ} {x : F.Fact} (safe : Safe R p regs w) (room : p * 10 + 10 ≤ length w) (u : Put w w′ p x) (l : Learned recs ops regs regs′ p R g x) (good : Good recs ops R g) where
+module _ {recs ops regs w regs′ w′ : List ℕ} {g p R : ℕ} {x : F.Fact} (safe : Safe R p regs w) (room : 10 * p + 10 ≤ length w) (u : Put w w′ p x) (l : Learned recs ops regs regs′ p R g x) (good : Good recs ops R g) where
   module _ (G : Facts) (past : List Fact) (el : length past ≡ p) (s : State G past R regs w) where
     f : Fact
     f = fact G ops past (inst recs g)

@@ -12,18 +12,12 @@ use Rattle.words.proofs.Lists.{map-append}
 use Rattle.model.specs.Kinds.{row, cat}
 use Rattle.model.specs.Picture.{Inst, inst, kind, reads, writes}
 use Rattle.model.specs.Analyse.{Facts, Fact, fact, analyse}
+use Rattle.laws.proofs.Analysed.{length-analyse}
 use Rattle.inst.specs.Record.{present}
 use Rattle.analyse.specs.State.{cell, State, Safe}
 use Rattle.analyse.specs.Step.{Good, Holds, Ran}
 
 -- ---- two runs are one
-
-pub length-run : (G : Facts) (ops : List ℕ) (past : List Fact) (is : List Inst) → length (analyse G ops past is) ≡ length past + length is
-length-run G ops past [] = sym (add-zero (length past))
-length-run G ops past (i ∷ is) =
-    let e = length-run G ops (past ++ fact G ops past i ∷ []) is in
-    let l = length-append past (fact G ops past i ∷ []) in
-    omega (arith, e, l)
 
 run-append : (G : Facts) (ops : List ℕ) (past : List Fact) (is js : List Inst) → analyse G ops past (is ++ js) ≡ analyse G ops (analyse G ops past is) js
 run-append G ops past [] js = refl
@@ -78,5 +72,5 @@ module _ {recs ops regs w regs₁ w₁ regs₂ w₂ xs ys : List ℕ} {p q R : �
     others = λ k j h l. b .others k j (omega (arith, eq)) l ∙ a .others k j h l;
     state = λ G past e s.
         subst (λ (l : List Fact). State G l R regs₂ w₂) (sym (ap (analyse G ops past) (map-append (inst recs) xs ys) ∙ run-append G ops past (map (inst recs) xs) (map (inst recs) ys)))
-        (b .state G (analyse G ops past (map (inst recs) xs)) (length-run G ops past (map (inst recs) xs) ∙ ap (λ (n : ℕ). n + length (map (inst recs) xs)) e ∙ ap (λ (n : ℕ). p + n) (length-map xs (inst recs)) ∙ sym eq) (a .state G past e s));
+        (b .state G (analyse G ops past (map (inst recs) xs)) (length-analyse G ops past (map (inst recs) xs) ∙ ap (λ (n : ℕ). n + length (map (inst recs) xs)) e ∙ ap (λ (n : ℕ). p + n) (length-map xs (inst recs)) ∙ sym eq) (a .state G past e s));
   }

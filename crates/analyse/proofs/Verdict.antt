@@ -26,6 +26,7 @@ use Rattle.effects.specs.Origin.{org-at, class-at, wrote-at, from-at}
 use Rattle.effects.specs.Arms.{does, three, three-tests, asked, Right, leads}
 use Rattle.effects.specs.declared.arms.Effect.{Effect}
 use Rattle.effects.specs.declared.arms.Input.{Input}
+use Rattle.effects.proofs.Origins.{movable-is}
 use Rattle.regfacts.specs.Flags.{is-length}
 use Rattle.analyse.specs.State.{org-reg, len-reg, Reg?, Below, Readable, Asked, Low, Judged, fill-in}
 use Rattle.analyse.proofs.Alike.{arm-ext}
@@ -44,12 +45,6 @@ reads-below r h = record { r0 = rw (h .r0) (reads-reg r 0); r1 = rw (h .r1) (rea
 
 -- ---- memory written
 
-is-movable : (c : ℕ) → movable (class-at c) ≡ eqb c 1
-unfolding class-at
-is-movable zero = refl
-is-movable (suc zero) = refl
-is-movable (suc (suc c)) = sym (ne-eqb (suc (suc c)) 1 (λ e. omega arith))
-
 wrote-some : (n : ℕ) → (n ≡ 0 → ⊥) → (b : Bool) → wrote-at n ≡ fill-in (wrote-at n) b
 unfolding wrote-at fill-in
 wrote-some zero z b = absurd (z refl)
@@ -60,7 +55,7 @@ module _ (e : Effect) (q n : Bool) where
   placed-kept z = wrote-some (e .wrote) z (movable (class-at (e .class)) || e .barrier || q || n)
 
   tested : (b : Bool) → (eqb (e .class) 1 || e .barrier || q || n) ≡ b → (movable (class-at (e .class)) || e .barrier || q || n) ≡ b
-  tested b t = ap (λ (x : Bool). x || e .barrier || q || n) (is-movable (e .class)) ∙ t
+  tested b t = ap (λ (x : Bool). x || e .barrier || q || n) (movable-is (e .class)) ∙ t
 
   pub placed-none : e .wrote ≡ 0 → (eqb (e .class) 1 || e .barrier || q || n) ≡ true → wrote-at 0 ≡ fill-in (wrote-at (e .wrote)) (movable (class-at (e .class)) || e .barrier || q || n)
   unfolding wrote-at fill-in

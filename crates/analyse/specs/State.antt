@@ -5,7 +5,7 @@ use mathlib.Core.Logic.{_⊎_}
 use mathlib.Core.Bool.{Bool, false, cond}
 use mathlib.Core.List.{List}
 use mathlib.Core.Option.{Option, none, some}
-use Prim.Native.Nat.{ℕ, zero, suc, _+_, _*_, _/_, _%_, _≤_, _<_}
+use Prim.Native.Nat.{ℕ, suc, _+_, _*_, _/_, _%_, _≤_, _<_}
 use lib.Dec.{eqb}
 use lib.ListN.{getD, length, drop}
 use Rattle.model.specs.Kinds.{row, cat}
@@ -16,21 +16,13 @@ use Rattle.inst.specs.Record.{Listed}
 use Rattle.inst.specs.Constant.{constant-of}
 use Rattle.inst.specs.declared.access.Firsts.{Firsts}
 use Rattle.effects.specs.Origin.{org-at, class-at, wrote-at, from-at, num}
+unfoldable pub use Rattle.effects.specs.Origin.{cell, place-at}
 use Rattle.effects.specs.declared.arms.Input.{Input}
 use Rattle.effects.specs.declared.arms.Effect.{Effect}
 use Rattle.regfacts.specs.Flags.{Seen, is-length}
 use Rattle.analyse.specs.declared.look.Value.{Value}
 
 -- ---- a position's words
-
--- a position and 1, or 0 for none
-unfoldable pub opt-at : ℕ → Option ℕ
-opt-at zero = none
-opt-at (suc d) = some d
-
--- word j of position p
-unfoldable pub cell : List ℕ → ℕ → ℕ → ℕ
-cell w p j = getD w (p * 10 + j) 0
 
 -- length 1, layout 2, creates 4, barrier 8, suspends 16
 unfoldable pub pack : Bool → Bool → Bool → Bool → Bool → ℕ
@@ -64,7 +56,7 @@ pub record Left (past : List Fact) (x : Value) (f : Fact) : Type 0 where
 -- the words of the first R registers stand for the facts G, and for what the facts of the past left in them
 pub record Marked (G : Facts) (past : List Fact) (R : ℕ) (regs : List ℕ) : Type 0 where
   pub seen : Seen G R regs
-  pub writer : (r : ℕ) → r < R → opt-at (getD regs r 0 / 16 % 1024) ≡ last-writer 0 past r
+  pub writer : (r : ℕ) → r < R → place-at (getD regs r 0 / 16 % 1024) ≡ last-writer 0 past r
   pub left : (r : ℕ) → r < R → (d : ℕ) → getD regs r 0 / 16 % 1024 ≡ suc d → Left past (left-in (getD regs r 0)) (getD past d no-fact)
 
 -- so do they, and the words of the positions so far for the facts of the past
@@ -94,7 +86,7 @@ pub record Near (w : List ℕ) (p : ℕ) : Type 0 where
 -- so are all of the n positions so far
 pub record Safe (R n : ℕ) (regs w : List ℕ) : Type 0 where
   pub ranged : Ranged R n regs
-  pub room : n * 10 ≤ length w
+  pub room : 10 * n ≤ length w
   pub near : (p : ℕ) → p < n → Near w p
 
 -- ---- a register that is read

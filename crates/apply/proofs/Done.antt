@@ -1,6 +1,6 @@
 -- What was counted, and what was written, is `model`'s `apply`. Assumes nothing.
 use mathlib.Core.Path.{_≡_, refl, sym, ap, ap₂, _∙_, subst}
-use mathlib.Core.Bool.{Bool, true, false, cond}
+use mathlib.Core.Bool.{Bool, cond}
 use mathlib.Core.List.{List, [], _∷_, _++_, map, append-assoc}
 use Prim.Native.Nat.{ℕ, zero, suc, _+_, _-_, _*_, _≤_, _<_}
 use native.Mathlib.Nat.{add-zero, suc-ne-zero}
@@ -9,11 +9,12 @@ use borrow.Author.Tests.{ne-eqb}
 use lib.Dec.{eqb}
 use lib.ListN.{getD, length, take, drop, length-append, length-map, take-append-drop}
 use lib.Seq.{drop-drop}
-use Rattle.words.specs.Lists.{mem, upto, filter, concat}
+use Rattle.words.specs.Lists.{upto, filter, concat}
 use Rattle.words.proofs.Lists.{length-range}
-use Rattle.model.specs.Picture.{Picture, Inst, inst, absent, writes, starts, ends, size, places, code}
+use Rattle.model.specs.Picture.{Picture, inst, absent, writes, starts, ends, size, places, code}
 use Rattle.model.specs.Analyse.{Fact}
 use Rattle.model.specs.Move.{Plan, Job, members, member-job, own-jobs, jobs, fresh, order, appended, apply}
+use Rattle.laws.proofs.Applied.{length-own}
 use Rattle.pool.specs.Pool.{Allots, typed}
 use Rattle.pool.specs.Types.{over}
 use Rattle.pool.proofs.Fresh as F
@@ -120,10 +121,6 @@ run-ops {o₀} {o} {ps} {js} {xs} {ys} {ops} {ops′} r =
     sym (take-append-drop o₀ ops′)
     ∙ ap₂ (λ (l m : List ℕ). l ++ m) (r .ops-front) (sym (take-append-drop (o - o₀) (drop o₀ ops′)) ∙ ap₂ (λ (l m : List ℕ). l ++ m) (r .ops-more) (drop-drop (o - o₀) o₀ ops′ ∙ ap (λ (k : ℕ). drop k ops′) e ∙ r .ops-back ∙ ap (λ (k : ℕ). drop k ops) (r .count)))
     ∙ sym (append-assoc (take o₀ ops) (appended ops js) (drop (o₀ + length (appended ops js)) ops))
-
-length-own : (rd : ℕ → ℕ) (is : List Inst) → length (own-jobs rd is) ≡ length is
-length-own rd [] = refl
-length-own rd (i ∷ is) = ap suc (length-own (λ r. elim (mem r (writes i)) as (λ z. ℕ) [ true ↦ r | false ↦ rd r ]) is)
 
 vias-law : (P : Picture) (a : Plan) (w : List ℕ) (lo m t N : ℕ) (vs : List ℕ) → vs ≡ all-moved 1 w lo m t N (P .vias)
     → ((length (P .vias) ≡ 0 → ⊥) → cells 1 (P .vias) (moved w lo m t N) ≡ map (λ p. getD (P .vias) p 0) (concat (order P a))) → vs ≡ apply P a .vias

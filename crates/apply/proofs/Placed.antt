@@ -1,7 +1,7 @@
 -- Where everything stands after the move: rename in place first and move after is what `model`'s `apply` says, block by block.
 -- Assumes nothing.
 use mathlib.Core.Path.{_≡_, refl, sym, ap, ap₂, _∙_, subst}
-use mathlib.Core.Logic.{_⊎_, inl, inr, ⊎-elim}
+use mathlib.Core.Logic.{inl, inr, ⊎-elim}
 use mathlib.Core.Bool.{Bool, true, false, not, _||_, cond}
 use mathlib.Core.List.{List, [], _∷_, _++_, map}
 use Prim.Native.Nat.{ℕ, suc, _+_, _-_, _*_, _≤_, _<_}
@@ -16,9 +16,10 @@ use Rattle.words.proofs.Bools.{lt?, eq?, clash}
 use Rattle.words.proofs.Alls.{any-append}
 use Rattle.words.proofs.Lists.{map-append, map-map, made-ext, length-range}
 use Rattle.words.proofs.Members.{in-split, in-map, filter-in, range-in, not-in-mem, in-mem, mem-in, map-on, concat-in}
-use Rattle.model.specs.Picture.{Picture, Inst, inst, nblocks, starts, ends, size, places, code}
+use Rattle.model.specs.Picture.{Picture, Inst, inst, nblocks, starts, ends, size, places}
 use Rattle.model.specs.Refusal.{gaps}
-use Rattle.model.specs.Move.{Plan, Job, made-all, more-of, members, order-of, order, new-code}
+use Rattle.model.specs.Move.{Plan, Job, made-all, order-of, order, new-code}
+use Rattle.laws.proofs.Applied.{length-made-all}
 use Rattle.rename.specs.Runs.{Run}
 use Rattle.rename.specs.All.{all-places}
 use Rattle.rename.proofs.Records.{inst-same}
@@ -42,10 +43,6 @@ cells-one : (xs ps : List ℕ) → ((q : ℕ) → In q ps → q < length xs) →
 unfolding cells
 cells-one xs [] h = refl
 cells-one xs (p ∷ ps) h = ap₂ (λ (a b : List ℕ). a ++ b) (one-cell xs p (h p (inl refl))) (cells-one xs ps (λ q i. h q (inr i)))
-
-length-made-all : (ops : List ℕ) (n : ℕ) (js : List Job) → length (made-all ops n js) ≡ length js
-length-made-all ops n [] = refl
-length-made-all ops n (j ∷ js) = ap suc (length-made-all ops (n + length (more-of ops j)) js)
 
 module _ (P : Picture) (a : Plan) (N : ℕ) (laid : gaps 0 N (P .bounds) ≡ false) (w : List ℕ) (m : ℕ) (c : Says (a .set) w m)
     (x-in : a .x < nblocks P) (t-in : a .into < nblocks P) (apart : a .x ≡ a .into → ⊥) (room : m ≤ size P (a .x)) where

@@ -1,21 +1,23 @@
 -- The names along the chain are `model`'s: the new register of the last writer, if that is a member. So the jobs are its jobs.
 -- Assumes nothing.
 use mathlib.Core.Path.{_≡_, refl, sym, ap, ap₂, _∙_}
-use mathlib.Core.Bool.{Bool, true, false, not, _&&_, _||_, cond}
+use mathlib.Core.Bool.{Bool, true, false, not, _&&_, cond, or-false, Bool·not-not}
 use mathlib.Core.List.{List, [], _∷_, _++_, map}
-use mathlib.Core.Option.{Option, none, some}
+use mathlib.Core.Option.{some}
 use Prim.Native.Nat.{ℕ, zero, suc, _+_, _-_, _*_, _≤_, _<_}
-use native.Mathlib.Nat.{add-zero, zero-add, suc-add, add-suc}
+use native.Mathlib.Nat.{add-zero, zero-add, add-suc}
 use native.Mathlib.Omega.{arith}
 use lib.Dec.{eqb}
 use lib.ListN.{getD, length, take}
 use lib.Seq.{take-suc, take-all, length-take-le}
-use Rattle.words.specs.Lists.{mem, range, upto, filter, member, lookup}
+use Rattle.words.specs.Lists.{mem, upto, filter, member, lookup}
 use Rattle.words.proofs.Members.{map-on, filter-in, range-in}
+use Rattle.words.proofs.Lists.{filter-ext}
 use Rattle.model.specs.Picture.{Picture, inst, absent, writes, starts, ends, size, code}
 use Rattle.model.specs.Analyse.{Fact, last-writer, no-fact}
 use Rattle.model.specs.Legal.{fact-at}
 use Rattle.model.specs.Move.{Plan, Job, members, new-name, member-job, jobs, fresh, own-jobs}
+use Rattle.laws.proofs.Analysed.{writer-snoc}
 use Rattle.pool.specs.Pool.{mark-at, wrote-at, new-at, reg-or}
 use Rattle.pool.proofs.Fresh.{members-are}
 use Rattle.rename.specs.Names.{pick}
@@ -23,19 +25,6 @@ use Rattle.rename.specs.Runs.{goes, rd-after, rd-rest, gone-job}
 use Rattle.rename.specs.All.{all-rd, all-jobs}
 use Rattle.rename.proofs.Passing.{funext}
 use Rattle.apply.specs.Apply.{Stands, Given}
-
--- ---- the last writer, one position more
-
-writer-more : (k : ℕ) (fs : List Fact) (f : Fact) (r : ℕ) → last-writer k (fs ++ f ∷ []) r ≡ cond (mem r (f .defs)) (some (k + length fs)) (last-writer k fs r)
-writer-more k [] f r = ap (λ (n : ℕ). cond (mem r (f .defs)) (some n) none) (sym (add-zero k))
-writer-more k (g ∷ fs) f r =
-    ap (λ (o : Option ℕ). elim o as (λ z. Option ℕ) [ some q ↦ some q | none ↦ cond (mem r (g .defs)) (some k) none ]) (writer-more (suc k) fs f r)
-    ∙ go (mem r (f .defs)) ∙ ap (λ (n : ℕ). cond (mem r (f .defs)) (some n) (last-writer k (g ∷ fs) r)) (suc-add k (length fs) ∙ sym (add-suc k (length fs)))
-  where
-    go : (b : Bool) → _≡_ {A = Option ℕ} (elim (cond b (some (suc k + length fs)) (last-writer (suc k) fs r)) as (λ z. Option ℕ) [ some q ↦ some q | none ↦ cond (mem r (g .defs)) (some k) none ])
-        (cond b (some (suc k + length fs)) (last-writer k (g ∷ fs) r))
-    go true = refl
-    go false = refl
 
 module _ (P : Picture) (a : Plan) (m n : ℕ) (w : List ℕ) (s : Stands P a m n w) (g : Given P a m w) (few : m ≤ n) where
   abbrev given : List (ℕ × ℕ)
@@ -50,7 +39,7 @@ module _ (P : Picture) (a : Plan) (m n : ℕ) (w : List ℕ) (s : Stands P a m n
   writer-at : (p r : ℕ) → p < n → last-writer 0 (take (suc p) (a .run)) r ≡ cond (mem r (writes (inst (P .recs) (getD w (10 * p) 0)))) (some p) (last-writer 0 (take p (a .run)) r)
   writer-at p r h =
       let l = s .long in
-      ap (λ (fs : List Fact). last-writer 0 fs r) (take-suc (a .run) p no-fact (omega arith)) ∙ writer-more 0 (take p (a .run)) (fact-at (a .run) p) r
+      ap (λ (fs : List Fact). last-writer 0 fs r) (take-suc (a .run) p no-fact (omega arith)) ∙ writer-snoc 0 (take p (a .run)) (fact-at (a .run) p) r
       ∙ ap₂ (λ (ds : List ℕ) (i : ℕ). cond (mem r ds) (some i) (last-writer 0 (take p (a .run)) r)) (s .defs p h) (zero-add (length (take p (a .run))) ∙ length-take-le p (a .run) (omega arith))
 
   -- a kept position: what it writes keeps its name
@@ -68,11 +57,7 @@ module _ (P : Picture) (a : Plan) (m n : ℕ) (w : List ℕ) (s : Stands P a m n
     where
       one : (b : Bool) → (not b && eqb r (wrote-at w p)) ≡ mem r (cond b [] (wrote-at w p ∷ []))
       one true = refl
-      one false = or-none (eqb r (wrote-at w p))
-        where
-          or-none : (c : Bool) → c ≡ (c || false)
-          or-none true = refl
-          or-none false = refl
+      one false = sym (or-false (eqb r (wrote-at w p)))
 
       test : (not (eqb (wrote-at w p) absent) && eqb r (wrote-at w p)) ≡ mem r (writes (inst (P .recs) (getD w (10 * p) 0)))
       test = one (eqb (wrote-at w p) absent) ∙ ap (mem r) (s .marked .wrotes p h is ∙ s .defs p (omega arith))
@@ -124,18 +109,10 @@ module _ (P : Picture) (a : Plan) (m n : ℕ) (w : List ℕ) (s : Stands P a m n
       (funext (reg-or (new-at w p)) (λ r. lookup given p r) (λ r. sym (g .regs-are p r h)))
 
   goes-is : (p : ℕ) → p < m → goes w p ≡ member (a .set) p
-  goes-is p h = ap not (s .marked .marks p h) ∙ not-not (member (a .set) p)
-    where
-      not-not : (b : Bool) → not (not b) ≡ b
-      not-not true = refl
-      not-not false = refl
-
-  filter-same : (f h : ℕ → Bool) (k i : ℕ) → ((p : ℕ) → i ≤ p → p < i + k → f p ≡ h p) → filter f (range i k) ≡ filter h (range i k)
-  filter-same f h zero i e = refl
-  filter-same f h (suc k) i e = ap₂ (λ (b : Bool) (l : List ℕ). cond b (i ∷ l) l) (e i (omega arith) (omega arith)) (filter-same f h k (suc i) (λ p u v. e p (omega arith) (omega arith)))
+  goes-is p h = ap not (s .marked .marks p h) ∙ Bool·not-not (member (a .set) p)
 
   pub taken-are : m ≤ size P (a .x) → filter (goes w) (upto m) ≡ members P a
-  taken-are h = filter-same (goes w) (member (a .set)) m 0 (λ p u v. goes-is p (omega arith)) ∙ sym (members-are P a m h (s .marked .outside))
+  taken-are h = filter-ext (goes w) (member (a .set)) 0 m (λ p u v. goes-is p (omega arith)) ∙ sym (members-are P a m h (s .marked .outside))
 
   pub jobs-are : m ≤ size P (a .x) → all-jobs w (P .recs) lo m n (starts P (a .into)) (ends P (a .into)) ≡ jobs P a given
   jobs-are h =

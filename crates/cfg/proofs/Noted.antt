@@ -1,7 +1,7 @@
 -- The two words of a block after every block has told where it goes are those of `model`'s predecessors. Assumes nothing.
 use mathlib.Core.Path.{_≡_, refl, sym, ap, ap₂, _∙_, subst}
-use mathlib.Core.Logic.{_⊎_, inl, ⊎-elim}
-use mathlib.Core.Bool.{Bool, true, false, not, cond, _&&_, _||_}
+use mathlib.Core.Logic.{inl, ⊎-elim}
+use mathlib.Core.Bool.{Bool, true, false, not, cond, _&&_, _||_, or-false}
 use mathlib.Core.List.{List, [], _∷_, _++_, append-nil}
 use Prim.Native.Nat.{ℕ, zero, suc, _+_, _*_, _≤_, _<_}
 use native.Mathlib.Nat.{zero-add, le-antisymm}
@@ -13,28 +13,11 @@ use lib.Seq.{getD-set-same, getD-set-other}
 use borrow.Author.Tests.{eq-eqb, ne-eqb}
 use Rattle.words.specs.Lists.{In, upto, mem, filter}
 use Rattle.words.proofs.Bools.{eqb-self, eq?}
-use Rattle.words.proofs.Lists.{range-snoc, filter-append}
+use Rattle.words.proofs.Lists.{range-snoc, filter-append, getD-zeros}
 use Rattle.words.proofs.Members.{filter-in, range-in}
 use Rattle.model.specs.Picture.{Picture, nblocks, succs, preds}
 use Rattle.words.specs.Steps.{steps}
 use Rattle.cfg.specs.Preds.{many, first, Told, Preds, count-after, which-after, noted, all-noted}
-
--- ---- what the words say
-
-pub none-told : (ps : List ℕ) → many ps ≡ 0 → ps ≡ []
-none-told [] e = refl
-none-told (x ∷ []) e = absurd (omega arith)
-none-told (x ∷ y ∷ ps) e = absurd (omega arith)
-
-pub one-told : (ps : List ℕ) → many ps ≡ 1 → ps ≡ first ps ∷ []
-one-told [] e = absurd (omega arith)
-one-told (x ∷ []) e = refl
-one-told (x ∷ y ∷ ps) e = absurd (omega arith)
-
-pub more-told : (ps : List ℕ) → many ps ≡ 2 → 2 ≤ length ps
-more-told [] e = absurd (omega arith)
-more-told (x ∷ []) e = absurd (omega arith)
-more-told (x ∷ y ∷ ps) e = omega arith
 
 -- ---- one that goes there
 
@@ -108,11 +91,7 @@ module _ (c b : ℕ) (ps : List ℕ) (new : (x : ℕ) → In x ps → x ≡ c �
 
   told-list : (ws ss : List ℕ) (seen : Bool) → 2 * b + 1 < length ws → Told ws b (with-c c ps seen) → Told (steps (noted c) ws ss) b (with-c c ps (seen || mem b ss))
   unfolding steps
-  told-list ws [] seen h t = subst (λ (s : Bool). Told ws b (with-c c ps s)) (or-no seen) t
-    where
-      or-no : (s : Bool) → s ≡ (s || false)
-      or-no true = refl
-      or-no false = refl
+  told-list ws [] seen h t = subst (λ (s : Bool). Told ws b (with-c c ps s)) (sym (or-false seen)) t
   told-list ws (a ∷ ss) seen h t = ⊎-elim
       (λ (e : b ≡ a). subst (λ (s : Bool). Told (steps (noted c) (noted c ws a) ss) b (with-c c ps s)) (yes seen (eqb b a) (eq-eqb b a e))
       (told-list (noted c ws a) ss true (rw (length-noted c ws a) h) (subst (λ (x : ℕ). Told (noted c ws x) b (with-c c ps true)) e (told-here ws seen h t))))
@@ -147,11 +126,6 @@ module _ (succ : ℕ → List ℕ) (ws : List ℕ) (b : ℕ) (h : 2 * b + 1 < le
   told-all t (suc c) = subst (Told (steps (noted c) (all-noted succ ws c) (succ c)) b) (one-more c)
       (told-list c b (so-far c) (λ x i e. let z = range-in x 0 c (filter-in (λ x. mem b (succ x)) x (upto c) i .0) in let y = z .1 in omega arith)
       (all-noted succ ws c) (succ c) false (rw (length-noted-all c) h) (subst (Told (all-noted succ ws c) b) (sym (append-nil (so-far c))) (told-all t c)))
-
-getD-zeros : (n p : ℕ) → _≡_ {A = ℕ} (getD (replicate n 0) p 0) 0
-getD-zeros zero p = refl
-getD-zeros (suc n) zero = refl
-getD-zeros (suc n) (suc p) = getD-zeros n p
 
 -- from words that are 0
 pub all-preds : (P : Picture) (k : ℕ) (ws ms : List ℕ) → ws ≡ replicate k 0 → 2 * nblocks P ≤ length ws → ms ≡ all-noted (succs P) ws (nblocks P) → Preds P ms

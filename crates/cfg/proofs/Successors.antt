@@ -6,13 +6,14 @@ use mathlib.Core.List.{List, [], _∷_}
 use Prim.Native.Nat.{ℕ, zero, suc, _+_, _-_, _*_, _/_, _≤_, _<_}
 use native.Mathlib.Omega.{arith}
 use lib.ListN.{getD, length, take, drop, List·getD-eq-default}
-use lib.Seq.{drop-cons, getD-take, getD-drop}
+use lib.Seq.{drop-cons}
 use borrow.Author.Tests.{eq-eqb, ne-eqb}
 use Rattle.model.specs.Picture.{inst, kind, End, goes, parts, cases, stops, end-of, end-succs, size, table, succs}
 use Rattle.inst.specs.Table.{packed, shape}
 use Rattle.inst.specs.Record.{Known, word}
 use Rattle.inst.proofs.Ends.{Ends, ends}
 use Rattle.inst.proofs.Lists.{part-is}
+use Rattle.inst.proofs.Words.{word-is}
 use Rattle.cfg.specs.Drawn.{drawn}
 use Rattle.cfg.specs.Graph.{Tables, Graph}
 
@@ -37,10 +38,6 @@ end-same bounds bounds′ recs recs′ ops ops′ pairs targets (cases t) = refl
 end-same bounds bounds′ recs recs′ ops ops′ pairs targets stops = refl
 
 -- ---- the end of one record
-
--- word 9 + k of a record, from its place in the slice
-payload-at : (recs : List ℕ) (p k : ℕ) → k < 16 → getD recs (16 * p + k) 0 ≡ getD (inst recs p) k 0
-payload-at recs p k h = sym (getD-take 16 (drop (16 * p) recs) k 0 h ∙ getD-drop (16 * p) recs k 0)
 
 take-one : (xs : List ℕ) (a : ℕ) → a < length xs → take 1 (drop a xs) ≡ getD xs a 0 ∷ []
 take-one xs a h = ap (take 1) (drop-cons xs a 0 h)
@@ -75,11 +72,11 @@ module _ (recs pairs targets : List ℕ) (p s : ℕ) (w : Known recs p) (e : s �
       go (inl z) = ap (λ (m : ℕ). take m (drop (16 * p + 9) recs)) z ∙ ap (end-succs (drawn [] recs [] pairs targets)) (sym (how .none z))
       go (inr (inl z)) =
           ap (λ (m : ℕ). take m (drop (16 * p + 9) recs)) z ∙ take-one recs (16 * p + 9) (omega (arith, w .within .whole))
-          ∙ ap (λ (x : ℕ). x ∷ []) (payload-at recs p 9 (omega arith)) ∙ ap (end-succs (drawn [] recs [] pairs targets)) (sym (how .br z))
+          ∙ ap (λ (x : ℕ). x ∷ []) (word-is recs p 9 (omega arith)) ∙ ap (end-succs (drawn [] recs [] pairs targets)) (sym (how .br z))
       go (inr (inr z)) =
           ap (λ (m : ℕ). take m (drop (16 * p + 9) recs)) z ∙ take-two recs (16 * p + 9) (omega (arith, w .within .whole))
-          ∙ ap (λ (x : ℕ). x ∷ getD recs (16 * p + 9 + 1) 0 ∷ []) (payload-at recs p 9 (omega arith))
-          ∙ ap (λ (x : ℕ). getD (inst recs p) 9 0 ∷ x ∷ []) (ap (λ (n : ℕ). getD recs n 0) ten ∙ payload-at recs p 10 (omega arith))
+          ∙ ap (λ (x : ℕ). x ∷ getD recs (16 * p + 9 + 1) 0 ∷ []) (word-is recs p 9 (omega arith))
+          ∙ ap (λ (x : ℕ). getD (inst recs p) 9 0 ∷ x ∷ []) (ap (λ (n : ℕ). getD recs n 0) ten ∙ word-is recs p 10 (omega arith))
           ∙ ap (end-succs (drawn [] recs [] pairs targets)) (sym (how .cond-br z))
         where
           ten : 16 * p + 9 + 1 ≡ 16 * p + 10

@@ -1,5 +1,5 @@
 -- The chain search, step by step. Assumes nothing.
-use mathlib.Core.Bool.{Bool, true, false, not, _&&_}
+use mathlib.Core.Bool.{Bool, true, false, not, _&&_, and-true, and-false}
 use mathlib.Core.List.{List, [], _∷_, _++_}
 use mathlib.Core.Option.{Option, none, some}
 use mathlib.Core.Path.{_≡_, refl, sym, ap, _∙_, subst}
@@ -9,16 +9,16 @@ use borrow.Author.Tests.{eq-eqb, ne-eqb}
 use lib.Dec.{eqb}
 use lib.ListN.{getD, length}
 use Rattle.words.specs.Lists.{mem, same}
+use Rattle.words.proofs.Bools.{and-no}
 use Rattle.model.specs.Picture.{Picture, inst, End, goes, parts, cases, stops, end-of, ending, preds}
 use Rattle.model.specs.Move as M
 use Rattle.model.specs.Move.{chain, chain-from}
-use Rattle.inst.specs.Record.{Within}
 use Rattle.inst.specs.declared.index.BlockId.{BlockId}
 use Rattle.chains.specs.declared.chain.Chain.{Chain}
 use Rattle.chains.specs.declared.chain.MaybeChain.{MaybeChain}
 use Rattle.chains.specs.declared.chain.MaybeChain.the-variants.{Is, Not}
 use Rattle.chains.specs.declared.chain.Ending.the-variants.{Goes, Parts, Stops}
-use Rattle.chains.specs.Chain.{blocks-of, last-of, ended, chain-of, rest, ending-of, end-in, Few, Sound, sound-of, Block, Blocks, Preds, Shown, grown, Next, Found}
+use Rattle.chains.specs.Chain.{blocks-of, last-of, ended, chain-of, rest, ending-of, end-in, Few, Sound, sound-of, Blocks, Preds, Shown, grown, Next, Found}
 use Rattle.chains.proofs.Struct.{last-more, last-below, sound-start, sound-more}
 
 -- ---- a block's end
@@ -140,13 +140,6 @@ module _ (P : Picture) (bs : List ℕ) (cur : ℕ) where
 
 -- ---- over the struct
 
-and-no-left : {a : Bool} (b : Bool) → a ≡ false → (a && b) ≡ false
-and-no-left {a} b e = ap (λ (x : Bool). x && b) e
-
-and-no-right : (a : Bool) {b : Bool} → b ≡ false → (a && b) ≡ false
-and-no-right true e = e
-and-no-right false e = refl
-
 module _ (P : Picture) {c : Chain} (few : Few c) where
   pub rest-start : {x : ℕ} → blocks-of c ≡ x ∷ [] → c .count ≡ 1 → rest P (Is c) ≡ chain P x
   unfolding rest last-of
@@ -178,11 +171,11 @@ module _ (P : Picture) {c : Chain} (few : Few c) where
 
     pub rest-many : c .count < 6 → eqb (length (preds P to)) 1 ≡ false → rest P Not ≡ rest P (Is c)
     unfolding rest
-    rest-many h q = sym (step h false (and-no-left (not (mem to (blocks-of c))) q))
+    rest-many h q = sym (step h false (ap (λ (x : Bool). x && not (mem to (blocks-of c))) q))
 
     pub rest-twice : c .count < 6 → mem to (blocks-of c) ≡ true → rest P Not ≡ rest P (Is c)
     unfolding rest
-    rest-twice h q = sym (step h false (and-no-right (eqb (length (preds P to)) 1) (ap not q)))
+    rest-twice h q = sym (step h false (and-no (eqb (length (preds P to)) 1) (ap not q)))
 
     pub rest-on : (d : Chain) → c .count < 6 → eqb (length (preds P to)) 1 ≡ true → mem to (blocks-of c) ≡ false
         → blocks-of d ≡ blocks-of c ++ to ∷ [] → d .count ≡ c .count + 1 → last-of d ≡ to → rest P (Is d) ≡ rest P (Is c)
@@ -285,25 +278,13 @@ pub sound-ends : {c : Chain} {B : ℕ} (x y : BlockId) → Sound c B → Sound (
 unfolding blocks-of
 sound-ends x y s = record { few = record { least = s .few .least; most = s .few .most }; each = s .each }
 
--- the last record of a block that has one
-pub last-within : {bounds recs : List ℕ} {b p : ℕ} → Block bounds recs b → getD bounds (2 * b) 0 < getD bounds (2 * b + 1) 0 → p ≡ getD bounds (2 * b + 1) 0 - 1 → Within recs p
-last-within k h e = record { whole = omega (arith, k .whole, h, e) }
-
 -- ---- a target
-
-and-end : (b : Bool) → (b && true) ≡ b
-and-end true = refl
-and-end false = refl
 
 sole-is : (ps : List ℕ) (k s l : ℕ) → eqb k 1 ≡ eqb (length ps) 1 → (length ps ≡ 1 → ps ≡ s ∷ []) → (eqb k 1 && eqb s l) ≡ same ps (l ∷ [])
 sole-is [] k s l e h = ap (λ (b : Bool). b && eqb s l) e
 sole-is (x ∷ []) k s l e h =
-    ap (λ (b : Bool). b && eqb s l) e ∙ ap (λ (y : ℕ). eqb y l) (sym (ap (λ (xs : List ℕ). getD xs 0 0) (h refl))) ∙ sym (and-end (eqb x l))
-sole-is (x ∷ y ∷ ps) k s l e h = ap (λ (b : Bool). b && eqb s l) (e ∙ ne-eqb (length (x ∷ y ∷ ps)) 1 (λ q. omega (arith, q))) ∙ sym (no-more (eqb x l))
-  where
-    no-more : (b : Bool) → (b && false) ≡ false
-    no-more true = refl
-    no-more false = refl
+    ap (λ (b : Bool). b && eqb s l) e ∙ ap (λ (y : ℕ). eqb y l) (sym (ap (λ (xs : List ℕ). getD xs 0 0) (h refl))) ∙ sym (and-true (eqb x l))
+sole-is (x ∷ y ∷ ps) k s l e h = ap (λ (b : Bool). b && eqb s l) (e ∙ ne-eqb (length (x ∷ y ∷ ps)) 1 (λ q. omega (arith, q))) ∙ sym (and-false (eqb x l))
 
 module _ (c : Chain) {P : Picture} {words : List ℕ} {B : ℕ} {x : ℕ} {h : Bool} (q : Preds P words B) (l : x < B) (eh : h ≡ mem x (blocks-of c)) where
   pub target-in : h ≡ true → false ≡ (not (mem x (blocks-of c)) && same (preds P x) (last-of c ∷ []))

@@ -1,5 +1,5 @@
 -- The blocks of a chain, by their number. Assumes nothing.
-use mathlib.Core.Bool.{Bool, true, false, _&&_, _||_}
+use mathlib.Core.Bool.{Bool, _&&_, _||_, or-false}
 use mathlib.Core.List.{List, [], _∷_, _++_}
 use mathlib.Core.Logic.{⊎-elim}
 use mathlib.Core.Path.{_≡_, refl, sym, ap, _∙_, subst}
@@ -22,10 +22,6 @@ six a b c d e f = a ∷ b ∷ c ∷ d ∷ e ∷ f ∷ []
 abbrev tests : ℕ → ℕ → ℕ → ℕ → ℕ → ℕ → ℕ → ℕ → Bool
 tests n x a b c d e f = eqb x a || (ltb 1 n && eqb x b || (ltb 2 n && eqb x c || (ltb 3 n && eqb x d || (ltb 4 n && eqb x e || ltb 5 n && eqb x f))))
 
-or-end : (b : Bool) → b ≡ (b || false)
-or-end true = refl
-or-end false = refl
-
 pub has-is : (n x a b c d e f : ℕ) → 1 ≤ n → n ≤ 6 → tests n x a b c d e f ≡ mem x (take n (six a b c d e f))
 has-is zero x a b c d e f l h = absurd (not-suc-le-zero l)
 has-is (suc zero) x a b c d e f l h = refl
@@ -33,7 +29,7 @@ has-is (suc (suc zero)) x a b c d e f l h = refl
 has-is (suc (suc (suc zero))) x a b c d e f l h = refl
 has-is (suc (suc (suc (suc zero)))) x a b c d e f l h = refl
 has-is (suc (suc (suc (suc (suc zero))))) x a b c d e f l h = refl
-has-is (suc (suc (suc (suc (suc (suc zero)))))) x a b c d e f l h = ap (λ (t : Bool). eqb x a || (eqb x b || (eqb x c || (eqb x d || (eqb x e || t))))) (or-end (eqb x f))
+has-is (suc (suc (suc (suc (suc (suc zero)))))) x a b c d e f l h = ap (λ (t : Bool). eqb x a || (eqb x b || (eqb x c || (eqb x d || (eqb x e || t))))) (sym (or-false (eqb x f)))
 has-is (suc (suc (suc (suc (suc (suc (suc n))))))) x a b c d e f l h = absurd (omega (arith, h))
 
 -- ---- how many there are, and the last

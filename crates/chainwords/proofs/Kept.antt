@@ -1,15 +1,14 @@
 -- Parts that are lent leave the rest as it was: rows of bits below them, words behind them; so what is held stays. Assumes nothing.
-use mathlib.Core.Path.{_≡_, refl, sym, ap, _∙_}
-use mathlib.Core.List.{List, _++_}
-use Prim.Native.Nat.{ℕ, _+_, _*_, _/_, _%_, _≤_, _<_}
-use native.Mathlib.Nat.{le-trans, mul-le-mul-left, mul-le-mul-right}
+use mathlib.Core.Path.{_≡_, refl, ap, _∙_}
+use mathlib.Core.List.{List}
+use Prim.Native.Nat.{ℕ, _+_, _*_, _%_, _≤_, _<_}
+use native.Mathlib.Nat.{le-trans, mul-le-mul-left}
 use native.Mathlib.Omega.{arith}
-use borrow.Rule.Slice.PartMut.{putMid, postOf}
-use lib.Dec.{eqb}
 use lib.ListN.{getD, length, take, drop}
-use lib.Seq.{length-take-le, take-at, drop-at, take-take, getD-take}
-use Rattle.words.specs.Bits.{digit, digit-in, is-in}
+use Rattle.words.specs.Bits.{is-in}
 use Rattle.words.proofs.Parts.{row-fits}
+use Rattle.words.proofs.Lists.{front-same}
+use Rattle.words.proofs.Rows.{in-front}
 use Rattle.model.specs.Picture.{Picture, nblocks}
 use Rattle.model.specs.Refusal.{records}
 use Rattle.model.specs.Analyse.{Facts}
@@ -17,32 +16,12 @@ use Rattle.laws.proofs.Accepted as laws
 use Rattle.laws.proofs.Sizes.{regs-lent}
 use Rattle.chainwords.specs.declared.sizes.Sizes.{Sizes}
 use Rattle.chainwords.specs.Work.{width, at-regs, reg-words, Held, Lists}
-use Rattle.chainwords.proofs.Standing.{front-same, same-rows, Firm, firsts-before, begun-kept}
-
--- ---- lists
-
--- a part that was put back
-pub part-put : {A : Type 0} (a k : ℕ) (xs ys : List A) → a ≤ length xs → length ys ≡ k → take k (drop a (putMid a k xs ys)) ≡ ys
-part-put a k xs ys h e = ap (take k) (drop-at (take a xs) (ys ++ postOf a k xs) a (length-take-le a xs h)) ∙ take-at ys (postOf a k xs) k e
-
-pub take-less : {A : Type 0} (a b : ℕ) (xs ys : List A) → a ≤ b → take b xs ≡ take b ys → take a xs ≡ take a ys
-take-less a b xs ys h e = sym (take-take a b xs h) ∙ ap (take a) e ∙ take-take a b ys h
+use Rattle.chainwords.proofs.Standing.{same-rows, Firm, firsts-before, begun-kept}
 
 -- ---- rows of bits
 
-pub in-below : (a : ℕ) (xs ys : List ℕ) → take a xs ≡ take a ys → (q : ℕ) → q < 64 * a → is-in xs q ≡ is-in ys q
-unfolding is-in digit-in
-in-below a xs ys e q h =
-    let l : q / 64 < a = omega arith in
-    ap (λ (x : ℕ). eqb (digit x (q % 64)) 1) (sym (getD-take a xs (q / 64) 0 l) ∙ ap (λ (z : List ℕ). getD z (q / 64) 0) e ∙ getD-take a ys (q / 64) 0 l)
-
 pub row-low : {b w v : ℕ} (B : ℕ) → b < 4 * B → w ≤ v → b * w + w ≤ 4 * B * v
 row-low {b} {w} {v} B h k = le-trans (row-fits w h) (mul-le-mul-left (4 * B) k)
-
--- ---- the sizes of an accepted picture
-
-pub size-low : {x y : ℕ} → x ≤ 4096 → y ≤ 1024 → 4 * x * y ≤ 16777216
-size-low {x} {y} h k = let z : 4 * x ≤ 16384 = omega arith in le-trans (mul-le-mul-left (4 * x) k) (mul-le-mul-right 1024 z)
 
 module _ {P : Picture} {bounds recs ops : List ℕ} {s : Sizes} {w64 w32 : ℕ} (l : Lists P bounds recs ops s w64 w32) where
   pub ok : laws.Accepted P
@@ -60,7 +39,7 @@ module _ {P : Picture} {bounds recs ops : List ℕ} {s : Sizes} {w64 w32 : ℕ} 
       (flags : (r : ℕ) → r < length (P .types) → getD (reg-words P work64′) r 0 % 16 ≡ getD (reg-words P work64) r 0 % 16)
       (behind : drop (8000 + length (P .types)) work32′ ≡ drop (8000 + length (P .types)) work32) where
     same-row : (b r : ℕ) → b < 4 * nblocks P → r < 64 * width (P .regs) → is-in work64′ (64 * (b * width (P .regs)) + r) ≡ is-in work64 (64 * (b * width (P .regs)) + r)
-    same-row b r i j = let z = row-low (nblocks P) i width-less in in-below (at-regs P) work64′ work64 rows (64 * (b * width (P .regs)) + r) (omega (arith, z))
+    same-row b r i j = let z = row-low (nblocks P) i width-less in in-front work64′ work64 (at-regs P) (64 * (b * width (P .regs)) + r) rows (omega (arith, z))
 
     firm : Firm P work64 work64′
     firm = record {

@@ -3,7 +3,7 @@
 use mathlib.Core.Path.{_≡_, refl, sym, ap, _∙_, subst}
 use mathlib.Core.List.{List, [], _∷_}
 use Prim.Native.Nat.{ℕ, _+_, _-_, _*_, _≤_, _<_}
-use native.Mathlib.Nat.{mul-assoc, mul-le-mul-left, mul-le-mul-right, le-trans}
+use native.Mathlib.Nat.{mul-assoc, mul-le-mul, mul-le-mul-left}
 use native.Mathlib.Omega.{arith}
 use lib.Dec.{eqb}
 use lib.ListN.{getD, length, take, drop, length-drop}
@@ -61,22 +61,14 @@ row-before {R = R} r h =
     let c = r .four in
     omega arith
 
--- products that fit a word
-small : (a b m n : ℕ) → a ≤ m → b ≤ n → a * b ≤ m * n
-small a b m n h k = le-trans (mul-le-mul-left a k) (mul-le-mul-right n h)
-
 pub rows-small : {B R K w64 w32 b r w : ℕ} → Room B R K w64 w32 → b ≡ B → r ≡ R → w ≡ width r → b * w ≤ 4194304
 rows-small {b = b} {w = w} h eb er ew =
     let x = h .blocks in
     let y = h .lent in
     let z = h .few in
-    small b w 4096 1024 (omega arith) (omega arith)
-
-pub stamps-small : {B R K w64 w32 b v : ℕ} → Room B R K w64 w32 → b ≡ B → v ≡ width K → 4 * b * v ≤ 16777216
-stamps-small {b = b} {v = v} h eb ev =
-    let x = h .blocks in
-    let z = h .few in
-    small (4 * b) v 16384 1024 (omega arith) (omega arith)
+    let k : b ≤ 4096 = omega arith in
+    let l : w ≤ 1024 = omega arith in
+    mul-le-mul k l
 
 -- ---- what is held stays
 
@@ -85,9 +77,6 @@ pub record Same (P : Picture) (xs ys : List ℕ) : Type 0 where
   pub rows : (i : ℕ) → i < at-needed P → getD ys i 0 ≡ getD xs i 0
   pub firsts : (i : ℕ) → at-needed P + width (P .regs) ≤ i → i < at-regs P → getD ys i 0 ≡ getD xs i 0
   pub regs : (i : ℕ) → i < length (P .types) → getD ys (at-regs P + i) 0 ≡ getD xs (at-regs P + i) 0
-
-pub same-on : {P : Picture} {xs ys zs : List ℕ} → Same P xs ys → Same P ys zs → Same P xs zs
-same-on a b = record { rows = λ i h. b .rows i h ∙ a .rows i h; firsts = λ i h j. b .firsts i h j ∙ a .firsts i h j; regs = λ i h. b .regs i h ∙ a .regs i h }
 
 pub held-same : {P : Picture} {G : Facts} {xs ys work32 : List ℕ} → Accepted P → Same P xs ys → Held P G xs work32 → Held P G ys work32
 held-same {P} {G} {xs} {ys} {work32} ok s h = record {

@@ -2,12 +2,12 @@
 -- registers, the predecessors. Assumes nothing.
 use mathlib.Core.Path.{_≡_, sym, ap, _∙_, subst}
 use mathlib.Core.List.{List, []}
-use Prim.Native.Nat.{ℕ, _+_, _*_, _-_, _%_, _≤_, _<_}
+use Prim.Native.Nat.{ℕ, _+_, _*_, _%_, _≤_, _<_}
 use native.Mathlib.Nat.{add-mul, mul-assoc, mul-le-mul-left}
 use native.Mathlib.Omega.{arith}
 use lib.ListN.{getD, length, take, drop}
-use lib.Seq.{drop-drop, getD-take, getD-drop}
 use Rattle.words.proofs.Parts.{getD-part, row-fits}
+use Rattle.words.proofs.Lists.{front-same, back-same}
 use Rattle.model.specs.Picture.{Picture, nblocks}
 use Rattle.model.specs.Refusal.{records, refusal}
 use Rattle.model.specs.Analyse.{Facts}
@@ -19,22 +19,6 @@ use Rattle.flow.proofs.Standing.{rows-same}
 use Rattle.flow.proofs.Whole.{rows-whole, rows-drawn, wrote-rows}
 use Rattle.chains.specs.Chain.{Preds}
 use Rattle.chainwords.specs.Work.{width, at-needed, at-regs, at-stamps, reg-words, pred-words, Begun, Held}
-
--- ---- the same words
-
-pub front-same : (k : ℕ) (xs ys : List ℕ) → take k ys ≡ take k xs → (i : ℕ) → i < k → getD ys i 0 ≡ getD xs i 0
-front-same k xs ys e i h = sym (getD-take k ys i 0 h) ∙ ap (λ (l : List ℕ). getD l i 0) e ∙ getD-take k xs i 0 h
-
-pub back-same : (k : ℕ) (xs ys : List ℕ) → drop k ys ≡ drop k xs → (i : ℕ) → k ≤ i → getD ys i 0 ≡ getD xs i 0
-back-same k xs ys e i h =
-    let z : k + (i - k) ≡ i = omega arith in
-    subst (λ (j : ℕ). getD ys j 0 ≡ getD xs j 0) z (sym (getD-drop k ys (i - k) 0) ∙ ap (λ (l : List ℕ). getD l (i - k) 0) e ∙ getD-drop k xs (i - k) 0)
-
--- what lies behind stays if more does
-pub drop-more : {A : Type 0} (a b : ℕ) (xs ys : List A) → a ≤ b → drop a xs ≡ drop a ys → drop b xs ≡ drop b ys
-drop-more a b xs ys h e =
-    let z : a + (b - a) ≡ b = omega arith in
-    subst (λ (n : ℕ). drop n xs ≡ drop n ys) z (sym (drop-drop (b - a) a xs) ∙ ap (drop (b - a)) e ∙ drop-drop (b - a) a ys)
 
 -- ---- rows of w words
 

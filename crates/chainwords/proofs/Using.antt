@@ -11,8 +11,9 @@ use Rattle.words.specs.Lists.{all, range}
 use Rattle.words.specs.Bits.{is-in}
 use Rattle.words.specs.Last.{last-below}
 use Rattle.words.proofs.Lasts.{last-passes}
-use Rattle.words.proofs.Lists.{getD-made}
+use Rattle.words.proofs.Lists.{getD-made, take-less, drop-more}
 use Rattle.words.proofs.Parts.{part-first}
+use Rattle.words.proofs.Rows.{in-front}
 use Rattle.model.specs.Picture.{Picture, nblocks, places, size}
 use Rattle.model.specs.Live.{live-in}
 use Rattle.model.specs.Analyse.{Facts}
@@ -33,8 +34,7 @@ use Rattle.chainwords.specs.Work.{width, at-regs, reg-words, copied-word
 use Rattle.chainwords.specs.Puts.{use-of, UseAsked, Lasting}
 use Rattle.chainwords.specs.Along.{Along, Planning, Numbered, Lasts, Used}
 use Rattle.chains.specs.Chain.{chain-in}
-use Rattle.chainwords.proofs.Standing.{drop-more}
-use Rattle.chainwords.proofs.Kept.{take-less, in-below, row-low, ok, at-is, held-kept}
+use Rattle.chainwords.proofs.Kept.{row-low, ok, at-is, held-kept}
 use Rattle.chainwords.proofs.Rooms.{Room, room}
 use Rattle.chainwords.proofs.Putting.{lasting-behind}
 
@@ -165,7 +165,7 @@ module _ {bounds recs ops : List ℕ} {s : Sizes} {c : Chain} {w work64 work32 :
                   let y = into-low in
                   let z = room l in
                   let q = row-low {b = into} {w = width (P .regs)} {v = width (length (P .types))} (nblocks P) (omega arith) (omega (arith, z .lent, l .regs-are, l .lent-are)) in
-                  in-below (at-regs P) work64′ work64 rows-same (64 * o + r) (omega (arith, q))
+                  in-front work64′ work64 (at-regs P) (64 * o + r) rows-same (omega (arith, q))
                   ∙ h .live .row into r (omega arith) (omega arith)
                   ∙ sym (getD-made (live-in P (b .into)) false 0 (P .regs) r i ∙ ap₂ (live-in P) ei (zero-add r))
 

@@ -6,7 +6,6 @@ use lib.ListN.{getD, length, drop}
 use Rattle.model.specs.Picture.{Picture, absent, nblocks, size}
 use Rattle.model.specs.Analyse.{Facts}
 use Rattle.model.specs.Legal.{fact-at}
-use Rattle.model.specs.Move as M
 use Rattle.model.specs.Move.{Plan, chain-places, run-of, last-use}
 use Rattle.pool.specs.Pool.{last-at, wrote-at}
 use Rattle.pool.specs.Plan.{read-there}
@@ -14,7 +13,7 @@ use Rattle.apply.specs.Apply.{Stands}
 use Rattle.facts.specs.declared.Fact as F
 use Rattle.analyse.specs.Cells.{cells}
 use Rattle.chains.specs.declared.chain.Chain.{Chain}
-use Rattle.chains.specs.Chain.{chain-in, blocks-of, last-of, Sound}
+use Rattle.chains.specs.Chain.{chain-in, blocks-of, Sound}
 use Rattle.legalset.specs.Chain.{cell, Safe, Brief, Told}
 use Rattle.summary.specs.Passes.{Ended}
 use Rattle.chainwords.specs.declared.sizes.Sizes.{Sizes}

@@ -1,9 +1,9 @@
--- What the absence of causes 1, 2 and 4 gives, and the product of cause 10. Assumes nothing.
+-- What the absence of causes 1, 2 and 4 gives. Assumes nothing.
 use mathlib.Core.Path.{_≡_, sym, _∙_}
 use mathlib.Core.Bool.{Bool, false, _||_}
 use mathlib.Core.List.{List}
 use Prim.Native.Nat.{ℕ, _*_, _/_, _≤_, _<_}
-use native.Mathlib.Nat.{mul-le-mul-right, le-of-eq}
+use native.Mathlib.Nat.{le-of-eq}
 use native.Mathlib.Omega.{arith}
 use lib.Dec.{eqb, ltb}
 use lib.ListN.{getD, length}
@@ -51,7 +51,3 @@ known recs p w e f =
     let a : ltb 100 (getD (inst recs p) 0 0) ≡ false = or-left _ _ (or-left _ _ (or-left _ _ (sym e ∙ f))) in
     let b = ltb-false 100 (getD (inst recs p) 0 0) a in
     record { within = w; kind = omega arith }
-
--- cause 10: the product does not wrap
-pub rows-fit : (b w : ℕ) → b ≤ 4096 → w ≤ 1024 → 4 * b * w ≤ 16777216
-rows-fit b w h k = let z : 4 * b * w ≤ 16384 * w = mul-le-mul-right w (omega arith) in omega arith

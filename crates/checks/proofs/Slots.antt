@@ -1,6 +1,6 @@
 -- The five slots of a record, one by one. Assumes nothing.
 use mathlib.Core.Path.{_≡_, refl, sym, ap, _∙_}
-use mathlib.Core.Bool.{Bool, true, false, not, _&&_, _||_, true≢false}
+use mathlib.Core.Bool.{Bool, true, false, not, _&&_, _||_, true≢false, or-false}
 use mathlib.Core.List.{List, [], _∷_}
 use Prim.Native.Nat.{ℕ, zero, suc, _+_, _<_}
 use native.Mathlib.Nat.{not-suc-le-zero, le-of-suc-le-suc}
@@ -78,17 +78,13 @@ module _ (recs : List ℕ) (p R : ℕ) (w : Within recs p) where
   end : rest 5 ≡ false
   end = ap (bad-slots R (drop 5 (roles i))) (drop-of-length-le (slots i) {i = 5} (rw (slots-long recs p w) (omega arith))) ∙ over R (drop 5 (roles i))
 
-  or-last : (b : Bool) → (b || false) ≡ b
-  or-last true = refl
-  or-last false = refl
-
   pub five-slots : bad-slots R (roles i) (slots i) ≡ (bad 0 || (bad 1 || (bad 2 || (bad 3 || bad 4))))
   five-slots =
       next 0 (omega arith) ∙ ap (λ (b : Bool). bad 0 || b)
       (next 1 (omega arith) ∙ ap (λ (b : Bool). bad 1 || b)
       (next 2 (omega arith) ∙ ap (λ (b : Bool). bad 2 || b)
       (next 3 (omega arith) ∙ ap (λ (b : Bool). bad 3 || b)
-      (next 4 (omega arith) ∙ ap (λ (b : Bool). bad 4 || b) end ∙ or-last (bad 4)))))
+      (next 4 (omega arith) ∙ ap (λ (b : Bool). bad 4 || b) end ∙ or-false (bad 4)))))
 
   -- where none is odd, none is bad
   module _ (u : ℕ) (e : u ≡ uses-of i) where

@@ -13,10 +13,10 @@ use Rattle.model.specs.declared.Answer.the-variants as answer
 use Rattle.model.specs.Picture.{Picture, nblocks}
 use Rattle.model.specs.Refusal.{refusal, records}
 use Rattle.model.specs.Analyse.{facts}
-use Rattle.model.specs.Pass.{Outcome, used, ends-in, gated, sink, sink-all, most-rounds}
+use Rattle.model.specs.Pass.{Outcome, used, gated, sink, sink-all, most-rounds}
 use Rattle.laws.proofs.Accepted.{accepted, needed-records}
 use Rattle.laws.proofs.Sizes.{few-blocks, recs-length}
-use Rattle.laws.proofs.Rounds.{sink-gated, sink-through}
+use Rattle.laws.proofs.Rounds.{sink-refused, sink-gated, sink-through}
 use Rattle.checks.specs.Causes.{picture-of}
 use Rattle.picture.proofs.Chain.{whatever-replay, whatever-rest}
 use Rattle.chainwords.specs.declared.sizes.Sizes.{Sizes}
@@ -31,17 +31,6 @@ use Rattle.driver.specs.Judge.{judged, Judged}
 
 -- ---- refusals and gates
 
-module _ (P : Picture) (w64 w32 nf : ℕ) where
-  abbrev by-refusal : ℕ → Outcome
-  by-refusal n = elim n as (λ z. Outcome) [ suc n ↦ ends-in (answer.Refused (suc n)) P | zero ↦ elim (gated P) as (λ z. Outcome) [ true ↦ ends-in (answer.Done (used 0 P)) P | false ↦ sink-all most-rounds 0 (facts P) P ] ]
-
-  by-cause : (n : ℕ) → (n ≡ 0 → ⊥) → by-refusal n ≡ ends-in (answer.Refused n) P
-  by-cause zero h = absurd (h refl)
-  by-cause (suc n) h = refl
-
-  pub refused : (n : ℕ) → n ≡ refusal P w64 w32 nf → (n ≡ 0 → ⊥) → sink P w64 w32 nf ≡ ends-in (answer.Refused n) P
-  refused n e h = ap by-refusal (sym e) ∙ by-cause n h
-
 module _ (bounds recs locs vias types : List ℕ) (regs : ℕ) (ops : List ℕ) (opers : ℕ) (pairs targets : List ℕ) (w64 w32 nf : ℕ) where
   abbrev lent : List ℕ → Picture
   lent replay = picture-of bounds recs locs vias types regs ops opers pairs targets replay
@@ -54,7 +43,7 @@ module _ (bounds recs locs vias types : List ℕ) (regs : ℕ) (ops : List ℕ) 
   gates-ask ok = let h = accepted (lent []) w64 w32 nf ok in (few-blocks (lent []) h, le-of-eq (sym (recs-length (lent []) h)))
 
   pub judge-refused : (n : ℕ) → n ≡ refusal (lent []) w64 w32 nf → (n ≡ 0 → ⊥) → Judged bounds recs locs vias types regs ops opers pairs targets w64 w32 nf (Ends (answer.Refused n))
-  judge-refused n e h = record { is = λ replay. (refused (lent replay) w64 w32 nf n (e ∙ whatever-replay (lent replay) w64 w32 nf) h, refl) }
+  judge-refused n e h = record { is = λ replay. (sink-refused (lent replay) w64 w32 nf n (e ∙ whatever-replay (lent replay) w64 w32 nf) h, refl) }
 
   pub judge-gated : refusal (lent []) w64 w32 nf ≡ 0 → gated plain ≡ true
       → Judged bounds recs locs vias types regs ops opers pairs targets w64 w32 nf (Ends (answer.Done (record { rounds = 0; registers = regs; operands = opers })))

@@ -1,6 +1,6 @@
 -- Origins by their numbers: equal origins have equal numbers, and what the code tests of a number is what `model` says of the
 -- origin. Assumes nothing.
-use mathlib.Core.Bool.{Bool, true, false, cond, _&&_, _||_}
+use mathlib.Core.Bool.{Bool, true, false, cond, _&&_, _||_, or-false}
 use mathlib.Core.List.{List, [], _∷_}
 use mathlib.Core.Path.{_≡_, refl, sym, ap, _∙_, subst}
 use Prim.Native.Nat.{ℕ, zero, suc, _+_, _*_, _/_, _%_, _≤_}
@@ -9,11 +9,11 @@ use native.Mathlib.Omega.{arith}
 use borrow.Author.Tests.{eq-eqb, ne-eqb, eqb-true, le-leb}
 use lib.Dec.{eqb, leb}
 use Rattle.words.specs.Lists.{same}
-use Rattle.words.proofs.Bools.{true-T, both-true, clash}
+use Rattle.words.proofs.Bools.{true-T, both-true, clash, and-no}
 use Rattle.words.proofs.Lists.{same-eq}
-use Rattle.model.specs.Analyse.{Org, Unknown, Frame, Temp, Img, org-code, same-org, alias, inside, sized}
+use Rattle.model.specs.Analyse.{Org, Unknown, Frame, Temp, Img, org-code, same-org, alias, inside, sized, movable}
 use Rattle.model.specs.Legal.{readable, steady}
-use Rattle.effects.specs.Origin.{org-at}
+use Rattle.effects.specs.Origin.{org-at, class-at, num}
 
 pub temp-at : (k : ℕ) → org-at (4 + 2 * k) ≡ Temp k
 unfolding org-at
@@ -96,20 +96,12 @@ at-frame : (r : ℕ) → same-org (org-at r) Frame ≡ eqb r 3
 unfolding org-at
 at-frame r = same-at r 3
 
-or-end : (b : Bool) → (b || false) ≡ b
-or-end true = refl
-or-end false = refl
-
 or-yes : (a : Bool) {b : Bool} → b ≡ true → (a || b) ≡ true
 or-yes true e = refl
 or-yes false e = e
 
 or-no : {a b : Bool} → a ≡ false → b ≡ false → (a || b) ≡ false
 or-no {a} {b} e f = ap (λ (x : Bool). x || b) e ∙ f
-
-and-no : (a : Bool) {b : Bool} → b ≡ false → (a && b) ≡ false
-and-no true e = e
-and-no false e = refl
 
 -- ---- what the code tests
 
@@ -124,8 +116,8 @@ module _ (r : ℕ) where
   alias-by : (w : ℕ) → Shape w → eqb w 0 || eqb r 0 || (leb 3 w && eqb r w) ≡ alias (org-at w) (org-at r)
   unfolding org-at
   alias-by w unknown = refl
-  alias-by w ro = or-end (eqb r 0) ∙ sym (at-unknown r)
-  alias-by w heap = or-end (eqb r 0) ∙ sym (at-unknown r)
+  alias-by w ro = or-false (eqb r 0) ∙ sym (at-unknown r)
+  alias-by w heap = or-false (eqb r 0) ∙ sym (at-unknown r)
   alias-by w frame = ap (λ (b : Bool). b || eqb r 3) (sym (at-unknown r)) ∙ ap (λ (b : Bool). same-org (org-at r) Unknown || b) (sym (at-frame r))
   alias-by w (temp k) = block-alias (4 + 2 * k) (Temp k) (temp-at k) (omega arith) ∙ sym (ap (λ (o : Org). alias o (org-at r)) (temp-at k))
   alias-by w (img k) = block-alias (5 + 2 * k) (Img k) (img-at k) (omega arith) ∙ sym (ap (λ (o : Org). alias o (org-at r)) (img-at k))
@@ -201,3 +193,21 @@ agree-yes a b e = sym (ap (λ (t : Bool). cond t (org-at a) Unknown) (same-at a 
 pub agree-no : (a b : ℕ) → (a ≡ b → ⊥) → org-at 0 ≡ cond (same-org (org-at a) (org-at b)) (org-at a) Unknown
 unfolding org-at
 agree-no a b n = sym (ap (λ (t : Bool). cond t (org-at a) Unknown) (same-at a b ∙ ne-eqb a b n))
+
+-- ---- a class and a flag, by their numbers
+
+pub movable-is : (c : ℕ) → movable (class-at c) ≡ eqb c 1
+unfolding class-at
+movable-is zero = refl
+movable-is (suc zero) = refl
+movable-is (suc (suc c)) = sym (ne-eqb (suc (suc c)) 1 (λ e. omega arith))
+
+pub num-le : (b : Bool) → num b ≤ 1
+unfolding num
+num-le true = omega arith
+num-le false = omega arith
+
+pub num-is : (b : Bool) → eqb (num b) 1 ≡ b
+unfolding num
+num-is true = refl
+num-is false = refl

@@ -3,11 +3,11 @@
 use mathlib.Core.Path.{_≡_, sym, ap, _∙_}
 use mathlib.Core.Logic.{_⊎_, inl, inr, ⊎-elim}
 use mathlib.Core.List.{List, []}
-use Prim.Native.Nat.{ℕ, _+_, _-_, _*_, _/_, _%_, _≤_, _<_}
-use native.Mathlib.Nat.{add-mul, add-assoc, zero-add}
+use Prim.Native.Nat.{ℕ, _+_, _*_, _/_, _%_, _≤_, _<_}
+use native.Mathlib.Nat.{add-mul, zero-add}
 use native.Mathlib.Omega.{arith}
 use lib.ListN.{length, getD, set, take, drop, length-drop}
-use lib.Seq.{sets, getD-drop, length-take-le}
+use lib.Seq.{sets, length-take-le}
 use Rattle.words.specs.Bits.{digit, is-in}
 use Rattle.words.proofs.Bools.{lt?, hit-inj}
 use Rattle.words.proofs.Copying.{getD-sets-in, getD-sets-after, drop-sets, slide-more}
@@ -72,16 +72,6 @@ module _ (P : Picture) (w c : ℕ) (l m : List ℕ) where
   rows-else b hb hc e o = rows-same
       (λ i h. o .same ((2 * n + 1 + c) * w + i) (inr (omega (arith, apart-rows n w b c hb))) (other-row i (λ k. e (omega arith)) h))
       (λ i h. o .same ((n + c) * w + i) (other-row i (λ k. e (omega arith)) h) (inl (omega (arith, apart-rows n w c b hc))))
-
-  -- only the rows of live-in changed
-  pub rows-behind : drop (n * w) m ≡ drop (n * w) l → Rows P w c l → Rows P w c m
-  rows-behind e = rows-same (λ i h. go (2 * n + 1 + c) i (omega (arith, add-mul n (n + 1 + c) w, add-assoc n n (1 + c)))) (λ i h. go (n + c) i (after-live n w c))
-    where
-      go : (x i : ℕ) → n * w ≤ x * w → getD m (x * w + i) 0 ≡ getD l (x * w + i) 0
-      go x i h =
-          let z : x * w + i ≡ n * w + (x * w - n * w + i) = omega arith in
-          ap (λ (t : ℕ). getD m t 0) z ∙ sym (getD-drop (n * w) m (x * w - n * w + i) 0) ∙ ap (λ (t : List ℕ). getD t (x * w - n * w + i) 0) e
-          ∙ getD-drop (n * w) l (x * w - n * w + i) 0 ∙ ap (λ (t : ℕ). getD l t 0) (sym z)
 
 -- ---- live-in from the rows
 

@@ -61,6 +61,3 @@ module _ (P : Picture) where
   -- the rows of all blocks
   pub wrote-rows : (w : ℕ) (bits : List ℕ) → ((b : ℕ) → b < nblocks P → Rows P w b bits) → Wrote P w bits
   wrote-rows w bits l = record { row = λ b r h i. l b h .wrote r i }
-
-  pub wrote-whole : (ops : List ℕ) (w : ℕ) (bits : List ℕ) → Wrote (Q ops) w bits → Wrote P w bits
-  wrote-whole ops w bits l = record { row = l .row }

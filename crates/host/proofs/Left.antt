@@ -28,7 +28,7 @@ use Rattle.host.specs.Host.{put-by, put-left, left-by, ran-by, Ran-as, R
 use Rattle.laws.proofs.Accepted.{Accepted, accepted}
 use Rattle.laws.proofs.Sizes.{regs-lent, opers-lent}
 use Rattle.laws.proofs.Keeps.{keeps}
-use Rattle.laws.proofs.Rounds.{Next, no-move, no-room, goes-on, next, sink-done, sink-short, sink-more, sink-gated, sink-through}
+use Rattle.laws.proofs.Rounds.{Next, no-move, no-room, goes-on, next, sink-done, sink-short, sink-more, sink-gated, sink-through, sink-refused}
 
 -- the tables stay as they were
 pub record Same (P Q : Picture) : Type 0 where
@@ -100,12 +100,6 @@ pub data Came (P : Picture) (o : Outcome) : Type 0 where
   stopped : (n : ℕ) → n ≤ 12 → o ≡ ends-in (Refused n) P → Came P o
 
 module _ (P : Picture) (w64 w32 nf : ℕ) where
-  abbrev by-refusal : ℕ → Outcome
-  by-refusal n = elim n as (λ z. Outcome) [
-    | suc n ↦ ends-in (Refused (suc n)) P
-    | zero ↦ elim (gated P) as (λ z. Outcome) [ true ↦ ends-in (Done (used 0 P)) P | false ↦ sink-all most-rounds 0 (facts P) P ]
-  ]
-
   through : refusal P w64 w32 nf ≡ 0 → (gated P ≡ true) ⊎ (gated P ≡ false) → Came P (sink P w64 w32 nf)
   through z (inl e) = subst (Came P) (sym (sink-gated P w64 w32 nf z e)) (went (ends 8 0 P (accepted P w64 w32 nf z) (Done (used 0 P)) (inl refl)))
   through z (inr e) = subst (Came P) (sym (sink-through P w64 w32 nf z e)) (went (all-went most-rounds 0 (facts P) P (accepted P w64 w32 nf z)))
@@ -115,7 +109,7 @@ module _ (P : Picture) (w64 w32 nf : ℕ) where
 
   by-number : (n : ℕ) → refusal P w64 w32 nf ≡ n → Came P (sink P w64 w32 nf)
   by-number zero z = through z (bool? (gated P))
-  by-number (suc n) z = stopped (suc n) (refused-low (suc n) z) (ap by-refusal z)
+  by-number (suc n) z = stopped (suc n) (refused-low (suc n) z) (sink-refused P w64 w32 nf (suc n) (sym z) (λ (q : suc n ≡ 0). omega arith))
 
   pub came : Came P (sink P w64 w32 nf)
   came = by-number (refusal P w64 w32 nf) refl

@@ -9,11 +9,12 @@ use Rattle.model.specs.Kinds.{Stmt, kinds, kind-of, place, Br, CondBr, Case}
 use Rattle.model.specs.Picture.{Inst, kind, is-kind, End, goes, parts, cases, stops, end-of}
 use Rattle.model.proofs.Table.{places}
 use Rattle.inst.specs.Table.{packed, shape}
-use Rattle.inst.proofs.Lists.{getD-map-in, getD-upto}
+use Rattle.inst.proofs.Lists.{getD-upto}
 use Rattle.inst.proofs.Rows.{shape-is}
+use Rattle.words.proofs.Lists.{getD-map}
 
 pub place-is : (w : ℕ) → w < 101 → place (kind-of w) ≡ w
-place-is w h = sym (getD-map-in place kinds Stmt 0 w h) ∙ ap (λ (l : List ℕ). getD l w 0) places ∙ getD-upto 101 w h
+place-is w h = sym (getD-map place Stmt 0 kinds w h) ∙ ap (λ (l : List ℕ). getD l w 0) places ∙ getD-upto 101 w h
 
 -- the end that each shape stands for
 pub record Ends (s : ℕ) (i : Inst) : Type 0 where

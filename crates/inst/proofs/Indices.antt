@@ -5,39 +5,16 @@ use Prim.Native.Nat.{ℕ, _≤_, _<_}
 use native.Mathlib.Omega.{arith}
 use lib.Dec.{ltb}
 use borrow.Author.Tests.{ltb-true, ltb-false}
-use Rattle.inst.specs.Index.{reg-of, block-of, pick-reg, pick-block}
-use Rattle.inst.specs.declared.index.Reg.{Reg}
+use Rattle.inst.specs.Index.{block-of, pick-block}
 use Rattle.inst.specs.declared.index.BlockId.{BlockId}
-use Rattle.inst.specs.declared.index.MaybeReg.{MaybeReg}
-use Rattle.inst.specs.declared.index.MaybeReg.the-variants as R
 use Rattle.inst.specs.declared.index.MaybeBlock.{MaybeBlock}
 use Rattle.inst.specs.declared.index.MaybeBlock.the-variants as B
-
-abbrev reg-number : MaybeReg → ℕ
-reg-number (R.Is r) = r .0
-reg-number R.Not = 0
 
 abbrev block-number : MaybeBlock → ℕ
 block-number (B.Is b) = b .0
 block-number B.Not = 0
 
 module _ (n count : ℕ) where
-  pub is-reg : (r : Reg) → reg-of n count ≡ R.Is r → (n ≡ r .0) × (n < count)
-  unfolding reg-of
-  is-reg r = go (ltb n count) refl
-    where
-      go : (b : Bool) → ltb n count ≡ b → pick-reg b (R.Is (record { 0 = n })) R.Not ≡ R.Is r → (n ≡ r .0) × (n < count)
-      go true e q = (ap reg-number q, ltb-true n count e)
-      go false e q = let z : _≡_ {A = ℕ} 0 1 = cc in absurd (omega arith)
-
-  pub not-reg : reg-of n count ≡ R.Not → count ≤ n
-  unfolding reg-of
-  not-reg = go (ltb n count) refl
-    where
-      go : (b : Bool) → ltb n count ≡ b → pick-reg b (R.Is (record { 0 = n })) R.Not ≡ R.Not → count ≤ n
-      go true e q = let z : _≡_ {A = ℕ} 0 1 = cc in absurd (omega arith)
-      go false e q = ltb-false n count e
-
   pub is-block : (r : BlockId) → block-of n count ≡ B.Is r → (n ≡ r .0) × (n < count)
   unfolding block-of
   is-block r = go (ltb n count) refl

@@ -10,18 +10,19 @@ use lib.Seq.{getD-append-add}
 use borrow.Author.Tests.{eqb-true}
 use Rattle.words.specs.Lists.{all, conj}
 use Rattle.words.proofs.Bools.{clash}
+use Rattle.words.proofs.Lists.{getD-map}
 use Rattle.model.specs.Kinds.{Kind, Stmt, Slot, Row, row, kinds, kind-of}
 use Rattle.inst.specs.Table.{slot-code, arm-code, arm-at, shape-code, bit, packed, used, rows, has-list, shape, arm, quiet, least, most}
 use Rattle.inst.proofs.Arms.{arm-kept}
-use Rattle.inst.proofs.Lists.{all-at, conj-at, getD-map-in}
+use Rattle.inst.proofs.Lists.{all-at, conj-at}
 
 pub row-is : (w : ℕ) → w < 101 → getD rows w 0 ≡ packed (kind-of w)
 unfolding rows
-row-is w h = List·getD-append (map packed kinds) (map used kinds) 0 w h ∙ getD-map-in packed kinds Stmt 0 w h
+row-is w h = List·getD-append (map packed kinds) (map used kinds) 0 w h ∙ getD-map packed Stmt 0 kinds w h
 
 pub used-is : (w : ℕ) → w < 101 → getD rows (101 + w) 0 ≡ used (kind-of w)
 unfolding rows
-used-is w h = getD-append-add (map packed kinds) (map used kinds) w 0 ∙ getD-map-in used kinds Stmt 0 w h
+used-is w h = getD-append-add (map packed kinds) (map used kinds) w 0 ∙ getD-map used Stmt 0 kinds w h
 
 -- ---- the test
 

@@ -1,12 +1,12 @@
--- A record's words where they lie, and how the slots and the list are cut from it. Assumes nothing.
+-- A record's words where they lie, and how the slots are cut from it. Assumes nothing.
 use mathlib.Core.Path.{_≡_, sym, _∙_}
 use mathlib.Core.List.{List}
 use Prim.Native.Nat.{ℕ, _+_, _*_, _<_}
 use native.Mathlib.Omega.{arith}
 use lib.ListN.{getD, length, drop, length-drop}
 use lib.Seq.{getD-take, getD-drop, length-take-le}
-use Rattle.model.specs.Picture.{Inst, inst, slots, list-of}
-use Rattle.inst.specs.Record.{word, Within, Listed}
+use Rattle.model.specs.Picture.{Inst, inst, slots}
+use Rattle.inst.specs.Record.{word, Within}
 
 pub word-is : (recs : List ℕ) (p k : ℕ) → k < 16 → getD recs (16 * p + k) 0 ≡ word recs p k
 word-is recs p k h = sym (getD-take 16 (drop (16 * p) recs) k 0 h ∙ getD-drop (16 * p) recs k 0)
@@ -20,10 +20,3 @@ module _ (recs : List ℕ) (p : ℕ) (w : Within recs p) where
 
 pub slot-is : (i : Inst) (s : ℕ) → s < 5 → getD (slots i) s 0 ≡ getD i (2 + s) 0
 slot-is i s h = getD-take 5 (drop 2 i) s 0 h ∙ getD-drop 2 i s 0
-
-module _ (recs ops : List ℕ) (p : ℕ) (w : Listed recs ops p) where
-  pub list-long : length (list-of ops (inst recs p)) ≡ word recs p 8
-  list-long = length-take-le (word recs p 8) (drop (word recs p 7) ops) (rw length-drop (omega (arith, w .list)))
-
-  pub list-at : (k : ℕ) → k < word recs p 8 → getD ops (word recs p 7 + k) 0 ≡ getD (list-of ops (inst recs p)) k 0
-  list-at k h = sym (getD-take (word recs p 8) (drop (word recs p 7) ops) k 0 h ∙ getD-drop (word recs p 7) ops k 0)

@@ -6,6 +6,7 @@ use mathlib.Core.Option.{Option, none, some}
 use Prim.Native.Nat.{ℕ, zero, suc}
 use native.Mathlib.Omega.{arith}
 use Rattle.words.specs.Lists.{concat}
+use Rattle.words.proofs.Bools.{clash}
 use Rattle.model.specs.Picture.{Picture}
 use Rattle.model.specs.Analyse.{Facts}
 use Rattle.model.specs.Move.{Plan, order, apply}
@@ -40,9 +41,6 @@ module _ (G : Facts) (k : ℕ) (P : Picture) (was : List ℕ) where
 not-none : (o : Option Plan) (a : Plan) → o ≡ none → o ≡ some a → ⊥
 not-none o a p q = let z : _≡_ {A = ℕ} 0 1 = cc in omega arith
 
-not-both : (b : Bool) → b ≡ true → b ≡ false → ⊥
-not-both b p q = let z : _≡_ {A = ℕ} 0 1 = cc in omega arith
-
 same-plan : (o : Option Plan) (a b : Plan) → o ≡ some a → o ≡ some b → a ≡ b
 same-plan o a b p q = cc
 
@@ -65,7 +63,7 @@ last-round G (suc k) P was a e f = go (λ b. last-round G k (apply P b) (carried
         absurd (not-none (round P G) a n (h .0))
     go rec (no-room b r n) =
         let h : Has P = subst (λ (s : Stage). Has (s .now)) (stage-short G k P was b r n) has in
-        absurd (not-both (fits P (apply P a)) (h .1) (subst (λ (p : Plan). fits P (apply P p) ≡ false) (same-plan (round P G) b a r (h .0)) n))
+        clash (h .1) (subst (λ (p : Plan). fits P (apply P p) ≡ false) (same-plan (round P G) b a r (h .0)) n)
     go rec (goes-on b r m) =
         let here-is = stage-more G k P was b r m in
         let h : Has (further G k P was b .now) = subst (λ (s : Stage). Has (s .now)) here-is has in

@@ -1,11 +1,11 @@
 -- A chain's facts against straight code: the writer that `analyse` finds is the last one before. Assumes nothing.
-use mathlib.Core.Path.{_≡_, refl, sym, ap, _∙_, subst}
+use mathlib.Core.Path.{_≡_, sym, ap, _∙_, subst}
 use mathlib.Core.Logic.{_⊎_, inl, inr, ⊎-elim}
-use mathlib.Core.Bool.{Bool, true, false, not, cond}
-use mathlib.Core.List.{List, [], _∷_, _++_, map}
+use mathlib.Core.Bool.{Bool, not, cond}
+use mathlib.Core.List.{List, map}
 use mathlib.Core.Option.{Option, none, some}
 use Prim.Native.Nat.{ℕ, zero, suc, _+_, _-_, _≤_, _<_}
-use native.Mathlib.Nat.{add-zero, zero-add, suc-add, add-suc}
+use native.Mathlib.Nat.{zero-add}
 use native.Mathlib.Omega.{arith}
 use lib.Dec.{T, eqb, eqb-refl}
 use lib.ListN.{getD, length, take}
@@ -16,6 +16,7 @@ use Rattle.words.proofs.Members.{in-mem, not-in-mem, in?, map-in, any-in}
 use Rattle.words.proofs.Alls.{all-range}
 use Rattle.model.specs.Analyse.{Fact, Read, no-fact, last-writer, when-some}
 use Rattle.model.specs.Legal.{fact-at, reads-from, writes-last}
+use Rattle.laws.proofs.Analysed.{writer-snoc}
 use Rattle.walk.specs.Machine.{Instr, no-instr}
 use Rattle.walk.specs.Rules.{Definer, entry, by, defined-by}
 use Rattle.walk.proofs.Definers.{defined-here, defined-before, defined-entry, entry≢by, by-inj}
@@ -25,17 +26,6 @@ use Rattle.walk.proofs.Definers.{defined-here, defined-before, defined-entry, e
 abbrev pub opt : Definer → Option ℕ
 opt entry = none
 opt (by p) = some p
-
-pub writer-snoc : (k : ℕ) (past : List Fact) (f : Fact) (r : ℕ) → last-writer k (past ++ f ∷ []) r ≡ cond (mem r (f .defs)) (some (k + length past)) (last-writer k past r)
-writer-snoc k [] f r = ap (λ (n : ℕ). cond (mem r (f .defs)) (some n) none) (sym (add-zero k))
-writer-snoc k (g ∷ past) f r =
-    ap (λ (o : Option ℕ). elim o as (λ z. Option ℕ) [ some q ↦ some q | none ↦ cond (mem r (g .defs)) (some k) none ]) (writer-snoc (suc k) past f r)
-    ∙ go (mem r (f .defs))
-  where
-    go : (b : Bool) → _≡_ {A = Option ℕ} (elim (cond b (some (suc k + length past)) (last-writer (suc k) past r)) as (λ z. Option ℕ) [ some q ↦ some q | none ↦ cond (mem r (g .defs)) (some k) none ])
-        (cond b (some (k + suc (length past))) (last-writer k (g ∷ past) r))
-    go true = ap some (suc-add k (length past) ∙ sym (add-suc k (length past)))
-    go false = refl
 
 pub record Tied (run : List Fact) (S : List Instr) : Type 0 where
   pub len : length run ≡ length S

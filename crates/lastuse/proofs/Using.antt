@@ -2,7 +2,7 @@
 use mathlib.Core.Path.{_≡_, refl, sym, ap, ap₂, _∙_, subst}
 use mathlib.Core.Logic.{_⊎_, inl, inr, ⊎-elim}
 use mathlib.Core.Bool.{Bool, true, false, not, _&&_, _||_, cond}
-use mathlib.Core.List.{List, [], _∷_}
+use mathlib.Core.List.{List}
 use Prim.Native.Nat.{ℕ, zero, suc, _+_, _-_, _%_, _≤_, _<_, max}
 use native.Mathlib.Numerals.{add-one}
 use native.Mathlib.Omega.{arith}
@@ -13,15 +13,16 @@ use lib.Seq.{getD-set-same, getD-set-other}
 use Rattle.words.specs.Lists.{In, upto, any, mem}
 use Rattle.words.specs.Last.{last-below}
 use Rattle.words.proofs.Bools.{bool-ext, both, left, right, false-T, T-false, eq?}
-use Rattle.words.proofs.Lasts.{last-ext}
-use Rattle.words.proofs.Members.{any-in, any-of, in-range, range-in}
+use Rattle.words.proofs.Lasts.{last-ext, last-step}
+use Rattle.words.proofs.Members.{any-in, any-of, in-range, range-in, any-on}
+use Rattle.words.proofs.Alls.{any-more}
 use Rattle.model.specs.Picture.{absent}
 use Rattle.legalset.specs.Chain.{writer}
-use Rattle.legalset.proofs.Lasting.{last-step, writer-low}
+use Rattle.legalset.proofs.Lasting.{writer-low}
 use Rattle.summary.specs.Passes.{over, stamp}
 use Rattle.lastuse.specs.Uses.{note-in, Noticed, ReadOn, reads-value, or-own, last-reader, Readers}
 use Rattle.summary.proofs.Places.{Placed}
-use Rattle.summary.proofs.Stamping.{put-room, any-more}
+use Rattle.summary.proofs.Stamping.{put-room}
 use Rattle.summary.proofs.Summing.{zero-at}
 
 -- ---- one register
@@ -114,10 +115,6 @@ noticing-end {g} {st} {q} {k} {K} {l} {before} i a u v = record {
 own-is : (p q : ℕ) → q ≡ or-own p (suc q)
 unfolding or-own
 own-is p q = refl
-
-any-on : {A : Type 0} (f g : A → Bool) (xs : List A) → ((a : A) → In a xs → f a ≡ g a) → any f xs ≡ any g xs
-any-on f g [] h = refl
-any-on f g (x ∷ xs) h = ap₂ (λ (a b : Bool). a || b) (h x (inl refl)) (any-on f g xs (λ a i. h a (inr i)))
 
 pub record Reading (defs reads : ℕ → List ℕ) (q : ℕ) (st₀ st ls : List ℕ) : Type 0 where
   pub size : length st ≡ length st₀

@@ -126,18 +126,6 @@ module _ (P : Picture) (i : Inst) (ok : Admitted P i) where
   pub kind-low : getD i 0 0 ≤ 100
   kind-low = ltb-false 100 (getD i 0 0) (or-left no-kind low-form (or-left (no-kind || low-form) high-form (or-left (no-kind || low-form || high-form) wide (ok .kind-fits))))
 
-  pub form-least : row (kind i) .least ≤ form i
-  form-least = ltb-false (form i) (row (kind i) .least) (or-right no-kind low-form (or-left (no-kind || low-form) high-form (or-left (no-kind || low-form || high-form) wide (ok .kind-fits))))
-
-  pub form-most : form i ≤ row (kind i) .most
-  form-most = ltb-false (row (kind i) .most) (form i) (or-right (no-kind || low-form) high-form (or-left (no-kind || low-form || high-form) wide (ok .kind-fits)))
-
-  pub scalars-low : is-kind Cat i ≡ true → getD i 9 0 ≤ 65535
-  scalars-low = at-most (is-kind Cat i) 65535 (getD i 9 0) (or-right (no-kind || low-form || high-form) wide (ok .kind-fits))
-
-  pub cat-list : is-kind Cat i ≡ true → getD i 8 0 ≤ 33
-  cat-list = at-most (is-kind Cat i) 33 (getD i 8 0) (ok .cat-short)
-
   pub writes-low : (r : ℕ) → In r (writes i) → r < P .regs
   writes-low = low-chosen writing refl (P .regs) (roles i) (slots i) (ok .slots-fit)
 
@@ -203,9 +191,6 @@ module _ (P : Picture) (ok : Accepted P) where
   reads-low i a r j = ⊎-elim (slot-reads-low P i a r) (list-low i a r) (in-split r (chosen reading (roles i) (slots i)) (list-of (P .ops) i) j)
 
   -- case targets are blocks
-  pub target-at : (k : ℕ) → k < length (P .targets) → getD (P .targets) k 0 < nblocks P
-  target-at k h = leb-false (nblocks P) (getD (P .targets) k 0) (any-no (leb (nblocks P)) (getD (P .targets) k 0) (P .targets) (ok .case-targets) (in-getD 0 (P .targets) k h))
-
   pub table-low : (t c : ℕ) → In c (table P t) → c < nblocks P
   table-low t c j =
       leb-false (nblocks P) c

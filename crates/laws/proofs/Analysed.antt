@@ -1,14 +1,16 @@
--- A chain's facts, position by position: each is that of its instruction after those before it; and what is movable there is of a
--- kind that may move. Assumes nothing.
-use mathlib.Core.Path.{_≡_, sym, ap, _∙_, subst}
-use mathlib.Core.Bool.{Bool, false}
+-- A chain's facts, position by position: each is that of its instruction after those before it, and so is the last writer; and what
+-- is movable there is of a kind that may move. Assumes nothing.
+use mathlib.Core.Path.{_≡_, refl, sym, ap, _∙_, subst}
+use mathlib.Core.Bool.{Bool, true, false, cond}
 use mathlib.Core.List.{List, [], _∷_, _++_, map, append-assoc, append-nil}
+use mathlib.Core.Option.{Option, none, some}
 use Prim.Native.Nat.{ℕ, zero, suc, _+_, _<_}
 use native.Mathlib.Nat.{not-suc-le-zero, le-of-suc-le-suc, suc-add, add-suc, add-zero, zero-add}
 use native.Mathlib.Omega.{arith}
 use lib.Dec.{T}
 use lib.ListN.{getD, length, take, drop, length-append}
 use lib.Seq.{getD-append-seam, take-append-seam}
+use Rattle.words.specs.Lists.{mem}
 use Rattle.model.specs.Kinds.{Arm, row, const, constF, addrOf, move, select, truth, bin, index, check, dopeLen, load, alloc, layoutOf, signal, fills, store, cat, native as nativeArm, stops, deref, writes, other}
 use Rattle.model.specs.Picture.{Inst, kind, reads}
 use Rattle.model.specs.Refusal.{may-move}
@@ -62,6 +64,18 @@ movable-arm i p k o l y os stops t = t
 movable-arm i p k o l y os deref t = t
 movable-arm i p k o l y os writes t = t
 movable-arm i p k o l y os other t = t
+
+-- the last writer, with one fact more
+pub writer-snoc : (k : ℕ) (past : List Fact) (f : Fact) (r : ℕ) → last-writer k (past ++ f ∷ []) r ≡ cond (mem r (f .defs)) (some (k + length past)) (last-writer k past r)
+writer-snoc k [] f r = ap (λ (n : ℕ). cond (mem r (f .defs)) (some n) none) (sym (add-zero k))
+writer-snoc k (g ∷ past) f r =
+    ap (λ (o : Option ℕ). elim o as (λ z. Option ℕ) [ some q ↦ some q | none ↦ cond (mem r (g .defs)) (some k) none ]) (writer-snoc (suc k) past f r)
+    ∙ go (mem r (f .defs))
+  where
+    go : (b : Bool) → _≡_ {A = Option ℕ} (elim (cond b (some (suc k + length past)) (last-writer (suc k) past r)) as (λ z. Option ℕ) [ some q ↦ some q | none ↦ cond (mem r (g .defs)) (some k) none ])
+        (cond b (some (k + suc (length past))) (last-writer k (g ∷ past) r))
+    go true = ap some (suc-add k (length past) ∙ sym (add-suc k (length past)))
+    go false = refl
 
 module _ (G : Facts) (ops : List ℕ) where
   pub length-analyse : (past : List Fact) (is : List Inst) → length (analyse G ops past is) ≡ length past + length is

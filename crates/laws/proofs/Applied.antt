@@ -1,6 +1,6 @@
 -- The picture that a move leaves: its operands, its records, its blocks. Assumes nothing.
 use mathlib.Core.Path.{_≡_, refl, sym, ap, ap₂, _∙_, subst}
-use mathlib.Core.Logic.{_⊎_, inl, inr, ⊎-elim}
+use mathlib.Core.Logic.{inl, inr, ⊎-elim}
 use mathlib.Core.Bool.{Bool, true, false, cond}
 use mathlib.Core.List.{List, [], _∷_, _++_, map, append-assoc}
 use mathlib.Core.Option.{Option, none, some}
@@ -49,11 +49,11 @@ whole-made : (P : Picture) (R : ℕ) (ops : List ℕ) (n : ℕ) (js : List Job) 
 whole-made P R ops n [] s = tt
 whole-made P R ops n (j ∷ js) s = (made-sixteen j (cond (changes ops j) n (getD (j .old) 7 0)) (s .0 .whole), whole-made P R ops (n + length (more-of ops j)) js (s .1))
 
-length-made-all : (ops : List ℕ) (n : ℕ) (js : List Job) → length (made-all ops n js) ≡ length js
+pub length-made-all : (ops : List ℕ) (n : ℕ) (js : List Job) → length (made-all ops n js) ≡ length js
 length-made-all ops n [] = refl
 length-made-all ops n (j ∷ js) = ap suc (length-made-all ops (n + length (more-of ops j)) js)
 
-length-own : (rd : ℕ → ℕ) (is : List Inst) → length (own-jobs rd is) ≡ length is
+pub length-own : (rd : ℕ → ℕ) (is : List Inst) → length (own-jobs rd is) ≡ length is
 length-own rd [] = refl
 length-own rd (i ∷ is) = ap suc (length-own (λ r. elim (mem r (writes i)) [ true ↦ r | false ↦ rd r ]) is)
 

@@ -1,6 +1,6 @@
 -- A round keeps acceptance, and so does any number of rounds. Assumes nothing.
 use mathlib.Core.Path.{_≡_, refl, sym, ap, ap₂, _∙_, subst}
-use mathlib.Core.Logic.{_⊎_, inl, inr, ⊎-elim}
+use mathlib.Core.Logic.{inl, inr, ⊎-elim}
 use mathlib.Core.Bool.{Bool, true, false, not, _&&_, _||_, cond}
 use mathlib.Core.List.{List, [], _∷_, _++_, map}
 use mathlib.Core.Option.{some}
@@ -217,16 +217,3 @@ round-not-refused P G a w64 w32 nf z e f =
     let mv = moving P G a ok e f in
     let w = work-room P w64 w32 nf z in
     not-refused (apply P a) w64 w32 nf (move-keeps P G a mv) (le-trans (le-of-eq (same-work64 P G a mv)) (w .0)) (le-trans (le-of-eq (same-work32 P G a mv)) (w .1)) (w .2)
-
--- Q is what some rounds make of P
-pub data Rounds (G : Facts) : Picture → Picture → Type 0 where
-  none-yet : {P : Picture} → Rounds G P P
-  one-more : {P Q : Picture} (a : Plan) → Rounds G P Q → round Q G ≡ some a → fits Q (apply Q a) ≡ true → Rounds G P (apply Q a)
-
-pub rounds-keep : {G : Facts} {P Q : Picture} → Rounds G P Q → Accepted P → Accepted Q
-rounds-keep none-yet ok = ok
-rounds-keep {G} (one-more {Q = Q} a r e f) ok = keeps Q G a (rounds-keep r ok) e f
-
-pub rounds-not-refused : {G : Facts} {P Q : Picture} (w64 w32 nf : ℕ) → Rounds G P Q → refusal P w64 w32 nf ≡ 0 → refusal Q w64 w32 nf ≡ 0
-rounds-not-refused w64 w32 nf none-yet z = z
-rounds-not-refused {G} w64 w32 nf (one-more {Q = Q} a r e f) z = round-not-refused Q G a w64 w32 nf (rounds-not-refused w64 w32 nf r z) e f

@@ -19,6 +19,11 @@ use Rattle.model.specs.Move.{Chain, chain, minimum, Plan, needed-of, set-for, i
 use Rattle.model.specs.Pass.{first-plan, round}
 use Rattle.laws.proofs.Greatest.{greatest-is-legal, greatest-contains, greatest-count}
 
+-- the fewest members are three or eight
+pub minimum-some : (b : Bool) → 3 ≤ minimum b
+minimum-some true = omega arith
+minimum-some false = omega arith
+
 -- a plan from block x along chain c, into one branch and away from the other
 pub record Planned (P : Picture) (run : List Fact) (x : ℕ) (c : Chain) (least into other : ℕ) (a : Plan) : Type 0 where
   pub x-is : a .x ≡ x

@@ -1,5 +1,5 @@
 -- One round more of the call: there is no move, or it does not fit the room, or the rounds go on with the picture it leaves. Assumes nothing.
-use mathlib.Core.Path.{_≡_, refl, ap, _∙_}
+use mathlib.Core.Path.{_≡_, refl, sym, ap, _∙_}
 use mathlib.Core.Bool.{Bool, true, false}
 use mathlib.Core.List.{List, [], _∷_}
 use mathlib.Core.Option.{Option, none, some}
@@ -48,17 +48,26 @@ module _ (k n : ℕ) (G : Facts) (P : Picture) where
   pub sink-more : (a : Plan) → round P G ≡ some a → fits P (apply P a) ≡ true → sink-all (suc k) n G P ≡ after-line (line-of n P a) (sink-all k (suc n) G (apply P a))
   sink-more a e f = ap by-plan e ∙ ap (by-room a) f
 
--- ---- the call on an accepted picture: the gates, then the rounds
+-- ---- the call: refusals and gates, then the rounds
 
-module _ (P : Picture) (w64 w32 nf : ℕ) (ok : refusal P w64 w32 nf ≡ 0) where
+module _ (P : Picture) where
   abbrev gates : Bool → Outcome
   gates b = elim b as (λ z. Outcome) [ true ↦ ends-in (Done (used 0 P)) P | false ↦ sink-all most-rounds 0 (facts P) P ]
 
   abbrev by-refusal : ℕ → Outcome
   by-refusal n = elim n as (λ z. Outcome) [ suc n ↦ ends-in (Refused (suc n)) P | zero ↦ gates (gated P) ]
 
-  pub sink-gated : gated P ≡ true → sink P w64 w32 nf ≡ ends-in (Done (used 0 P)) P
-  sink-gated e = ap by-refusal ok ∙ ap gates e
+  by-cause : (n : ℕ) → (n ≡ 0 → ⊥) → by-refusal n ≡ ends-in (Refused n) P
+  by-cause zero h = absurd (h refl)
+  by-cause (suc n) h = refl
 
-  pub sink-through : gated P ≡ false → sink P w64 w32 nf ≡ sink-all most-rounds 0 (facts P) P
-  sink-through e = ap by-refusal ok ∙ ap gates e
+  module _ (w64 w32 nf : ℕ) where
+    pub sink-refused : (n : ℕ) → n ≡ refusal P w64 w32 nf → (n ≡ 0 → ⊥) → sink P w64 w32 nf ≡ ends-in (Refused n) P
+    sink-refused n e h = ap by-refusal (sym e) ∙ by-cause n h
+
+    module _ (ok : refusal P w64 w32 nf ≡ 0) where
+      pub sink-gated : gated P ≡ true → sink P w64 w32 nf ≡ ends-in (Done (used 0 P)) P
+      sink-gated e = ap by-refusal ok ∙ ap gates e
+
+      pub sink-through : gated P ≡ false → sink P w64 w32 nf ≡ sink-all most-rounds 0 (facts P) P
+      sink-through e = ap by-refusal ok ∙ ap gates e

@@ -8,7 +8,7 @@ use native.Mathlib.Nat.{zero-add}
 use native.Mathlib.Omega.{arith}
 use lib.Dec.{T}
 use lib.ListN.{length}
-use Rattle.words.specs.Lists.{all, mem, _implies_}
+use Rattle.words.specs.Lists.{all, mem}
 use Rattle.words.proofs.Bools.{both, left, right, T-true, true-T, T-false, false-T, hold, conj-of, implied, implies-of, denied, denies, or-rest, or-of}
 use Rattle.words.proofs.Members.{all-in, all-of}
 use Rattle.words.proofs.Alls.{all-range, range-all}
@@ -17,20 +17,29 @@ use Rattle.model.specs.Legal.{Legal, Kept, legal, tests, rule1, rule2, rule3, r
 
 -- ---- tests and what they say
 
-no-some : {A : Type 0} (o : Option A) → T (not (is-some o)) → o ≡ none
+pub no-some : {A : Type 0} (o : Option A) → T (not (is-some o)) → o ≡ none
 no-some none t = refl
 no-some (some a) t = absurd t
 
-no-some-of : {A : Type 0} (o : Option A) → o ≡ none → T (not (is-some o))
+pub no-some-of : {A : Type 0} (o : Option A) → o ≡ none → T (not (is-some o))
 no-some-of none e = tt
 no-some-of (some a) e = Option·none-ne-some a (sym e)
 
-unless-at : {A : Type 0} (f : A → Bool) (o : Option A) → T (unless-some f o) → (a : A) → o ≡ some a → T (f a)
+pub unless-at : {A : Type 0} (f : A → Bool) (o : Option A) → T (unless-some f o) → (a : A) → o ≡ some a → T (f a)
 unless-at f o t a e = subst (λ x. T (unless-some f x)) e t
 
-unless-of : {A : Type 0} (f : A → Bool) (o : Option A) → ((a : A) → o ≡ some a → T (f a)) → T (unless-some f o)
+pub unless-of : {A : Type 0} (f : A → Bool) (o : Option A) → ((a : A) → o ≡ some a → T (f a)) → T (unless-some f o)
 unless-of f none h = tt
 unless-of f (some a) h = h a refl
+
+-- memory that is a member's own
+pub own-memory : (run : List Fact) (needed L : ℕ → Bool) (w : Org) → T (rule6 run needed L w) → (k : ℕ) × (w ≡ Temp k) × (L k ≡ true)
+own-memory run needed L Unknown t = absurd t
+own-memory run needed L Ro t = absurd t
+own-memory run needed L Heap t = absurd t
+own-memory run needed L Frame t = absurd t
+own-memory run needed L (Temp k) t = (k, refl, T-true (L k) t)
+own-memory run needed L (Img k) t = absurd t
 
 -- ---- rule by rule
 
@@ -46,14 +55,6 @@ module _ (run : List Fact) (needed L : ℕ → Bool) (p : ℕ) where
   kept-of f h =
       all-range (λ x. L x || f x) (suc p) (length run - suc p)
       (λ q a b. or-of (L q) (f q) (λ e. h q (record { later = a; inside = omega arith; outside = e })))
-
-  own-memory : (w : Org) → T (rule6 run needed L w) → (k : ℕ) × (w ≡ Temp k) × (L k ≡ true)
-  own-memory Unknown t = absurd t
-  own-memory Ro t = absurd t
-  own-memory Heap t = absurd t
-  own-memory Frame t = absurd t
-  own-memory (Temp k) t = (k, refl, T-true (L k) t)
-  own-memory (Img k) t = absurd t
 
   abbrev e : Effect
   e = fact-at run p .does
@@ -95,7 +96,7 @@ module _ (run : List Fact) (needed L : ℕ → Bool) (p : ℕ) where
             (all-in (λ o. not (alias w o)) o (e .from)
             (unless-at (λ w. all (λ o. not (alias w o)) (e .from)) (fact-at run q .does .wrote) (at-kept (rule5-write run needed L p) (right bars meets five) q k) w g) i);
         origins = λ o i. T-true (readable o) (all-in readable o (e .from) (right (bars && meets) (all readable (e .from)) (h .1 .1 .1 .1 .0)) i);
-        memory = λ w g. own-memory w (unless-at (rule6 run needed L) (e .wrote) (h .1 .1 .1 .1 .1 .0) w g);
+        memory = λ w g. own-memory run needed L w (unless-at (rule6 run needed L) (e .wrote) (h .1 .1 .1 .1 .1 .0) w g);
       }
 
   pub Legal→legal : Legal run needed L p → T (legal run needed L p)

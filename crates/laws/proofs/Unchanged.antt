@@ -1,9 +1,9 @@
 -- What a move keeps: the number of blocks, and the lengths of all that is lent; registers and operands in use only grow, within the
--- room; loc and via travel with their instruction. Pairs, targets and replay are the same lists. Assumes nothing.
+-- room; via travels with its instruction. Assumes nothing.
 use mathlib.Core.Path.{_≡_, refl, sym, ap, ap₂, _∙_, subst}
-use mathlib.Core.Logic.{_⊎_, ⊎-elim}
+use mathlib.Core.Logic.{⊎-elim}
 use mathlib.Core.List.{List, [], _∷_, _++_, map}
-use Prim.Native.Nat.{ℕ, zero, suc, _+_, _-_, _*_, _/_, _≤_, _<_}
+use Prim.Native.Nat.{ℕ, zero, suc, _+_, _*_, _/_, _≤_, _<_}
 use native.Mathlib.Omega.{arith}
 use lib.ListN.{getD, length, take, drop, length-append, length-map, length-drop}
 use Rattle.words.specs.Lists.{concat}
@@ -12,8 +12,7 @@ use Rattle.model.specs.Picture.{Picture, Inst, nblocks}
 use Rattle.model.specs.Refusal.{work64, work32}
 use Rattle.model.specs.Analyse.{Facts}
 use Rattle.model.specs.Move.{Plan, fresh, order-of, order, new-code, apply}
-use Rattle.laws.proofs.Sizes.{vias-length, recs-length}
-use Rattle.laws.proofs.Sizes as Sizes
+use Rattle.laws.proofs.Sizes.{vias-length}
 use Rattle.laws.proofs.Laid.{Whole}
 use Rattle.laws.proofs.Moving.{Moving, regs-room, opers-room}
 use Rattle.laws.proofs.Ordered.{order-length}
@@ -61,26 +60,11 @@ module _ (P : Picture) (G : Facts) (a : Plan) (mv : Moving P G a) where
       let left = drop (P .opers + length more) (P .ops) in
       omega (arith, length-append (old ++ more) left, length-append old more, Applied.taken P G a mv, length-drop (P .opers + length more) (P .ops), opers-room P G a mv)
 
-  pub same-bounds : length (Q .bounds) ≡ length (P .bounds)
-  same-bounds = Applied.bounds-length P G a mv ∙ sym (Sizes.bounds-length P (mv .ok))
-
-  pub same-pairs : Q .pairs ≡ P .pairs
-  same-pairs = refl
-
-  pub same-targets : Q .targets ≡ P .targets
-  same-targets = refl
-
-  pub same-replay : Q .replay ≡ P .replay
-  same-replay = refl
-
   pub code-length : length (concat (Applied.cs P G a mv)) ≡ length (Q .locs)
   code-length = length-concat-same (new-code P a (Applied.js P G a mv)) (order-of P a) 0 (nblocks P) (Applied.same-length P G a mv) ∙ sym locs-order
 
   pub recs-after : length (Q .recs) ≡ 16 * length (Q .locs)
   recs-after = length-whole (concat (Applied.cs P G a mv)) (Applied.all-whole P G a mv) ∙ ap (λ (n : ℕ). 16 * n) code-length
-
-  pub same-recs : length (Q .recs) ≡ length (P .recs)
-  same-recs = recs-after ∙ ap (λ (n : ℕ). 16 * n) same-locs ∙ sym (recs-length P (mv .ok))
 
   -- more in use, within the room
   pub regs-more : (P .regs ≤ Q .regs) × (Q .regs ≤ length (Q .types))
@@ -96,7 +80,7 @@ module _ (P : Picture) (G : Facts) (a : Plan) (mv : Moving P G a) where
   pub same-work32 : work32 Q ≡ work32 P
   same-work32 = ap₂ (λ (b k : ℕ). 8 * k + 16 * b + 8000) same-blocks same-types
 
-  -- loc and via travel with their instruction: what stands at p after is what stood at its place before
+  -- what stands at p after is what stood at its place before
   pub via-now : (p : ℕ) → p < length (concat (order P a)) → getD (apply P a .vias) p 0 ≡ getD (P .vias) (getD (concat (order P a)) p 0) 0
   via-now p h = go (P .vias) refl
     where
@@ -105,6 +89,3 @@ module _ (P : Picture) (G : Facts) (a : Plan) (mv : Moving P G a) where
       go (v ∷ vs) e =
           subst (λ (vs : List ℕ). getD {A = ℕ} (elim (length vs) as (λ z. List ℕ) [ zero ↦ [] | suc n ↦ map (λ q. getD vs q 0) (concat (order P a)) ]) p 0 ≡ getD vs (getD (concat (order P a)) p 0) 0) (sym e)
           (read-at (v ∷ vs) (concat (order P a)) p h)
-
-  pub loc-now : (p : ℕ) → p < length (concat (order P a)) → getD (Q .locs) p 0 ≡ getD (P .locs) (getD (concat (order P a)) p 0) 0
-  loc-now p h = read-at (P .locs) (concat (order P a)) p h

@@ -1,7 +1,7 @@
 -- Laws of a picture in bytes: words by number, parts of the words, what the sizes give, and the cases of `readable`. Assumes nothing.
 use mathlib.Core.Logic.{⊎-elim}
 use mathlib.Core.Path.{_≡_, refl, sym, ap, _∙_}
-use mathlib.Core.Bool.{Bool, true, false, _&&_}
+use mathlib.Core.Bool.{Bool, true, false, _&&_, true≢false, false≢true}
 use mathlib.Core.List.{List, [], _∷_, _++_}
 use Prim.Native.Nat.{ℕ, zero, suc, _+_, _-_, _*_, _≤_, _<_, min}
 use native.Mathlib.Omega.{arith}
@@ -10,7 +10,7 @@ use lib.Dec.{eqb, leb}
 use lib.ListN.{length, getD, take, drop, replicate, length-drop, length-take, length-append, length-replicate}
 use lib.Seq.{length-take-le, sets, sets-eq, take-all, take-take, take-append-le}
 use Rattle.words.specs.Bytes.{word-of, word, words-of}
-use Rattle.words.proofs.Bools.{lt?, left-true, right-true}
+use Rattle.words.proofs.Bools.{lt?}
 use Rattle.words.proofs.Copying.{sets-all}
 use Rattle.words.proofs.Encoding.{word-drop, length-words}
 use Rattle.layout.specs.declared.Counts.{Counts}
@@ -81,9 +81,6 @@ pub sizes : (c : Counts) → within c ≡ true → Sizes c
 sizes c = go (leb (c .blocks) 64) (leb (c .insts) 512) (leb (c .registers) 512) (leb (c .operands) 2048) (leb (c .pairs) 256) (leb (c .targets) 1024) (leb (c .replay) 64) (leb (c .vias) 512)
     refl refl refl refl refl refl refl refl
   where
-    never : {C : Type 0} → false ≡ true → C
-    never q = let z : _≡_ {A = ℕ} 0 1 = cc in absurd (omega arith)
-
     go : (s t u v w x y z : Bool) → leb (c .blocks) 64 ≡ s → leb (c .insts) 512 ≡ t → leb (c .registers) 512 ≡ u → leb (c .operands) 2048 ≡ v
         → leb (c .pairs) 256 ≡ w → leb (c .targets) 1024 ≡ x → leb (c .replay) 64 ≡ y → leb (c .vias) 512 ≡ z → s && t && u && v && w && x && y && z ≡ true → Sizes c
     go true true true true true true true true a b d e f g h i q =
@@ -97,30 +94,30 @@ sizes c = go (leb (c .blocks) 64) (leb (c .insts) 512) (leb (c .registers) 512) 
           replay-fit = leb-true _ _ h;
           vias-fit = leb-true _ _ i;
         }
-    go false t u v w x y z a b d e f g h i q = never q
-    go true false u v w x y z a b d e f g h i q = never q
-    go true true false v w x y z a b d e f g h i q = never q
-    go true true true false w x y z a b d e f g h i q = never q
-    go true true true true false x y z a b d e f g h i q = never q
-    go true true true true true false y z a b d e f g h i q = never q
-    go true true true true true true false z a b d e f g h i q = never q
-    go true true true true true true true false a b d e f g h i q = never q
+    go false t u v w x y z a b d e f g h i q = absurd (false≢true q)
+    go true false u v w x y z a b d e f g h i q = absurd (false≢true q)
+    go true true false v w x y z a b d e f g h i q = absurd (false≢true q)
+    go true true true false w x y z a b d e f g h i q = absurd (false≢true q)
+    go true true true true false x y z a b d e f g h i q = absurd (false≢true q)
+    go true true true true true false y z a b d e f g h i q = absurd (false≢true q)
+    go true true true true true true false z a b d e f g h i q = absurd (false≢true q)
+    go true true true true true true true false a b d e f g h i q = absurd (false≢true q)
 
 -- ---- `readable`, case by case
 
 and-first : (a b c : Bool) → a ≡ false → false ≡ a && b && c
 and-first false b c e = refl
-and-first true b c e = let z : _≡_ {A = ℕ} 0 1 = cc in absurd (omega arith)
+and-first true b c e = absurd (true≢false e)
 
 and-second : (a b c : Bool) → b ≡ false → false ≡ a && b && c
 and-second false b c e = refl
 and-second true false c e = refl
-and-second true true c e = let z : _≡_ {A = ℕ} 0 1 = cc in absurd (omega arith)
+and-second true true c e = absurd (true≢false e)
 
 and-third : (a b c : Bool) → a ≡ true → b ≡ true → c ≡ a && b && c
 and-third true true c e f = refl
-and-third false b c e f = let z : _≡_ {A = ℕ} 0 1 = cc in absurd (omega arith)
-and-third true false c e f = let z : _≡_ {A = ℕ} 0 1 = cc in absurd (omega arith)
+and-third false b c e f = absurd (false≢true e)
+and-third true false c e f = absurd (false≢true f)
 
 pub cut-short : (bs : List ℕ) → length bs < 32 → false ≡ readable bs
 cut-short bs h = and-first (leb 32 (length bs)) (within (held bs)) (eqb (length bs) (4 * at-end (held bs))) (lt-leb _ _ h)

@@ -1,8 +1,7 @@
 -- 01, "One listing whole": a picture as bytes, the input of `sinkrounds` and of the host's entry, within the program's sizes.
 -- Assumes nothing.
-use mathlib.Core.Bool.{Bool, true, false, _&&_}
+use mathlib.Core.Bool.{Bool, _&&_}
 use mathlib.Core.List.{List, [], _∷_, _++_}
-use mathlib.Core.Option.{Option, none, some}
 use Prim.Native.Nat.{ℕ, _+_, _-_, _*_, _≤_}
 use lib.Dec.{eqb, leb}
 use lib.ListN.{getD, length, take, drop, replicate}

@@ -2,31 +2,26 @@
 use mathlib.Core.Path.{_≡_, refl, sym, ap, _∙_}
 use mathlib.Core.Bool.{Bool, true, false, not, _&&_}
 use mathlib.Core.List.{List, [], _∷_}
-use Prim.Native.Nat.{ℕ, zero, suc, _+_, _*_, _-_, _≤_, _<_}
+use Prim.Native.Nat.{ℕ, suc, _+_, _*_, _≤_, _<_}
 use native.Mathlib.Omega.{arith}
-use mathlib.Core.Logic.{_⊎_, ⊎-elim}
+use mathlib.Core.Logic.{⊎-elim}
 use borrow.Author.Tests.{le-ltb}
 use lib.Dec.{eqb, ltb}
 use lib.ListN.{length}
-use Rattle.words.specs.Lists.{hit, all, member, count}
+use Rattle.words.specs.Lists.{hit, member, count}
 use Rattle.words.specs.Bits.{is-in}
-use Rattle.words.proofs.Bools.{lt?, left, T-true}
+use Rattle.words.proofs.Bools.{lt?, T-true}
+use Rattle.words.proofs.Members.{all-on}
 use Rattle.model.specs.Analyse.{Fact, movable}
 use Rattle.model.specs.Legal.{fact-at, greatest}
-use Rattle.effects.specs.Origin.{class-at}
+use Rattle.effects.proofs.Origins.{movable-is}
 use Rattle.legalset.specs.Chain.{cell, view, defs-of, writer, Safe, Told}
 use Rattle.legalset.specs.Marks.{in-set, members, Settled, _⊑_}
 use Rattle.legalset.specs.Rules.{result-ok, cycle-ok, begins}
 use Rattle.legalset.proofs.Settling.{greatest-left, settled-greatest}
 use Rattle.summary.specs.Passes.{Row, Greatest}
 use Rattle.legality.proofs.Marking.{none-marked}
-use Rattle.summary.proofs.Backing.{all-on, writes-low}
-
-movable-is : (x : ℕ) → movable (class-at x) ≡ eqb x 1
-unfolding class-at
-movable-is zero = refl
-movable-is (suc zero) = refl
-movable-is (suc (suc x)) = sym (borrow.Author.Tests.ne-eqb (suc (suc x)) 1 (λ e. omega arith))
+use Rattle.summary.proofs.Backing.{writes-low}
 
 -- as many marks as members
 none-left : (G : List Bool) → ((p : ℕ) → false ≡ member G p) → 0 ≡ count G

@@ -1,13 +1,14 @@
 -- The positions to begin with, and rule 2. Assumes nothing.
-use mathlib.Core.Path.{_≡_, refl, sym, ap, ap₂, _∙_}
-use mathlib.Core.Bool.{Bool, true, false, not, _&&_, _||_}
+use mathlib.Core.Path.{_≡_, sym, ap, ap₂, _∙_}
+use mathlib.Core.Bool.{Bool, true, false, not, _&&_, _||_, and-assoc}
 use mathlib.Core.List.{List}
-use Prim.Native.Nat.{ℕ, _+_, _*_, _-_, _/_, _<_}
+use Prim.Native.Nat.{ℕ, _+_, _*_, _/_, _<_}
 use borrow.Author.Tests.{eq-eqb, ne-eqb}
 use lib.Dec.{eqb, ltb}
 use lib.ListN.{getD, length}
 use Rattle.words.specs.Lists.{upto, all}
 use Rattle.words.specs.Bits.{is-in}
+use Rattle.words.proofs.Members.{all-on}
 use Rattle.model.specs.Picture.{inst, absent, writes}
 use Rattle.inst.specs.Record.{write-at}
 use Rattle.facts.specs.declared.Fact.{Fact}
@@ -15,7 +16,7 @@ use Rattle.legalset.specs.Chain.{cell, view, defs-of, writer, Fits, Safe}
 use Rattle.legalset.specs.Rules.{result-ok, begins}
 use Rattle.summary.specs.Passes.{result-test, begin-test, Ended, Shows}
 use Rattle.summary.proofs.Places.{all-placed, writes-placed}
-use Rattle.summary.proofs.Backing.{all-on, writes-low}
+use Rattle.summary.proofs.Backing.{writes-low}
 
 module _ (regs bits : List ℕ) (o p r : ℕ) where
   pub result-absent : r ≡ absent → true ≡ (eqb r absent || result-test regs bits o p r)
@@ -51,8 +52,4 @@ module _ (bits : List ℕ) (o : ℕ) {recs ops w regs : List ℕ} {n : ℕ} (s :
   unfolding begin-test begins
   begins-in =
       ap₂ (λ (c g : ℕ). ltb p m && (eqb c 1 && all (result-test regs bits o p) (writes (inst recs g)))) (sym (t .class)) (sym (t .rec))
-      ∙ ap (λ (b : Bool). ltb p m && (eqb (cell w p 1) 1 && b)) (results-are bits o s h d) ∙ go (ltb p m) (eqb (cell w p 1) 1) (result-ok (view recs ops w regs) n (λ r. is-in bits (64 * o + r)) p)
-    where
-      go : (a b c : Bool) → (a && (b && c)) ≡ ((a && b) && c)
-      go true b c = refl
-      go false b c = refl
+      ∙ ap (λ (b : Bool). ltb p m && (eqb (cell w p 1) 1 && b)) (results-are bits o s h d) ∙ sym (and-assoc (ltb p m) (eqb (cell w p 1) 1) (result-ok (view recs ops w regs) n (λ r. is-in bits (64 * o + r)) p))

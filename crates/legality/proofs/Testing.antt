@@ -1,7 +1,7 @@
 -- The tests of the forward pass, place by place. Assumes nothing.
 use mathlib.Core.Path.{_≡_, refl, sym, ap, ap₂, _∙_, subst}
 use mathlib.Core.Logic.{_⊎_, inl, inr}
-use mathlib.Core.Bool.{Bool, true, false, not, _&&_, _||_, cond}
+use mathlib.Core.Bool.{Bool, true, false, not, _&&_, _||_, cond, and-true}
 use mathlib.Core.List.{List, [], _∷_, map}
 use Prim.Native.Nat.{ℕ, zero, suc, _+_, _-_, _/_, _%_, _≤_, _<_}
 use native.Mathlib.Omega.{arith}
@@ -11,12 +11,12 @@ use lib.ListN.{getD, length, drop, drop-of-length-le}
 use lib.Seq.{drop-cons}
 use Rattle.words.specs.Lists.{upto, all, conj}
 use Rattle.words.proofs.Alls.{and-yes, and-nay}
+use Rattle.words.proofs.Lists.{getD-any}
 use Rattle.model.specs.Picture.{Inst, inst, absent, reads, list-of}
 use Rattle.facts.specs.declared.Fact.{Fact}
 use Rattle.legalset.specs.Chain.{reg-org, picked, Good}
 use Rattle.legalset.specs.Rules.{org-fine, still-fine}
 use Rattle.summary.specs.Passes.{read-place, read-test, place-test, word-org, org-test, piece-test, froms, from-test, memory-test, own-test, stay-test, Near}
-use Rattle.inst.proofs.Lists.{getD-any}
 use Rattle.summary.proofs.Places.{all-placed, reads-placed}
 
 -- ---- rule 3
@@ -137,13 +137,9 @@ module _ (regs ops : List ℕ) (i : Inst) (st lasts : List ℕ) (bar x p : ℕ) 
   unfolding from-test
   from-one {b} z n f = f ∙ is x z n
     where
-      end : (a : Bool) → a ≡ (a && true)
-      end true = refl
-      end false = refl
-
       is : (x : ℕ) → (x ≡ 0 → ⊥) → (x ≡ 4294967295 → ⊥) → org-test lasts bar p (x - 1) ≡ all (org-test lasts bar p) (froms regs ops i st x)
       is zero z n = absurd (z refl)
-      is (suc o) z n = let q : suc o - 1 ≡ o = omega arith in ap (org-test lasts bar p) q ∙ end (org-test lasts bar p o) ∙ sym (ap (all (org-test lasts bar p)) (one-origin regs ops i st o n))
+      is (suc o) z n = let q : suc o - 1 ≡ o = omega arith in ap (org-test lasts bar p) q ∙ sym (and-true (org-test lasts bar p o)) ∙ sym (ap (all (org-test lasts bar p)) (one-origin regs ops i st o n))
 
   pub from-cat : {sc : ℕ} {xs : List ℕ} {b : Bool} → x ≡ 4294967295 → xs ≡ list-of ops i → sc ≡ getD i 9 0 → b ≡ all (piece-test regs st lasts bar p) (picked sc xs) → b ≡ from-test regs ops i st lasts bar x p
   unfolding from-test froms piece-test

@@ -5,22 +5,16 @@ use mathlib.Core.Logic.{_⊎_, inl, inr, ⊎-elim}
 use mathlib.Core.Bool.{Bool, true, false, not, _&&_, cond}
 use mathlib.Core.List.{List, [], _∷_}
 use Prim.Native.Nat.{ℕ, zero, suc, _+_, _-_, _≤_, _<_}
-use native.Mathlib.Nat.{add-zero, eq-or-lt-of-le, le-of-suc-le-suc}
+use native.Mathlib.Nat.{add-zero, eq-or-lt-of-le}
 use native.Mathlib.Omega.{arith}
 use lib.Dec.{T, eqb}
-use lib.ListN.{getD, length, set, length-set}
+use lib.ListN.{length, set, length-set}
 use lib.Seq.{getD-set-same, getD-set-other}
 use Rattle.words.specs.Lists.{hit}
 use Rattle.words.proofs.Bools.{T-true, true-T, clash, eq?}
 use Rattle.legalset.specs.Marks.{in-set, members, sifted, lost, own, Passed, _⊑_}
 
 -- ---- one mark made 0
-
-in-long : (S : List ℕ) (p : ℕ) → in-set S p ≡ true → p < length S
-unfolding in-set
-in-long [] p e = absurd (mathlib.Core.Bool.true≢false (sym e))
-in-long (x ∷ S) zero e = omega arith
-in-long (x ∷ S) (suc p) e = let h = in-long S p e in omega arith
 
 gone : (S : List ℕ) (p : ℕ) → p < length S → in-set (set S p 0) p ≡ false
 unfolding in-set
@@ -35,9 +29,6 @@ unfolding members in-set
 members-set [] p e = absurd (mathlib.Core.Bool.true≢false (sym e))
 members-set (x ∷ S) zero e = ap (λ (b : Bool). 0 + members S + 1) e ∙ (let h = ap hit e in omega arith)
 members-set (x ∷ S) (suc p) e = let h = members-set S p e in omega arith
-
-pub sub-refl : (L : ℕ → Bool) → L ⊑ L
-sub-refl L p t = t
 
 -- ---- one position looked at
 

@@ -3,27 +3,28 @@
 use mathlib.Core.Path.{_≡_, refl, sym, ap, ap₂, _∙_, subst}
 use mathlib.Core.Logic.{_⊎_, inl, inr, ⊎-elim}
 use mathlib.Core.Bool.{Bool, true, false, not, _&&_, _||_}
-use mathlib.Core.List.{List, [], _∷_, map}
-use mathlib.Core.Option.{Option, none, some, Option·none-ne-some, Option·some-injective}
+use mathlib.Core.List.{List, [], _∷_}
+use mathlib.Core.Option.{none, some, Option·none-ne-some, Option·some-injective}
 use Prim.Native.Nat.{ℕ, zero, suc, _+_, _*_, _-_, _/_, _%_, _≤_, _<_}
 use native.Mathlib.Nat.{zero-add}
 use native.Mathlib.Numerals.{add-one}
 use native.Mathlib.Omega.{arith}
 use borrow.Author.Tests.{eqb-true, eqb-false, leb-true, leb-false, eq-eqb, ne-eqb, le-leb, lt-leb}
 use lib.Dec.{T, eqb, leb, eqb→eq, leb→le}
-use lib.ListN.{getD, length, take}
-use Rattle.words.specs.Lists.{In, range, upto, all, mem, any, conj}
-use Rattle.words.proofs.Bools.{T-true, true-T, T-false, false-T, clash, bool?, bool-ext, both, left, right, or-first, or-second, or-of, or-rest, both-true, left-true, right-true, Hold, hold, conj-of, implied, implies-of, denied, denies, not-true-is-false}
+use lib.ListN.{getD, length}
+use Rattle.words.specs.Lists.{In, upto, all, mem, any, conj}
+use Rattle.words.proofs.Bools.{T-true, true-T, T-false, false-T, clash, bool?, bool-ext, both, left, right, or-first, or-second, or-of, or-rest, both-true, left-true, right-true, hold, conj-of, implied, implies-of, denied, denies, not-true-is-false}
 use Rattle.words.proofs.Members.{mem-in, in-mem, all-in, all-of, in-map, map-in}
 use Rattle.words.proofs.Alls.{all-range, range-all}
-use Rattle.model.specs.Analyse.{Org, Unknown, Ro, Heap, Frame, Temp, Img, Fact, Read, Effect, last-writer, is-some, when-some, unless-some, alias}
+use Rattle.model.specs.Analyse.{Org, Temp, Fact, Read, Effect, is-some, when-some, unless-some, alias}
 use Rattle.model.specs.Legal.{fact-at, reads-from, writes-last, readable, steady, kept, rule1, rule2, rule3, rule4, rule5-barrier, rule5-write, rule6, tests, legal}
+use Rattle.laws.proofs.Rules.{no-some, no-some-of, unless-at, unless-of, own-memory as mine}
 use Rattle.effects.specs.Origin.{org-at, wrote-at}
 use Rattle.legalset.specs.Chain.{View, Stands, writer, place-at}
 use Rattle.legalset.specs.Rules.{last-kept, when-in, own-memory, read-fine, org-fine, still-fine, reads-ok, origins-ok, suspends-ok, memory-ok, own-ok, pending, backward-ok, result-ok}
-use Rattle.legalset.proofs.Lasting.{kept-none, none-kept, Wrote, writer-wrote, wrote-writer, writer-is}
+use Rattle.legalset.proofs.Lasting.{kept-none, none-kept, writer-wrote, wrote-writer, writer-is}
 use Rattle.effects.proofs.Origins.{alias-is, readable-is, steady-is, temp-at, temp-number}
-use Rattle.legalset.proofs.Pending.{Awaits, awaits-of, of-awaits, reads-from-of, of-reads-from, use-of}
+use Rattle.legalset.proofs.Pending.{awaits-of, of-awaits, reads-from-of, of-reads-from, use-of}
 
 at-place : (L : ℕ → Bool) (d : ℕ) → when-some L (place-at d) ≡ when-in L d
 unfolding place-at when-in
@@ -74,23 +75,6 @@ temp-own L (suc a) h =
     let odd : eqb (suc a % 2) 1 ≡ true = eq-eqb (suc a % 2) 1 (omega arith) in
     let i : (suc a - 5) / 2 ≡ k = omega arith in
     or-second (eqb (suc a) 0) (leb 5 (suc a) && eqb (suc a % 2) 1 && L ((suc a - 5) / 2)) (true-T (leb 5 (suc a) && eqb (suc a % 2) 1 && L ((suc a - 5) / 2)) (both-true (leb 5 (suc a) && eqb (suc a % 2) 1) (L ((suc a - 5) / 2)) (both-true (leb 5 (suc a)) (eqb (suc a % 2) 1) five odd) (ap L i ∙ z .2)))
-
--- ---- tests of what is there or not
-
-no-some : {A : Type 0} (o : Option A) → T (not (is-some o)) → o ≡ none
-no-some none t = refl
-no-some (some a) t = absurd t
-
-some-no : {A : Type 0} (o : Option A) → o ≡ none → T (not (is-some o))
-some-no none e = tt
-some-no (some a) e = Option·none-ne-some a (sym e)
-
-unless-at : {A : Type 0} (f : A → Bool) (o : Option A) → T (unless-some f o) → (a : A) → o ≡ some a → T (f a)
-unless-at f o t a e = subst (λ x. T (unless-some f x)) e t
-
-unless-of : {A : Type 0} (f : A → Bool) (o : Option A) → ((a : A) → o ≡ some a → T (f a)) → T (unless-some f o)
-unless-of f none h = tt
-unless-of f (some a) h = h a refl
 
 -- ---- one origin
 
@@ -280,7 +264,7 @@ module _ (C : View) (n : ℕ) (run : List Fact) (s : Stands C n run) (needed L :
         both still (all steady (e .from))
         (both (not (e .creates)) (not (is-some (e .wrote)))
         (false-T (e .creates) (s .creates p h ∙ T-false (C .creates p) (true-T _ (left-true (not (C .creates p)) (eqb (C .wrote p) 0) z))))
-        (some-no (e .wrote) (s .wrote p h ∙ none-wrote (C .wrote p) (right-true (not (C .creates p)) (eqb (C .wrote p) 0) z))))
+        (no-some-of (e .wrote) (s .wrote p h ∙ none-wrote (C .wrote p) (right-true (not (C .creates p)) (eqb (C .wrote p) 0) z))))
         (all-of steady (e .from) (λ x i. let y = fine t x i in true-T (steady x) (ap steady (y .1) ∙ sym (steady-is (y .0)) ∙ ap (λ (v : Bool). v || eqb (y .0) 2)
         (⊎-elim (λ (u : eqb (y .0) 1 ≡ true). u) (λ (u : eqb (y .0) 1 ≡ false). clash (T-true _ (y .2 .calm u)) f) (bool? (eqb (y .0) 1))))))))
 
@@ -353,19 +337,11 @@ module _ (C : View) (n : ℕ) (run : List Fact) (s : Stands C n run) (needed L :
 
   -- ---- rule 6
 
-  own-org : (w : Org) → T (rule6 run needed L w) → (k : ℕ) × (w ≡ Temp k) × (L k ≡ true)
-  own-org Unknown t = absurd t
-  own-org Ro t = absurd t
-  own-org Heap t = absurd t
-  own-org Frame t = absurd t
-  own-org (Temp k) t = (k, refl, T-true (L k) t)
-  own-org (Img k) t = absurd t
-
   pub rule6-is : own-ok C n L p ≡ getD (tests run needed L p) 5 true
   unfolding own-ok
   rule6-is = bool-ext (own-ok C n L p) (unless-some (rule6 run needed L) (e .wrote))
       (λ t. unless-of (rule6 run needed L) (e .wrote) (λ w d. let z = own-temp L (C .wrote p) t w (sym (s .wrote p h) ∙ d) in subst (λ (x : Org). T (rule6 run needed L x)) (sym (z .1)) (true-T (L (z .0)) (z .2))))
-      (λ t. temp-own L (C .wrote p) (λ w d. own-org w (unless-at (rule6 run needed L) (e .wrote) t w (s .wrote p h ∙ d))))
+      (λ t. temp-own L (C .wrote p) (λ w d. mine run needed L w (unless-at (rule6 run needed L) (e .wrote) t w (s .wrote p h ∙ d))))
 
   -- ---- all six
 

@@ -1,9 +1,9 @@
 -- Passes in turn until both drop nothing, and what is left then: the greatest legal set, or fewer than a number that bounds it. Assumes
 -- nothing.
-use mathlib.Core.Path.{_≡_, refl, sym, ap, _∙_, subst}
-use mathlib.Core.Bool.{Bool, true, false, not, _&&_}
+use mathlib.Core.Path.{_≡_, refl, sym, _∙_, subst}
+use mathlib.Core.Bool.{Bool, true, false, not, _&&_, Bool·not-not}
 use mathlib.Core.List.{List, [], _∷_}
-use Prim.Native.Nat.{ℕ, _+_, _-_, _≤_, _<_}
+use Prim.Native.Nat.{ℕ, _-_, _≤_, _<_}
 use native.Mathlib.Nat.{le-trans}
 use native.Mathlib.Omega.{arith}
 use borrow.Author.Tests.{eqb-true, le-leb}
@@ -63,14 +63,10 @@ module _ (C : View) (n m : ℕ) where
     within = λ p t. i .within p (f .within p t);
     holds = λ L s k. f .holds L (i .holds L s k) (λ p t. of-cycle a L p (k p t));
     count = let x = i .count in let y = f .count in omega arith;
-    once = λ e p l t. subst (λ (b : Bool). T (pass-ok C n b (in-set W) p)) (sym (not-not a)) (now e p l t);
+    once = λ e p l t. subst (λ (b : Bool). T (pass-ok C n b (in-set W) p)) (sym (Bool·not-not a)) (now e p l t);
     twice = λ e p l t. in-cycle a (in-set W) p (before e p l t) (now (right-true q (eqb d 0) e) p l t);
   }
     where
-      not-not : (b : Bool) → not (not b) ≡ b
-      not-not true = refl
-      not-not false = refl
-
       now : eqb d 0 ≡ true → (p : ℕ) → p < m → T (in-set W p) → T (pass-ok C n a (in-set W) p)
       now e p l t =
           let x = f .left (eqb-true d 0 e) in

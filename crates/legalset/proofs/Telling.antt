@@ -1,49 +1,40 @@
 -- What `analyse` says of the words of a chain makes them stand for the chain's facts. Assumes nothing.
 use mathlib.Core.Path.{_≡_, refl, sym, ap, ap₂, _∙_, subst}
-use mathlib.Core.Logic.{_⊎_, inl, inr, ⊎-elim}
+use mathlib.Core.Logic.{⊎-elim}
 use mathlib.Core.Bool.{Bool, true, false, cond}
-use mathlib.Core.List.{List, [], _∷_, _++_, map}
-use mathlib.Core.Option.{Option, none, some}
+use mathlib.Core.List.{List, [], _∷_, map}
+use mathlib.Core.Option.{Option}
 use Prim.Native.Nat.{ℕ, zero, suc, _+_, _*_, _/_, _%_, _≤_, _<_}
 use native.Mathlib.Nat.{zero-add}
 use native.Mathlib.Omega.{arith}
 use lib.Dec.{eqb}
-use lib.ListN.{getD, length, take, drop, length-append, length-map}
+use lib.ListN.{getD, length, take, drop, length-map}
 use lib.Seq.{getD-take}
 use Rattle.words.proofs.Bools.{eq?}
-use Rattle.words.proofs.Lists.{map-map, map-ext, getD-map, length-made}
-use Rattle.model.specs.Kinds.{Arm, Row, row, cat}
+use Rattle.words.proofs.Lists.{map-map, map-ext, getD-map}
+use Rattle.model.specs.Kinds.{Arm, row, cat}
 use Rattle.model.specs.Picture.{Inst, inst, kind, reads, list-of}
-use Rattle.model.specs.Analyse.{Facts, Known, Fact, Read, Org, Unknown, Ro, Frame, Effect, fact, analyse, no-fact, last-writer, org-of, len-of, known-of, pieces, arm, is-layout, when-some, positive, unread}
+use Rattle.model.specs.Analyse.{Facts, Fact, Read, Org, Unknown, Ro, Frame, fact, analyse, no-fact, last-writer, org-of, len-of, known-of, pieces, arm, is-layout, when-some, positive, unread}
 use Rattle.model.specs.Legal.{fact-at}
-use Rattle.laws.proofs.Analysed.{analysed}
+use Rattle.laws.proofs.Analysed.{analysed, length-analyse}
 use Rattle.effects.specs.Origin.{org-at, from-at, num}
-use Rattle.legalset.specs.Chain.{cell, flag, reg-org, picked, origins, writer, defs-of, view, place-at, View, Stands, Told, Says, Heard}
-use Rattle.legalset.proofs.Lasting.{Wrote, writer-wrote, writer-is′}
+use Rattle.effects.proofs.Origins.{num-le, num-is}
+use Rattle.legalset.specs.Chain.{cell, flag, reg-org, picked, origins, writer, defs-of, view, place-at, Told, Heard}
+use Rattle.legalset.proofs.Lasting.{writer-wrote, writer-is′}
 
 -- ---- flags
 
-num-low : (b : Bool) → num b ≤ 1
-unfolding num
-num-low true = omega arith
-num-low false = omega arith
-
-num-is : (b : Bool) → eqb (num b) 1 ≡ b
-unfolding num
-num-is true = refl
-num-is false = refl
-
 module _ (x : ℕ) (l y m b s : Bool) (e : x ≡ num l + 2 * num y + 4 * num m + 8 * num b + 16 * num s) where
-  at-4 : eqb (x / 4 % 2) 1 ≡ m
-  at-4 = let a = num-low l in let c = num-low y in let d = num-low m in let f = num-low b in let g = num-low s in
+  pub at-4 : eqb (x / 4 % 2) 1 ≡ m
+  at-4 = let a = num-le l in let c = num-le y in let d = num-le m in let f = num-le b in let g = num-le s in
       let z : x / 4 % 2 ≡ num m = omega arith in ap (λ (v : ℕ). eqb v 1) z ∙ num-is m
 
-  at-8 : eqb (x / 8 % 2) 1 ≡ b
-  at-8 = let a = num-low l in let c = num-low y in let d = num-low m in let f = num-low b in let g = num-low s in
+  pub at-8 : eqb (x / 8 % 2) 1 ≡ b
+  at-8 = let a = num-le l in let c = num-le y in let d = num-le m in let f = num-le b in let g = num-le s in
       let z : x / 8 % 2 ≡ num b = omega arith in ap (λ (v : ℕ). eqb v 1) z ∙ num-is b
 
-  at-16 : eqb (x / 16 % 2) 1 ≡ s
-  at-16 = let a = num-low l in let c = num-low y in let d = num-low m in let f = num-low b in let g = num-low s in
+  pub at-16 : eqb (x / 16 % 2) 1 ≡ s
+  at-16 = let a = num-le l in let c = num-le y in let d = num-le m in let f = num-le b in let g = num-le s in
       let z : x / 16 % 2 ≡ num s = omega arith in ap (λ (v : ℕ). eqb v 1) z ∙ num-is s
 
 -- ---- a Cat's pieces
@@ -71,13 +62,6 @@ cat-from G ops past i e =
     let orgs : List Org = map (org-of G past) us in
     let lens : List Bool = map (len-of G past) us in
     ap (λ (a : Arm). arm i (length past) (when-some positive (known-of G (getD us 1 unread .reg) .konst)) (λ k. getD orgs k Unknown) (λ k. getD lens k false) (is-layout past) (drop 3 orgs) a .from) e
-
-length-analyse : (G : Facts) (ops : List ℕ) (past : List Fact) (is : List Inst) → length (analyse G ops past is) ≡ length past + length is
-length-analyse G ops past [] = omega arith
-length-analyse G ops past (i ∷ is) =
-    let h = length-analyse G ops (past ++ fact G ops past i ∷ []) is in
-    let k = length-append past (fact G ops past i ∷ []) in
-    omega arith
 
 module _ {G : Facts} {recs ops w regs places : List ℕ} {run : List Fact} (s : Heard G recs ops w regs places run) where
   abbrev n : ℕ

@@ -4,7 +4,6 @@ use mathlib.Core.Path.{_≡_}
 use mathlib.Core.Logic.{_⊎_}
 use mathlib.Core.Bool.{Bool, cond}
 use mathlib.Core.List.{List, [], _∷_, _++_, map}
-use mathlib.Core.Option.{Option, none, some}
 use Prim.Native.Nat.{ℕ, zero, suc, _+_, _*_, _/_, _%_, _≤_, _<_}
 use lib.Dec.{eqb}
 use lib.ListN.{getD, length, take, drop}
@@ -15,19 +14,11 @@ use Rattle.model.specs.Picture.{Inst, inst, absent, kind, reads, writes, list-o
 use Rattle.model.specs.Analyse.{Facts, Known, Fact, last-writer, known-of, analyse}
 use Rattle.model.specs.Legal.{fact-at}
 use Rattle.effects.specs.Origin.{org-at, class-at, wrote-at, from-at, num}
+unfoldable pub use Rattle.effects.specs.Origin.{cell, place-at}
 use Rattle.inst.specs.Record as I
 use Rattle.inst.specs.Record.{Within, Listed, present, read-at, write-at}
 
--- a position and 1, or 0 for none
-unfoldable pub place-at : ℕ → Option ℕ
-place-at zero = none
-place-at (suc d) = some d
-
 -- ---- the words
-
--- word j of position p
-unfoldable pub cell : List ℕ → ℕ → ℕ → ℕ
-cell w p j = getD w (10 * p + j) 0
 
 -- a flag of position p: 4 creates, 8 barrier, 16 suspends
 unfoldable pub flag : List ℕ → ℕ → ℕ → Bool

@@ -1,12 +1,11 @@
 -- The table of kinds, by one computed test each. Assumes nothing.
 use mathlib.Core.Path.{_≡_, refl}
-use mathlib.Core.Bool.{Bool, true, false, _&&_}
-use mathlib.Core.List.{List, [], _∷_, map}
-use Prim.Native.Nat.{ℕ}
+use mathlib.Core.Bool.{true}
+use mathlib.Core.List.{map}
 use lib.Dec.{leb}
 use lib.ListN.{length}
 use Rattle.words.specs.Lists.{upto, all, filter, _implies_}
-use Rattle.model.specs.Kinds.{Kind, Row, kinds, place, row, at-form, writing}
+use Rattle.model.specs.Kinds.{kinds, place, row, at-form, writing}
 use Rattle.model.specs.Refusal.{may-move}
 
 -- the kinds stand at their places

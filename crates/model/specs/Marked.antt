@@ -5,7 +5,6 @@ use mathlib.Core.List.{List, [], _∷_, _++_, map}
 use Prim.Native.Nat.{ℕ, zero, suc, _+_, _^_, _%_, _/_}
 use lib.ListN.{length, replicate}
 use Rattle.words.specs.Lists.{range, upto, concat}
-use Rattle.model.specs.declared.Answer.{Answer}
 use Rattle.model.specs.declared.Answer.the-variants.{Done, Short, Refused}
 use Rattle.model.specs.Kinds.{Const, AddrOf, Alloc, Cmp, Cat, CondBr, Br, Output, Ret, Stmt, Suspend}
 use Rattle.model.specs.Picture.{Picture, Inst}

@@ -1,13 +1,12 @@
 -- 01, "The call": the picture that the caller lends, its records, and what the roles say of one; a block's successors and
 -- predecessors. Assumes nothing.
-use mathlib.Core.Bool.{Bool, true, false, not, _&&_, _||_, cond}
+use mathlib.Core.Bool.{Bool, true, false, not, _&&_, cond}
 use mathlib.Core.List.{List, [], _∷_, _++_, map}
-use mathlib.Core.Option.{Option, none, some}
-use Prim.Native.Nat.{ℕ, zero, suc, _+_, _-_, _*_, _/_, _^_}
-use lib.Dec.{eqb, ltb, leb}
+use Prim.Native.Nat.{ℕ, _+_, _-_, _*_, _/_}
+use lib.Dec.{eqb}
 use lib.ListN.{getD, length, take, drop}
-use Rattle.words.specs.Lists.{range, upto, any, mem, filter}
-use Rattle.model.specs.Kinds.{Kind, Role, Row, row, kind-of, at-form, reading, writing, place, Br, CondBr, Case}
+use Rattle.words.specs.Lists.{range, upto, mem, filter}
+use Rattle.model.specs.Kinds.{Kind, Role, row, kind-of, at-form, reading, writing, place, Br, CondBr, Case}
 
 -- a "picture" of one function, all 32-bit words
 pub record Picture : Type 0 where

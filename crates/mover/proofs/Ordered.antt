@@ -1,33 +1,19 @@
 -- The order that the move leaves is `model`'s: of every block, and of the whole. Assumes nothing.
 use mathlib.Core.Path.{_≡_, refl, sym, ap, ap₂, _∙_}
-use mathlib.Core.Bool.{Bool, true, false, not, cond}
-use mathlib.Core.List.{List, [], _∷_, _++_, map, append-assoc, append-nil}
-use Prim.Native.Nat.{ℕ, zero, suc, _+_, _-_, _≤_, _<_}
+use mathlib.Core.Bool.{Bool, true, false, not, Bool·not-not}
+use mathlib.Core.List.{List, _∷_, _++_, map, append-assoc, append-nil}
+use Prim.Native.Nat.{ℕ, _+_, _-_, _≤_, _<_}
 use native.Mathlib.Nat.{zero-add, sub-zero}
 use native.Mathlib.Omega.{arith}
 use borrow.Author.Tests.{eq-eqb, ne-eqb}
 use lib.Dec.{eqb}
 use Rattle.words.specs.Lists.{range, upto, filter, concat, member}
-use Rattle.words.proofs.Lists.{map-append, range-append, shift-range, filter-append, concat-append, made-ext}
+use Rattle.words.proofs.Lists.{map-append, range-append, shift-range, filter-append, concat-append, made-ext, filter-ext, filter-none, filter-all}
 use Rattle.model.specs.Picture.{Picture, nblocks, starts, size, places}
 use Rattle.model.specs.Refusal.{gaps}
 use Rattle.model.specs.Move.{Plan, members, order-of, order}
 use Rattle.mover.specs.Order.{stays, goes, kept, gone, later, earlier}
 use Rattle.mover.proofs.Laying as L
-
--- a test that agrees with another on the range
-filter-ext : (f g : ℕ → Bool) (s n : ℕ) → ((p : ℕ) → s ≤ p → p < s + n → f p ≡ g p) → filter f (range s n) ≡ filter g (range s n)
-filter-ext f g s zero h = refl
-filter-ext f g s (suc n) h =
-    ap₂ (λ (b : Bool) (l : List ℕ). cond b (s ∷ l) l) (h s (omega arith) (omega arith)) (filter-ext f g (suc s) n (λ p a b. h p (omega arith) (omega arith)))
-
-filter-none : (s n : ℕ) → filter (λ p. false) (range s n) ≡ []
-filter-none s zero = refl
-filter-none s (suc n) = filter-none (suc s) n
-
-filter-all : (s n : ℕ) → filter (λ p. true) (range s n) ≡ range s n
-filter-all s zero = refl
-filter-all s (suc n) = ap (λ (l : List ℕ). s ∷ l) (filter-all (suc s) n)
 
 -- the marks say who is a member: of the first m positions, which are all of them
 pub record Says (set : List Bool) (chain : List ℕ) (m : ℕ) : Type 0 where
@@ -35,10 +21,6 @@ pub record Says (set : List Bool) (chain : List ℕ) (m : ℕ) : Type 0 where
   pub outside : (p : ℕ) → m ≤ p → member set p ≡ false
 
 module _ (set : List Bool) (chain : List ℕ) (m : ℕ) (c : Says set chain m) where
-  not-not : (b : Bool) → not (not b) ≡ b
-  not-not true = refl
-  not-not false = refl
-
   -- the positions up to k, at least m of them
   upto-split : (f : ℕ → Bool) (k : ℕ) → m ≤ k → filter f (upto k) ≡ filter f (upto m) ++ filter f (range m (k - m))
   upto-split f k h =
@@ -49,8 +31,8 @@ module _ (set : List Bool) (chain : List ℕ) (m : ℕ) (c : Says set chain m) w
   gone-is lo k h =
       ap (map (λ p. lo + p))
       (upto-split (member set) k h
-      ∙ ap₂ (λ (x y : List ℕ). x ++ y) (filter-ext (member set) (goes chain) 0 m (λ p a b. sym (ap not (c .marks p (omega arith)) ∙ not-not (member set p))))
-      (filter-ext (member set) (λ p. false) m (k - m) (λ p a b. c .outside p a) ∙ filter-none m (k - m))
+      ∙ ap₂ (λ (x y : List ℕ). x ++ y) (filter-ext (member set) (goes chain) 0 m (λ p a b. sym (ap not (c .marks p (omega arith)) ∙ Bool·not-not (member set p))))
+      (filter-none (member set) m (k - m) (λ p a b. c .outside p a))
       ∙ append-nil (filter (goes chain) (upto m)))
 
   pub kept-is : (lo k : ℕ) → m ≤ k → map (λ p. lo + p) (filter (λ p. not (member set p)) (upto k)) ≡ kept chain lo m ++ range (lo + m) (k - m)
@@ -58,7 +40,7 @@ module _ (set : List Bool) (chain : List ℕ) (m : ℕ) (c : Says set chain m) w
       ap (map (λ p. lo + p))
       (upto-split (λ p. not (member set p)) k h
       ∙ ap₂ (λ (x y : List ℕ). x ++ y) (filter-ext (λ p. not (member set p)) (stays chain) 0 m (λ p a b. sym (c .marks p (omega arith))))
-      (filter-ext (λ p. not (member set p)) (λ p. true) m (k - m) (λ p a b. ap not (c .outside p a)) ∙ filter-all m (k - m)))
+      (filter-all (λ p. not (member set p)) m (k - m) (λ p a b. ap not (c .outside p a))))
       ∙ map-append (λ p. lo + p) (filter (stays chain) (upto m)) (range m (k - m)) ∙ ap (λ (l : List ℕ). kept chain lo m ++ l) (shift-range lo m (k - m))
 
 module _ (P : Picture) (a : Plan) (n : ℕ) (laid : gaps 0 n (P .bounds) ≡ false) (chain : List ℕ) (m : ℕ) (c : Says (a .set) chain m)

@@ -28,7 +28,7 @@ use Rattle.laws.proofs.Analysed.{length-analyse}
 use Rattle.laws.proofs.Blocks.{in-turn, size-past}
 use Rattle.laws.proofs.Chains as Chains
 use Rattle.laws.proofs.Chains.{chain-found, last-of-chain, links-apart, lead-length}
-use Rattle.laws.proofs.Planned.{planned}
+use Rattle.laws.proofs.Planned.{planned, minimum-some}
 use Rattle.laws.proofs.Renamed.{optional-there}
 use Rattle.laws.proofs.Sizes as S
 use Rattle.laws.proofs.Sizes.{recs-length, place-below, block-within}
@@ -88,14 +88,10 @@ module _ (P : Picture) (G : Facts) (x : ℕ) (c : Chain) (a : Plan) where
   abbrev cats : Bool
   cats = replays P c || any (λ i. is-kind Cat i && eqb (form i) 0) (take (size P x - 1) (code P x))
 
-  three : (b : Bool) → 3 ≤ minimum b
-  three true = omega arith
-  three false = omega arith
-
   worth-long : worth-a-look P x c ≡ true → 3 ≤ size P x - 1
   worth-long e =
       let l = leb→le least-of (size P x - 1) (left long short (left (long && short) cats (true-T (long && short && cats) e))) in
-      let m = three (replays P c) in
+      let m = minimum-some (replays P c) in
       omega arith
 
   worth-short : worth-a-look P x c ≡ true → length (chain-places P (c .blocks)) ≤ 800

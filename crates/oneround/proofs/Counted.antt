@@ -6,17 +6,17 @@ use native.Mathlib.Omega.{arith}
 use borrow.Rule.Slice.PartMut.{putMid, mid-len, same-len-mid, take-put}
 use lib.ListN.{length, take, drop, length-append, length-drop}
 use lib.Seq.{length-take-le, take-at, drop-at}
+use Rattle.words.proofs.Parts.{rows-small}
 use Rattle.trial.specs.declared.block.Move.{Move}
 use Rattle.chainwords.specs.Work.{width, chain-words}
 use Rattle.apply.specs.declared.needs.Counts.{Counts}
 use Rattle.apply.specs.Apply.{Asks, Counted}
 use Rattle.oneround.specs.Round.{Needing, Needed}
-use Rattle.search.proofs.Start.{small-product}
 
 module _ {bounds recs types ops work64 work32 : List ℕ} {regs opers insts : ℕ} {mv : Move} (k : Needing bounds recs types ops work64 work32 regs opers insts mv) where
   -- r words hold a row
   pub few-words : (r : ℕ) → r ≡ width (length types) → 4 * (length bounds / 2) * r ≤ 16777216
-  few-words r e = let b = k .few-blocks in let t = k .asks .few-types in small-product (4 * (length bounds / 2)) r (omega arith) (omega arith)
+  few-words r e = let t = k .asks .few-types in rows-small (k .few-blocks) (omega arith)
 
   pub words-there : (r : ℕ) → r ≡ width (length types) → 4 * (length bounds / 2) * r + 2 * length types ≤ length work64
   words-there r e = subst (λ (z : ℕ). 4 * (length bounds / 2) * z + 2 * length types ≤ length work64) (sym e) (k .room64)

@@ -1,7 +1,7 @@
 -- What the move of a round comes to (01, "A round" and "Answers"): it is counted, against the room that is lent. Assumes nothing.
-use mathlib.Core.Path.{_≡_, refl, sym, ap, _∙_, subst}
+use mathlib.Core.Path.{_≡_, sym, ap, _∙_, subst}
 use mathlib.Core.Logic.{⊎-elim}
-use mathlib.Core.Bool.{Bool, true, false, _&&_}
+use mathlib.Core.Bool.{Bool, true, false, _&&_, and-false}
 use mathlib.Core.List.{List}
 use mathlib.Core.Option.{some}
 use Prim.Native.Nat.{ℕ, _+_, _*_, _≤_, _<_}
@@ -12,6 +12,7 @@ use lib.Dec.{leb}
 use lib.ListN.{length, take}
 use lib.Seq.{length-take-le}
 use Rattle.words.proofs.Bools.{both-true, lt?}
+use Rattle.words.proofs.Lists.{drop-more}
 use Rattle.model.specs.Refusal.{records}
 use Rattle.model.specs.Picture.{Picture, nblocks}
 use Rattle.model.specs.Analyse.{Facts}
@@ -31,7 +32,7 @@ use Rattle.oneround.specs.declared.round.Step.{Step}
 use Rattle.oneround.specs.declared.round.Step.the-variants.{Goes, Short}
 use Rattle.oneround.specs.Round.{Ready, Needing, Needed, stepped, prepared, Decided}
 use Rattle.search.proofs.Start.{rooms-of}
-use Rattle.chainwords.proofs.Standing.{drop-more, begun-kept, firm-front}
+use Rattle.chainwords.proofs.Standing.{begun-kept, firm-front}
 use Rattle.oneround.proofs.Asked.{x-is, asked}
 
 -- ---- a move that was counted
@@ -78,10 +79,6 @@ module _ {P : Picture} (ok : Accepted P) {G : Facts} {x : ℕ} {mv : Move} {w v 
 
       opers-false : length (P .ops) < c .opers → leb (apply P (f .a) .opers) (length (P .ops)) ≡ false
       opers-false l = subst (λ (z : ℕ). leb z (length (P .ops)) ≡ false) (after .3) (lt-leb (c .opers) (length (P .ops)) l)
-
-      and-false : (b : Bool) → (b && false) ≡ false
-      and-false true = refl
-      and-false false = refl
 
   comes-to : (r : Step) → stepped mv c (length (P .types)) (length (P .ops)) r → prepared P G r v
   comes-to (Goes l) h = subst (λ (z : Line). prepared P G (Goes z) v) (sym (h .2)) (goes (h .0) (h .1))

@@ -6,11 +6,11 @@ use mathlib.Core.List.{List}
 use mathlib.Core.Logic.{⊎-elim}
 use mathlib.Core.Option.{some}
 use Prim.Native.Nat.{ℕ, _+_, _*_, _-_, _/_, _≤_, _<_}
-use native.Mathlib.Nat.{mul-le-mul}
 use native.Mathlib.Numerals.{add-one}
 use native.Mathlib.Omega.{arith}
 use lib.ListN.{length, take}
 use borrow.Rule.Slice.PartMut.{midOf, putMid, mid-len, same-len-mid, take-put}
+use Rattle.words.proofs.Parts.{rows-small as few-words}
 use Rattle.model.specs.Picture.{Picture, nblocks}
 use Rattle.model.specs.Refusal.{refusal, records}
 use Rattle.model.specs.Analyse.{Facts, facts, Fact}
@@ -56,10 +56,7 @@ module _ {P : Picture} {work64 work32 : List ℕ} {mv : Move} (h : Ready P work6
 
   -- with rows of q words
   pub rows-small : (q : ℕ) → q ≡ width (length (P .types)) → 4 * nblocks P * q ≤ 16777216
-  rows-small q e =
-      let f : 4 * nblocks P ≤ 16384 = omega (arith, blocks-few) in
-      let w : q ≤ 1024 = omega (arith, types-few) in
-      omega (arith, mul-le-mul f w)
+  rows-small q e = few-words blocks-few (omega (arith, types-few))
 
   pub vias-fit : Vias (P .locs) (P .vias)
   vias-fit = record { each-or-none = λ n. ⊎-elim (λ (z : length (P .vias) ≡ 0). absurd (n z)) (λ (z : length (P .vias) ≡ length (P .locs)). z) (vias-length P accept) }

@@ -13,7 +13,7 @@ use Rattle.plan.specs.declared.settle.Cycle.{Cycle}
 use Rattle.summary.specs.Passes.{Around}
 use Rattle.plan.specs.Sweep.{part}
 use Rattle.plan.specs.Cycle.{sweep-of, Readied, Next}
-use Rattle.plan.proofs.Visiting.{part-is, part-around, sized}
+use Rattle.plan.proofs.Visiting.{part-is, part-around, sized, nothing-moved}
 
 pub sweep-is : (c : Cycle) (ls : List ℕ) {x : ℕ} → x ≡ cond (c .ahead) (c .m) (c .n)
     → _≡_ {A = Sweep} (record { first = c .first; ahead = c .ahead; o = c .o; s = c .s; m = c .m; n = c .n; k = x; sus = getD ls 2007 0 % 1024; bar = getD ls 2006 0 % 1024 }) (sweep-of c ls)
@@ -24,9 +24,6 @@ pub cleared-part : {s e : ℕ} (work ys : List ℕ) → s ≤ e → e ≤ length
 cleared-part {s} {e} work ys h l z =
     let n = ap length z ∙ length-replicate (length (midOf s (e - s) work)) 0 in
     (part-is work ys h l n ∙ z ∙ ap (λ (k : ℕ). replicate k 0) (mid-len s e work l), part-around work ys h l n)
-
-nothing-moved : (s k : ℕ) (work : List ℕ) → Around s k work work
-nothing-moved s k work = record { size = refl; below = refl; behind = refl }
 
 pub readied-first : (R : ℕ) (c : Cycle) (work ls : List ℕ) → c .first ≡ true → Readied R c work ls work ls
 readied-first R c work ls e = record { kept = λ _. (refl, refl); ahead = λ u v. (refl, refl); back = λ u v. clash e u; around = nothing-moved (c .s) R work }

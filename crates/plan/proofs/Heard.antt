@@ -1,10 +1,10 @@
 -- The words that `analyse` leaves of a chain are what the plan asks: they stand for the chain's facts, and their numbers are small.
 -- Assumes nothing.
-use mathlib.Core.Path.{_≡_, refl, sym, ap, ap₂, _∙_, subst}
-use mathlib.Core.Logic.{_⊎_, inl, inr, ⊎-elim}
+use mathlib.Core.Path.{_≡_, refl, sym, ap, _∙_, subst}
+use mathlib.Core.Logic.{inl, inr, ⊎-elim}
 use mathlib.Core.Bool.{Bool, cond}
-use mathlib.Core.List.{List, [], _∷_, _++_, map}
-use Prim.Native.Nat.{ℕ, zero, suc, _+_, _*_, _/_, _%_, _≤_, _<_}
+use mathlib.Core.List.{List, [], _∷_, map}
+use Prim.Native.Nat.{ℕ, zero, suc, _/_, _%_, _≤_, _<_}
 use native.Mathlib.Nat.{zero-add}
 use native.Mathlib.Omega.{arith}
 use borrow.Author.Tests.{ne-eqb}
@@ -16,34 +16,27 @@ use Rattle.words.proofs.Bools.{eq?, lt?}
 use Rattle.words.proofs.Lists.{getD-map}
 use Rattle.words.proofs.Members.{in-left, in-right, in-concat, map-in, in-range, in-getD, in-index}
 use Rattle.model.specs.Kinds.{row, cat, reading}
-use Rattle.model.specs.Picture.{Picture, Inst, inst, absent, kind, roles, slots, chosen, reads, writes, list-of}
+use Rattle.model.specs.Picture.{Picture, Inst, inst, absent, kind, roles, slots, chosen, reads, list-of}
 use Rattle.model.specs.Analyse.{Facts, Known, unknown, Fact, Org, analyse, known-of, last-writer}
-use Rattle.model.specs.Legal.{fact-at}
 use Rattle.model.specs.Move.{chain-places}
-use Rattle.laws.proofs.Accepted as laws
+use Rattle.laws.proofs.Analysed.{length-analyse}
 use Rattle.inst.specs.Record.{read-at, present}
 use Rattle.inst.proofs.Rest.{reads-by-place}
-use Rattle.effects.specs.Origin.{org-at, class-at, wrote-at, from-at}
+use Rattle.effects.specs.Origin.{org-at, from-at}
 use Rattle.chains.specs.declared.chain.Chain.{Chain}
 use Rattle.chains.specs.Chain.{blocks-of}
 use Rattle.regfacts.specs.Flags.{Seen, flags-of}
-use Rattle.analyse.specs.State as A
-use Rattle.analyse.specs.State.{opt-at, pack, plain, Words, State}
+use Rattle.analyse.specs.State.{pack, plain, Words, State}
 use Rattle.analyse.specs.Step as S
 use Rattle.analyse.specs.Step.{Analysed}
-use Rattle.analyse.proofs.Run.{length-run}
 use Rattle.analyse.proofs.Looked.{ro-bit, frame-bit}
-use Rattle.analyse.proofs.Accepted as accepted
 use Rattle.legalset.specs.Chain.{cell, place-at, writer, defs-of, view, Good, Safe, Brief, Told, Says, Heard}
 use Rattle.legalset.proofs.Lasting.{writer-is}
 use Rattle.legalset.proofs.Telling as telling
 use Rattle.summary.specs.Passes.{Ended}
+use Rattle.summary.proofs.Places.{present-in}
 
 -- ---- one record
-
-present-in : (x : ℕ) → (x ≡ absent → ⊥) → In x (present x)
-unfolding present
-present-in x n = subst (λ (b : Bool). In x (cond b [] (x ∷ []))) (sym (ne-eqb x absent n)) (inl refl)
 
 -- a record that can be analysed is good for the plan
 module _ {recs ops : List ℕ} {R g : ℕ} (h : S.Good recs ops R g) where
@@ -68,14 +61,7 @@ module _ {recs ops : List ℕ} {R g : ℕ} (h : S.Good recs ops R g) where
     list = λ k l. low (getD (list-of ops i) k absent) (in-right (getD (list-of ops i) k absent) (chosen reading (roles i) (slots i)) (list-of ops i) (in-getD absent (list-of ops i) k l));
   }
 
-pub good-given : (P : Picture) → laws.Accepted P → (g : ℕ) → g < length (P .locs) → Good (P .recs) (P .ops) (P .regs) g
-good-given P ok g h = good-of (accepted.good-given P ok g h)
-
 -- ---- the words of one position
-
-cell-is : (w : List ℕ) (p j : ℕ) → cell w p j ≡ A.cell w p j
-unfolding cell A.cell
-cell-is w p j = let e : 10 * p + j ≡ p * 10 + j = omega arith in ap (λ (n : ℕ). getD w n 0) e
 
 -- where it is not the code of a Cat, what is read is in the word
 from-plain : (n : ℕ) (os : List Org) → (n ≡ 4294967295 → ⊥) → from-at n os ≡ os → from-at n [] ≡ os
@@ -83,21 +69,21 @@ unfolding from-at
 from-plain zero os k e = e
 from-plain (suc n) os k e = let z = ne-eqb (suc n) 4294967295 k in ap (λ (b : Bool). cond b [] (org-at n ∷ [])) z ∙ sym (ap (λ (b : Bool). cond b os (org-at n ∷ [])) z) ∙ e
 
-says : {w : List ℕ} {p : ℕ} {f : Fact} (ops : List ℕ) (i : Inst) → Words w p f → (A.cell w p 5 ≡ 4294967295 → (row (kind i) .arm ≡ cat) × (drop 3 (reads ops i) ≡ list-of ops i)) → Says w ops i p f
+says : {w : List ℕ} {p : ℕ} {f : Fact} (ops : List ℕ) (i : Inst) → Words w p f → (cell w p 5 ≡ 4294967295 → (row (kind i) .arm ≡ cat) × (drop 3 (reads ops i) ≡ list-of ops i)) → Says w ops i p f
 unfolding pack
 says {w} {p} {f} ops i s c = record {
-  class = ap class-at (cell-is w p 1) ∙ s .class;
-  org = ap org-at (cell-is w p 2) ∙ s .org;
-  flags = cell-is w p 3 ∙ s .flags;
-  wrote = ap wrote-at (cell-is w p 4) ∙ s .wrote;
-  from = λ k. ap (λ (n : ℕ). from-at n []) (cell-is w p 5) ∙ from-plain (A.cell w p 5) (f .does .from) (λ e. k (cell-is w p 5 ∙ e)) (s .from);
-  cat = λ e. c (sym (cell-is w p 5) ∙ e);
+  class = s .class;
+  org = s .org;
+  flags = s .flags;
+  wrote = s .wrote;
+  from = λ k. from-plain (cell w p 5) (f .does .from) k (s .from);
+  cat = c;
 }
 
 -- ---- the whole chain
 
-same-place : (a b : ℕ) → opt-at a ≡ place-at b → a ≡ b
-unfolding opt-at place-at
+same-place : (a b : ℕ) → place-at a ≡ place-at b → a ≡ b
+unfolding place-at
 same-place zero zero e = refl
 same-place zero (suc b) e = let z : _≡_ {A = ℕ} 0 1 = cc in absurd (omega arith)
 same-place (suc a) zero e = let z : _≡_ {A = ℕ} 0 1 = cc in absurd (omega arith)
@@ -108,18 +94,16 @@ module _ {recs ops regs w bounds : List ℕ} {c : Chain} {R n : ℕ} {regs′ w�
   safe = record {
     few = a .short;
     room = let h = a .safe .room in omega arith;
-    good = λ p h. subst (Good recs ops R) (sym (cell-is w′ p 0)) (good-of (a .holds p h .good));
-    org = λ p h. subst (λ (x : ℕ). x < 2004) (sym (cell-is w′ p 2)) (a .safe .near p h .org);
-    wrote = λ p h. subst (λ (x : ℕ). x ≤ 2004) (sym (cell-is w′ p 4)) (a .safe .near p h .wrote);
-    from = λ p h. subst (λ (x : ℕ). (x ≤ 2004) ⊎ (x ≡ 4294967295)) (sym (cell-is w′ p 5)) (a .safe .near p h .from);
+    good = λ p h. good-of (a .holds p h .good);
+    org = λ p h. a .safe .near p h .org;
+    wrote = λ p h. a .safe .near p h .wrote;
+    from = λ p h. a .safe .near p h .from;
   }
 
   pub brief : Brief recs ops w′ n
   brief = record {
-    defs = λ p h z. ap (λ (x : ℕ). writes (inst recs x)) (cell-is w′ p 0) ∙ a .holds p h .defs (sym (cell-is w′ p 9) ∙ z) ∙ ap present (sym (cell-is w′ p 6));
-    reads = λ p h z.
-        ap (λ (x : ℕ). reads ops (inst recs x)) (cell-is w′ p 0) ∙ a .holds p h .reads (sym (cell-is w′ p 9) ∙ z)
-        ∙ ap₂ (λ (x y : ℕ). present x ++ present y) (sym (cell-is w′ p 7)) (sym (cell-is w′ p 8));
+    defs = λ p h z. a .holds p h .defs z;
+    reads = λ p h z. a .holds p h .reads z;
   }
 
   module _ (P : Picture) (eb : P .bounds ≡ bounds) (G : Facts) (seen : Seen G R regs) (copy : List ℕ) (ec : copy ≡ map plain (take R regs′)) where
@@ -133,7 +117,7 @@ module _ {recs ops regs w bounds : List ℕ} {c : Chain} {R n : ℕ} {regs′ w�
     state = a .state P eb G seen
 
     long : length run ≡ n
-    long = length-run G ops [] (map (inst recs) places) ∙ zero-add (length (map (inst recs) places)) ∙ length-map places (inst recs) ∙ sym (a .positions P eb)
+    long = length-analyse G ops [] (map (inst recs) places) ∙ zero-add (length (map (inst recs) places)) ∙ length-map places (inst recs) ∙ sym (a .positions P eb)
 
     long-enough : length (take R regs′) ≡ R
     long-enough = length-take-le R regs′ (a .safe .ranged .in-use)
@@ -154,12 +138,11 @@ module _ {recs ops regs w bounds : List ℕ} {c : Chain} {R n : ℕ} {regs′ w�
     pub heard : Heard G recs ops w′ copy (chain-places P (blocks-of c)) (analyse G ops [] (map (inst recs) (chain-places P (blocks-of c))))
     heard = record {
       is-run = refl;
-      numbers = λ k h. cell-is w′ k 0 ∙ a .numbers P eb k (subst (λ (x : ℕ). k < x) (sym (a .positions P eb)) h);
+      numbers = λ k h. a .numbers P eb k (subst (λ (x : ℕ). k < x) (sym (a .positions P eb)) h);
       says = λ p h.
           let l : p < n = subst (λ (x : ℕ). p < x) (sym (a .positions P eb)) h in
           let z = a .holds p l in
-          subst (λ (g : ℕ). Says w′ ops (inst recs g) p (fact-at run p)) (sym (cell-is w′ p 0))
-          (says ops (inst recs (A.cell w′ p 0)) (state .each p (subst (λ (x : ℕ). p < x) (sym long) l)) (λ e. (z .cat e, z .good .readable .three (z .cat e))));
+          says ops (inst recs (cell w′ p 0)) (state .each p (subst (λ (x : ℕ). p < x) (sym long) l)) (λ e. (z .cat e, z .good .readable .three (z .cat e)));
       ro = λ r. ⊎-elim (λ (h : r < R). ro-bit (known-of G r) (getD copy r 0) (flags r h))
           (λ (h : R ≤ r). ap (λ (x : ℕ). eqb (x % 2) 1) (nothing r h .0) ∙ sym (ap (λ (k : Known). k .ro) (nothing r h .1))) (lt? r R);
       frame = λ r. ⊎-elim (λ (h : r < R). frame-bit (known-of G r) (getD copy r 0) (flags r h))

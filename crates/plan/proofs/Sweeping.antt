@@ -8,16 +8,16 @@ use native.Mathlib.Omega.{arith}
 use lib.Dec.{eqb}
 use lib.ListN.{getD, length, length-set}
 use Rattle.words.specs.Lists.{hit, mem}
-use Rattle.words.proofs.Bools.{bool?}
+use Rattle.words.proofs.Bools.{bool?, hit-le}
 use Rattle.effects.specs.Origin.{num}
 use Rattle.facts.specs.declared.Fact.{Fact}
 use Rattle.facts.specs.Marks.{no-fact, marked}
-use Rattle.analyse.specs.State as A
 use Rattle.analyse.specs.State.{pack}
 use Rattle.analyse.specs.Cells as C
 use Rattle.analyse.specs.Cells.{cells}
 use Rattle.analyse.proofs.Cells.{told, cells-marked}
 use Rattle.legalset.specs.Chain.{cell, flag}
+use Rattle.legalset.proofs.Telling.{at-4, at-8, at-16}
 use Rattle.plan.specs.declared.sweep.Sweep.{Sweep}
 use Rattle.plan.specs.declared.sweep.Tally.{Tally}
 use Rattle.summary.specs.Passes.{over, stamp, fact-word, Stamped, Near, Small, Shows}
@@ -26,59 +26,38 @@ use Rattle.summary.proofs.Wording.{written, readable, small}
 
 -- ---- the numbers of a fact
 
-num-low : (b : Bool) → num b ≤ 1
-unfolding num
-num-low true = omega arith
-num-low false = omega arith
-
-hit-low : (b : Bool) → hit b ≤ 1
-hit-low true = omega arith
-hit-low false = omega arith
-
-num-is : (b : Bool) → eqb (num b) 1 ≡ b
-unfolding num
-num-is true = refl
-num-is false = refl
-
 num-no : (b : Bool) → b ≡ false → num b ≡ 0
 unfolding num
 num-no b e = ap num e
 
-same-cell : (w : List ℕ) (p j : ℕ) → cell w p j ≡ A.cell w p j
-unfolding cell A.cell
-same-cell w p j = let z : 10 * p + j ≡ p * 10 + j = omega arith in ap (λ (k : ℕ). getD w k 0) z
-
 module _ (l y m b s : Bool) where
   creates-in : eqb (pack l y m b s / 4 % 2) 1 ≡ m
   unfolding pack
-  creates-in = let a = num-low l in let c = num-low y in let d = num-low m in let e = num-low b in let f = num-low s in
-      let z : (num l + 2 * num y + 4 * num m + 8 * num b + 16 * num s) / 4 % 2 ≡ num m = omega arith in ap (λ (x : ℕ). eqb x 1) z ∙ num-is m
+  creates-in = at-4 (pack l y m b s) l y m b s refl
 
   barrier-in : eqb (pack l y m b s / 8 % 2) 1 ≡ b
   unfolding pack
-  barrier-in = let a = num-low l in let c = num-low y in let d = num-low m in let e = num-low b in let f = num-low s in
-      let z : (num l + 2 * num y + 4 * num m + 8 * num b + 16 * num s) / 8 % 2 ≡ num b = omega arith in ap (λ (x : ℕ). eqb x 1) z ∙ num-is b
+  barrier-in = at-8 (pack l y m b s) l y m b s refl
 
   suspends-in : eqb (pack l y m b s / 16 % 2) 1 ≡ s
   unfolding pack
-  suspends-in = let a = num-low l in let c = num-low y in let d = num-low m in let e = num-low b in let f = num-low s in
-      let z : (num l + 2 * num y + 4 * num m + 8 * num b + 16 * num s) / 16 % 2 ≡ num s = omega arith in ap (λ (x : ℕ). eqb x 1) z ∙ num-is s
+  suspends-in = at-16 (pack l y m b s) l y m b s refl
 
 pub shown : (fs : List Fact) (p : ℕ) → Shows (cells fs) p (getD fs p no-fact)
 unfolding flag
 shown fs p = record {
-  rec = same-cell (cells fs) p 0 ∙ t .rec;
-  class = same-cell (cells fs) p 1 ∙ t .class;
-  org = same-cell (cells fs) p 2 ∙ t .org;
+  rec = t .rec;
+  class = t .class;
+  org = t .org;
   creates = ap (λ (x : ℕ). eqb (x / 4 % 2) 1) flags ∙ creates-in (f .len) (f .layout) (f .creates) (f .barrier) (f .suspends);
   barrier = ap (λ (x : ℕ). eqb (x / 8 % 2) 1) flags ∙ barrier-in (f .len) (f .layout) (f .creates) (f .barrier) (f .suspends);
   suspends = ap (λ (x : ℕ). eqb (x / 16 % 2) 1) flags ∙ suspends-in (f .len) (f .layout) (f .creates) (f .barrier) (f .suspends);
-  wrote = same-cell (cells fs) p 4 ∙ t .wrote;
-  from = same-cell (cells fs) p 5 ∙ t .from;
-  def = same-cell (cells fs) p 6 ∙ t .def;
-  use0 = same-cell (cells fs) p 7 ∙ t .use0;
-  use1 = same-cell (cells fs) p 8 ∙ t .use1;
-  more = λ e. same-cell (cells fs) p 9 ∙ t .more ∙ num-no (f .more) e;
+  wrote = t .wrote;
+  from = t .from;
+  def = t .def;
+  use0 = t .use0;
+  use1 = t .use1;
+  more = λ e. t .more ∙ num-no (f .more) e;
 }
   where
     f : Fact
@@ -88,7 +67,7 @@ shown fs p = record {
     t = told fs p
 
     flags : cell (cells fs) p 3 ≡ pack (getD fs p no-fact .len) (getD fs p no-fact .layout) (getD fs p no-fact .creates) (getD fs p no-fact .barrier) (getD fs p no-fact .suspends)
-    flags = same-cell (cells fs) p 3 ∙ told fs p .flags
+    flags = told fs p .flags
 
 -- ---- turn by turn
 
@@ -105,7 +84,7 @@ unfolding stamp over fact-word
 near-next {f} {l} {st} {st′} b m k d = record { org = λ r h. let u = subst (λ (x : ℕ). r < x) (d .size) h in subst (λ (x : ℕ). x / 8192 < 2005) (sym (d .each r u)) (go (mem r l) (getD st r 0) (k .org r u)) }
   where
     go : (c : Bool) (x : ℕ) → x / 8192 < 2005 → cond c (max (x % 2048) 0 + 2048 * (1 + 2 * hit b + 4 * f .org)) x / 8192 < 2005
-    go true x h = let o = m .org in let z = hit-low b in omega arith
+    go true x h = let o = m .org in let z = hit-le b in omega arith
     go false x h = h
 
 module _ {recs ops regs work ls : List ℕ} {fs : List Fact} {g : Sweep} {a : Tally} where
@@ -126,8 +105,8 @@ module _ {recs ops regs work ls : List ℕ} {fs : List Fact} {g : Sweep} {a : Ta
   swept-count (more i work′ ls′ work″ ls″ fs′ a′ a″ s v) = go (bool? (g .first)) (swept-count s)
     where
       go : (g .first ≡ true) ⊎ (g .first ≡ false) → a′ .count ≤ a .count + i → a″ .count ≤ a .count + (i + 1)
-      go (inl e) y = let x = v .begun e .1 .1 in let z = hit-low (a″ .keep) in omega arith
-      go (inr e) y = let x = v .counted e in let z = hit-low (getD fs′ (place g i) no-fact .member && not (a″ .keep)) in omega arith
+      go (inl e) y = let x = v .begun e .1 .1 in let z = hit-le (a″ .keep) in omega arith
+      go (inr e) y = let x = v .counted e in let z = hit-le (getD fs′ (place g i) no-fact .member && not (a″ .keep)) in omega arith
 
   module _ {k : ℕ} (r : Sweepable recs ops regs work fs g a k) where
     says : {i : ℕ} {work′ ls′ : List ℕ} {fs′ : List Fact} {a′ : Tally} → Swept recs ops regs g work ls fs a i work′ ls′ fs′ a′ → (p : ℕ) → Shows (cells fs) p (getD fs′ p no-fact)

@@ -8,9 +8,9 @@ use borrow.Author.Tests.{lt-ltb, le-ltb}
 use borrow.Rule.Slice.PartMut.{putMid, midOf, same-len-mid, mid-len, take-put, drop-put}
 use lib.Dec.{ltb}
 use lib.ListN.{length, take, drop}
-use lib.Seq.{drop-at, take-at, length-take-le}
 use Rattle.words.specs.Lists.{hit}
 use Rattle.words.proofs.Bools.{clash}
+use Rattle.words.proofs.Parts.{put-part}
 use Rattle.inst.specs.Table.{rows}
 use Rattle.facts.specs.declared.Fact.{Fact}
 use Rattle.plan.specs.declared.sweep.Sweep.{Sweep}
@@ -45,7 +45,7 @@ part-len s k work h = let z : s + k - s ≡ k = omega arith in ap (λ (x : ℕ).
 
 module _ {s e : ℕ} (work ys : List ℕ) (h : s ≤ e) (l : e ≤ length work) (n : length ys ≡ length (midOf s (e - s) work)) where
   pub part-is : part s (e - s) (putMid s (e - s) work ys) ≡ ys
-  part-is = ap (take (e - s)) (drop-at (take s work) _ s (length-take-le s work (omega arith))) ∙ take-at ys _ (e - s) (n ∙ mid-len s e work l)
+  part-is = put-part s (e - s) work ys (e - s) (omega arith) (n ∙ mid-len s e work l)
 
   pub part-around : Around s (e - s) work (putMid s (e - s) work ys)
   part-around = let z : s + (e - s) ≡ e = omega arith in record {
@@ -89,7 +89,7 @@ module _ {recs ops regs work : List ℕ} {g : Sweep} {f : Fact} {a : Tally} {p :
 
 -- ---- the three kinds of visit
 
-nothing-moved : (s k : ℕ) (work : List ℕ) → Around s k work work
+pub nothing-moved : (s k : ℕ) (work : List ℕ) → Around s k work work
 nothing-moved s k work = record { size = refl; below = refl; behind = refl }
 
 module _ {recs ops regs : List ℕ} {g : Sweep} {f : Fact} {a r : Tally} {p : ℕ} {work ls : List ℕ} {b : Bool} where

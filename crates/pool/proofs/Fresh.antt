@@ -8,13 +8,12 @@ use native.Mathlib.Nat.{zero-add}
 use native.Mathlib.Omega.{arith}
 use lib.ListN.{length, take}
 use Rattle.words.specs.Lists.{range, upto, filter, member, lookup}
-use Rattle.words.proofs.Lists.{range-snoc, range-append, filter-append}
+use Rattle.words.proofs.Lists.{range-snoc, range-append, filter-append, filter-none}
 use Rattle.model.specs.Analyse.{Fact}
 use Rattle.model.specs.Legal.{fact-at}
 use Rattle.model.specs.Picture.{Picture, size}
 use Rattle.model.specs.Move.{Plan, Pool, release, gives, pooled, last-use, members, fresh, apply}
 use Rattle.pool.specs.Pool.{mark-at, last-at, wrote-at, new-at, after, turned, regs-of, start, typed, reg-or, Allots}
-use Rattle.pool.specs.Types.{over}
 use Rattle.pool.specs.Plan.{Marked, read-there}
 
 module _ (run : List Fact) (there : ℕ → Bool) where
@@ -44,11 +43,6 @@ module _ (run : List Fact) (there : ℕ → Bool) where
         ap (turned (mark-at w p) p (last-at w p) (wrote-at w p)) (after-pooled p (omega arith))
         ∙ turn p h (member S p) refl (upTo p) ∙ sym (next p)
 
--- nothing is taken from a range where the test fails
-none-taken : (f : ℕ → Bool) (s n : ℕ) → ((p : ℕ) → s ≤ p → f p ≡ false) → filter f (range s n) ≡ []
-none-taken f s zero h = refl
-none-taken f s (suc n) h = ap (λ (b : Bool). cond b (s ∷ filter f (range (suc s) n)) (filter f (range (suc s) n))) (h s (omega arith)) ∙ none-taken f (suc s) n (λ p l. h p (omega arith))
-
 -- the members are among the first m positions
 pub members-are : (P : Picture) (a : Plan) (m : ℕ) → m ≤ size P (a .x) → ((p : ℕ) → m ≤ p → member (a .set) p ≡ false) → members P a ≡ filter (member (a .set)) (upto m)
 members-are P a m h out =
@@ -56,7 +50,7 @@ members-are P a m h out =
     let e : size P (a .x) ≡ m + n = omega arith in
     ap (λ (k : ℕ). filter (member (a .set)) (upto k)) e ∙ ap (filter (member (a .set))) (sym (range-append 0 m n))
     ∙ filter-append (member (a .set)) (upto m) (range (0 + m) n)
-    ∙ ap (λ (l : List ℕ). filter (member (a .set)) (upto m) ++ l) (none-taken (member (a .set)) (0 + m) n (λ p l. out p (omega arith)))
+    ∙ ap (λ (l : List ℕ). filter (member (a .set)) (upto m) ++ l) (filter-none (member (a .set)) (0 + m) n (λ p l k. out p (omega arith)))
     ∙ mathlib.Core.List.append-nil (filter (member (a .set)) (upto m))
 
 module _ (P : Picture) (a : Plan) (w v : List ℕ) (m next : ℕ) (c : Marked (a .run) (read-there P a) (a .set) w m) (h : m ≤ size P (a .x))
@@ -72,12 +66,6 @@ module _ (P : Picture) (a : Plan) (w v : List ℕ) (m next : ℕ) (c : Marked (a
   -- the registers in use then, and their types behind those that the picture had
   pub apply-regs : next ≡ apply P a .regs
   apply-regs = sym (ap (λ (s : Pool). length (s .types)) fresh-is ∙ l .all .next-is)
-
-  pub typed-long : length (typed (P .types) v m (take (P .regs) (P .types))) ≡ next
-  typed-long = ap length (sym types-is) ∙ sym apply-regs
-
-  pub apply-types : over (typed (P .types) v m (take (P .regs) (P .types))) (P .types) ≡ apply P a .types
-  apply-types = ap (λ (ts : List ℕ). over ts (P .types)) (sym types-is)
 
   -- each member's register
   pub given-is : (p x : ℕ) → p < m → lookup (fresh P a .given) p x ≡ reg-or (new-at v p) x

@@ -1,6 +1,6 @@
 -- The words that `find_facts` leaves stand for the model's facts of the picture, also for registers that are new after it.
 -- Assumes nothing.
-use mathlib.Core.Bool.{Bool, true, false, cond}
+use mathlib.Core.Bool.{Bool, false, cond}
 use mathlib.Core.List.{List, [], _∷_, map}
 use mathlib.Core.Path.{_≡_, refl, sym, ap, _∙_}
 use Prim.Native.Nat.{ℕ, _%_, _≤_, _<_}
@@ -14,7 +14,7 @@ use Rattle.words.proofs.Lists.{getD-made, getD-past, length-made}
 use Rattle.words.proofs.Members.{in-map, range-in}
 use Rattle.model.specs.Picture.{Picture, Inst, inst, writes}
 use Rattle.model.specs.Analyse.{Known, unknown, from-writers, facts, known-of, when-some, small, positive}
-use Rattle.effects.specs.Origin.{num}
+use Rattle.effects.proofs.Origins.{num-le}
 use Rattle.regfacts.specs.Flags.{flags-of, known-from, Found, Seen}
 
 -- ---- a register that nobody writes
@@ -33,11 +33,6 @@ unwritten recs n r h =
 
 -- ---- the facts of a picture
 
-low : (b : Bool) → num b ≤ 1
-unfolding num
-low true = omega arith
-low false = omega arith
-
 module _ (P : Picture) where
   abbrev n : ℕ
   n = length (P .locs)
@@ -54,7 +49,7 @@ module _ (P : Picture) where
 
   flags-low : (k : Known) → flags-of k % 16 ≡ flags-of k
   unfolding flags-of
-  flags-low k = omega (arith, low (k .ro), low (k .frame), low (when-some small (k .konst)), low (when-some positive (k .konst)))
+  flags-low k = omega (arith, num-le (k .ro), num-le (k .frame), num-le (when-some small (k .konst)), num-le (when-some positive (k .konst)))
 
   -- of the first R registers, where no register in use before is past them
   pub first-seen : {K R : ℕ} {words : List ℕ} → Found (P .recs) n K words → P .regs ≤ R → R ≤ K

@@ -1,5 +1,5 @@
 -- The facts on registers as flags: a constant's, a record's, and of every register. Assumes nothing.
-use mathlib.Core.Bool.{Bool, true, false, cond, _||_, _&&_}
+use mathlib.Core.Bool.{Bool, true, false, cond, _||_, _&&_, and-true}
 use mathlib.Core.List.{List}
 use mathlib.Core.Logic.{_⊎_, inl, inr, ⊎-elim}
 use mathlib.Core.Option.{Option, none, some}
@@ -28,13 +28,9 @@ use Rattle.regfacts.proofs.Soles.{sole-writer, sole-small}
 
 -- ---- a constant
 
-and-end : (b : Bool) → (b && true) ≡ b
-and-end true = refl
-and-end false = refl
-
 pub small-is : (z : ℤ) → leZ (negsuc 1099511627775) z && leZ z (pos 1099511627776) ≡ small z
 small-is (pos n) = refl
-small-is (negsuc n) = and-end (leb n 1099511627775) ∙ go (leb n 1099511627775) refl
+small-is (negsuc n) = and-true (leb n 1099511627775) ∙ go (leb n 1099511627775) refl
   where
     go : (b : Bool) → leb n 1099511627775 ≡ b → b ≡ leb (suc n) 1099511627776
     go true e = let h = leb-true n 1099511627775 e in sym (le-leb (suc n) 1099511627776 (omega (arith, h)))

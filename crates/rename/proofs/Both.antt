@@ -5,7 +5,6 @@ use mathlib.Core.List.{List, [], _∷_, _++_, map}
 use Prim.Native.Nat.{ℕ, _+_, _-_, _*_, _≤_}
 use native.Mathlib.Nat.{add-assoc}
 use native.Mathlib.Omega.{arith}
-use lib.Dec.{eqb}
 use lib.ListN.{length, getD, take, drop, length-append}
 use lib.Seq.{take-take, take-add, drop-drop}
 use Rattle.words.specs.Lists.{mem, same}
@@ -15,9 +14,9 @@ use Rattle.rename.specs.Names.{part}
 use Rattle.rename.specs.Runs.{Run}
 use Rattle.rename.proofs.Records.{inst-same}
 use Rattle.rename.proofs.Sequence.{parts-same, appended-append, made-all-append, map-agree}
-use Rattle.words.proofs.Alls.{any-append}
 use Rattle.words.proofs.Bools.{or-left, or-right}
 use Rattle.words.proofs.Lists.{map-append}
+use Rattle.words.proofs.Alls.{mem-append}
 
 -- the old lists lie within the first u operands
 abbrev pub Lists : ℕ → List Job → Type 0
@@ -43,9 +42,6 @@ module _ (u : ℕ) (ops ops₁ : List ℕ) (front : take u ops₁ ≡ take u ops
   made-all-same n (j ∷ js) w =
       ap₂ (λ (b : Bool) (l : List ℕ). made j (cond b n (getD (j .old) 7 0)) ∷ made-all ops₁ (n + length l) js) (changes-same j (w .0)) (more-same j (w .0))
       ∙ ap (λ (l : List Inst). made j (cond (changes ops j) n (getD (j .old) 7 0)) ∷ l) (made-all-same (n + length (more-of ops j)) js (w .1))
-
-mem-append : (r : ℕ) (xs ys : List ℕ) → mem r (xs ++ ys) ≡ (mem r xs || mem r ys)
-mem-append r xs ys = any-append (λ x. eqb r x) xs ys
 
 module _ {o₀ o r : ℕ} {ps qs : List ℕ} {js ks : List Job} {xs ys zs ops ops₁ ops₂ : List ℕ} (h : Run o₀ ps js xs ys ops ops₁ o) (m : Run o qs ks ys zs ops₁ ops₂ r)
     (apart : (q : ℕ) → mem q ps ≡ true → mem q qs ≡ false) (within : Lists o₀ ks) where

@@ -13,12 +13,12 @@ use lib.Seq.{length-take-le}
 use Rattle.words.specs.Lists.{mem, range, same}
 use Rattle.model.specs.Picture.{inst, absent, list-of, writes}
 use Rattle.model.specs.Move.{Job, appended, changes, new-list, more-of, own-jobs}
+use Rattle.inst.proofs.Words.{word-is}
 use Rattle.pool.specs.Pool.{mark-at, wrote-at, new-at}
 use Rattle.rename.specs.Names.{named, reg-or, pick, put-name, job, part, list-changes, Forgot}
 use Rattle.rename.specs.Runs.{Line, Operands, goes, rd-after, gone-job, gone-jobs, target-jobs}
 use Rattle.rename.specs.Counts.{CountAsk, Counted, CountedOwn, CountedX}
 use Rattle.rename.proofs.Naming.{named-put, forgot-all, put-size}
-use Rattle.rename.proofs.Records.{inst-at}
 use Rattle.rename.proofs.Sequence.{appended-append, appended-one}
 use Rattle.rename.proofs.Passing.{funext, taken-more}
 use Rattle.rename.proofs.Owning.{jobs-next}
@@ -27,7 +27,7 @@ use Rattle.rename.proofs.Owning.{jobs-next}
 
 module _ {q u s n : ℕ} {ws xs ops : List ℕ} (k : CountAsk q u ws xs ops) (es : s ≡ getD (inst xs q) 7 0) (en : n ≡ getD (inst xs q) 8 0) where
   pub list-in : s + n ≤ u
-  list-in = let l = k .line .list-ok in let a = inst-at xs q 7 (omega arith) in let b = inst-at xs q 8 (omega arith) in omega arith
+  list-in = let l = k .line .list-ok in let a = word-is xs q 7 (omega arith) in let b = word-is xs q 8 (omega arith) in omega arith
 
   list-is : part s n ops ≡ list-of ops (inst xs q)
   list-is = ap₂ (λ (a b : ℕ). take b (drop a ops)) es en

@@ -17,10 +17,11 @@ use Rattle.laws.proofs.Made.{same-roles}
 use Rattle.inst.specs.Table.{does}
 use Rattle.inst.specs.Record.{Within, Used, uses-of, pack, write-at, present}
 use Rattle.inst.proofs.Rest.{writes-by-place}
+use Rattle.inst.proofs.Words.{word-is}
 use Rattle.rename.specs.Names.{named, reg-or, pick, put-name, job, Fit, Remade, Forgot}
 use Rattle.rename.specs.Runs.{Line, Operands, Pass, Passed, Owned}
 use Rattle.rename.proofs.Naming.{named-put, named-present, reg-or-present, forgot-all, put-size}
-use Rattle.rename.proofs.Records.{inst-at, inst-length, inst-same, one, made-slot}
+use Rattle.rename.proofs.Records.{inst-length, inst-same, one, made-slot}
 
 pub used-is : {R u q d : ℕ} {xs : List ℕ} → Line R u xs q → d ≡ uses-of (inst xs q) → Used xs q d
 used-is l e = record { within = l .known .within; uses = e }
@@ -42,7 +43,7 @@ unfolding write-at
 written-ok {R} {u} {q} {xs} l s h = go (K.writing (getD (roles (inst xs q)) s K.off))
   where
     word : getD (inst xs q) (2 + s) 0 ≡ getD xs (16 * q + 2 + s) 0
-    word = inst-at xs q (2 + s) (omega arith) ∙ ap (λ (n : ℕ). getD xs n 0) {x = 16 * q + (2 + s)} {y = 16 * q + 2 + s} (omega arith)
+    word = sym (word-is xs q (2 + s) (omega arith)) ∙ ap (λ (n : ℕ). getD xs n 0) {x = 16 * q + (2 + s)} {y = 16 * q + 2 + s} (omega arith)
 
     go : (b : Bool) → (cond b (getD (inst xs q) (2 + s) 0) absent ≡ absent → ⊥) → cond b (getD (inst xs q) (2 + s) 0) absent < R
     go true f = subst (λ (k : ℕ). k < R) (sym word) (l .slots-ok s h (λ e. f (word ∙ e)))

@@ -1,9 +1,9 @@
 -- Names: one that is put, and those that a record's writes set back. Assumes nothing.
 use mathlib.Core.Path.{_≡_, refl, sym, ap, ap₂, _∙_, subst}
-use mathlib.Core.Bool.{Bool, true, false, not, _&&_, _||_, cond}
+use mathlib.Core.Bool.{Bool, true, false, not, _&&_, _||_, cond, or-false}
 use mathlib.Core.List.{List, [], _∷_, _++_, map, append-nil}
-use Prim.Native.Nat.{ℕ, zero, suc, _+_, _%_, _≤_, _<_}
-use native.Mathlib.Nat.{le-antisymm, mod-eq-of-lt, zero-add, not-suc-le-zero, le-of-suc-le-suc}
+use Prim.Native.Nat.{ℕ, _+_, _%_, _≤_, _<_}
+use native.Mathlib.Nat.{le-antisymm, mod-eq-of-lt, zero-add}
 use native.Mathlib.Numerals.{add-one}
 use native.Mathlib.Omega.{arith}
 use borrow.Author.Tests.{eqb-true, eqb-false, eq-eqb}
@@ -12,20 +12,15 @@ use lib.ListN.{length, getD, set, length-set, replicate, getD-replicate, length-
 use lib.Seq.{sets, getD-set-same, getD-set-other}
 use Rattle.words.specs.Lists.{mem, upto, concat}
 use Rattle.words.proofs.Lists.{map-append, range-snoc, concat-append}
-use Rattle.words.proofs.Alls.{any-append}
 use Rattle.words.proofs.Copying.{set-behind, sets-all}
 use Rattle.words.proofs.Bools.{lt?}
+use Rattle.words.proofs.Alls.{mem-append}
 use mathlib.Core.Logic.{⊎-elim}
 use Rattle.model.specs.Picture.{Inst, inst, absent, writes}
 use Rattle.laws.proofs.Renamed.{Present}
 use Rattle.inst.specs.Record.{Within, write-at, present}
 use Rattle.inst.proofs.Rest.{writes-by-place}
 use Rattle.rename.specs.Names.{reg-or, named, put-name, pick, first-writes, Forgot}
-
-pub getD-any : (l : List ℕ) (k d e : ℕ) → k < length l → getD l k d ≡ getD l k e
-getD-any [] k d e h = absurd (not-suc-le-zero h)
-getD-any (x ∷ l) zero d e h = refl
-getD-any (x ∷ l) (suc k) d e h = getD-any l k d e (le-of-suc-le-suc h)
 
 pub put-size : (ws : List ℕ) (w nw : ℕ) → length (put-name ws w nw) ≡ length ws
 put-size ws w nw = go (eqb w absent)
@@ -89,14 +84,10 @@ module _ {i : Inst} {ws vs : List ℕ} {s : ℕ} (f : Forgot i ws vs s) where
   w = write-at i s
 
   mem-more : (r : ℕ) → mem r (first-writes i (s + 1)) ≡ (mem r (first-writes i s) || mem r (present (write-at i s)))
-  mem-more r = ap (mem r) (first-more i s) ∙ any-append (λ x. eqb r x) (first-writes i s) (present (write-at i s))
+  mem-more r = ap (mem r) (first-more i s) ∙ mem-append r (first-writes i s) (present (write-at i s))
 
   one : (r : ℕ) (t : Bool) → eqb w absent ≡ t → (a : Bool) (y : ℕ) → named vs r ≡ pick a r y → ((w ≡ absent → ⊥) → w < length vs) → named (cond t vs (set vs w absent)) r ≡ pick (a || mem r (cond t [] (w ∷ []))) r y
-  one r true e a y h ok = h ∙ ap (λ (b : Bool). pick b r y) (or-none a)
-    where
-      or-none : (a : Bool) → a ≡ (a || false)
-      or-none true = refl
-      or-none false = refl
+  one r true e a y h ok = h ∙ ap (λ (b : Bool). pick b r y) (sym (or-false a))
   one r false e a y h ok = stored vs w absent r (ok (eqb-false w absent e)) (omega arith) ∙ go (eqb r w) a h
     where
       go : (b a : Bool) → named vs r ≡ pick a r y → cond b (reg-or absent r) (named vs r) ≡ pick (a || (b || false)) r y

@@ -1,6 +1,6 @@
 -- The loops over a list of operands. Assumes nothing.
 use mathlib.Core.Path.{_≡_, refl, sym, ap, ap₂, _∙_, subst}
-use mathlib.Core.Bool.{Bool, true, false, not, _&&_}
+use mathlib.Core.Bool.{Bool, not, _&&_, and-true, and-assoc}
 use mathlib.Core.List.{List, [], _∷_, _++_, map}
 use Prim.Native.Nat.{ℕ, _+_, _≤_, _<_}
 use native.Mathlib.Nat.{le-antisymm}
@@ -19,17 +19,9 @@ module _ (f : ℕ → ℕ) where
   abbrev keeps : List ℕ → Bool
   keeps l = same (map f l) l
 
-  flip : (b : Bool) → (b && true) ≡ (true && b)
-  flip true = refl
-  flip false = refl
-
-  group : (a b c : Bool) → (a && (b && c)) ≡ ((a && b) && c)
-  group true b c = refl
-  group false b c = refl
-
   keeps-snoc : (l : List ℕ) (x : ℕ) → keeps (l ++ (x ∷ [])) ≡ (keeps l && eqb (f x) x)
-  keeps-snoc [] x = flip (eqb (f x) x)
-  keeps-snoc (y ∷ l) x = ap (λ (b : Bool). eqb (f y) y && b) (keeps-snoc l x) ∙ group (eqb (f y) y) (keeps l) (eqb (f x) x)
+  keeps-snoc [] x = and-true (eqb (f x) x)
+  keeps-snoc (y ∷ l) x = ap (λ (b : Bool). eqb (f y) y && b) (keeps-snoc l x) ∙ sym (and-assoc (eqb (f y) y) (keeps l) (eqb (f x) x))
 
 pub keeps-more : (ws ops : List ℕ) (s k v : ℕ) (b : Bool) → s + k < length ops → b ≡ same (map (named ws) (part s k ops)) (part s k ops) → v ≡ named ws (getD ops (s + k) 0)
     → (b && eqb v (getD ops (s + k) 0)) ≡ same (map (named ws) (part s (k + 1) ops)) (part s (k + 1) ops)

@@ -14,9 +14,9 @@ use Rattle.words.proofs.Lists.{range-snoc}
 use Rattle.words.proofs.Members.{range-in, not-in-mem}
 use Rattle.model.specs.Picture.{Inst, inst, absent, list-of, writes}
 use Rattle.model.specs.Move.{Job, appended, changes, new-list, more-of, own-jobs}
+use Rattle.inst.proofs.Words.{word-is}
 use Rattle.rename.specs.Names.{job, named, reg-or, pick}
 use Rattle.rename.specs.Runs.{Line, Run, Pass, Owned, AskOwn, target-jobs}
-use Rattle.rename.proofs.Records.{inst-at}
 use Rattle.rename.proofs.Sequence.{parts-same, appended-append, appended-one, run-none, run-more}
 use Rattle.rename.proofs.Lines.{line-still, still, operands-still}
 use Rattle.rename.proofs.Passing.{funext}
@@ -70,7 +70,7 @@ module _ {u o a e n q : ℕ} {ws₀ ws xs ys ops₀ ops : List ℕ} (k : AskOwn 
   J = job (inst xs q) ws absent
 
   list-ok : getD (inst xs q) 7 0 + getD (inst xs q) 8 0 ≤ u
-  list-ok = subst (λ (z : ℕ). z ≤ u) (ap₂ (λ (x y : ℕ). x + y) (sym (inst-at xs q 7 (omega arith))) (sym (inst-at xs q 8 (omega arith)))) (line .list-ok)
+  list-ok = subst (λ (z : ℕ). z ≤ u) (ap₂ (λ (x y : ℕ). x + y) (word-is xs q 7 (omega arith)) (word-is xs q 8 (omega arith))) (line .list-ok)
 
   list-used : getD (inst xs q) 7 0 + getD (inst xs q) 8 0 ≤ o
   list-used = let a = list-ok in let b = k .used in omega arith
@@ -110,7 +110,7 @@ module _ {u o a e n q : ℕ} {ws₀ ws xs ys ops₀ ops : List ℕ} (k : AskOwn 
         room = λ z g.
             let list-long : length (new-list ops₀ J) ≡ getD ys (16 * q + 8) 0 =
             length-map (list-of ops₀ (inst xs q)) (named ws) ∙ length-take-le (getD (inst xs q) 8 0) (drop (getD (inst xs q) 7 0) ops₀) (let a = list-ok in let b = k .operands .lent in simp length-drop (omega arith))
-            ∙ inst-at xs q 8 (omega arith) ∙ sym (word 8 (omega arith)) in
+            ∙ sym (word-is xs q 8 (omega arith)) ∙ sym (word 8 (omega arith)) in
             let more : length (more-of ops₀ J) ≡ getD ys (16 * q + 8) 0 =
             ap (λ (b : Bool). length {A = ℕ} (elim b as (λ y. List ℕ) [ true ↦ new-list ops₀ J | false ↦ [] ])) (sym changes-is ∙ g) ∙ list-long in
             omega arith;

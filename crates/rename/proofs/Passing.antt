@@ -15,11 +15,11 @@ use Rattle.words.proofs.Lists.{map-append, range-snoc, range-append, filter-app
 use Rattle.words.proofs.Members.{in-map, filter-in, range-in, not-in-mem}
 use Rattle.model.specs.Picture.{Inst, inst, absent, list-of, writes}
 use Rattle.model.specs.Move.{Job, appended, changes, new-list, more-of}
+use Rattle.inst.proofs.Words.{word-is}
 use Rattle.pool.specs.Pool.{mark-at, wrote-at, new-at}
 use Rattle.rename.specs.Names.{named, reg-or, pick, job, Forgot}
 use Rattle.rename.specs.Runs.{Line, Run, goes, rd-after, rd-rest, gone-places, gone-job, gone-jobs, Pass, Passed, AskX, PassedX, AskRest, PassedRest}
 use Rattle.rename.proofs.Naming.{forgot-all}
-use Rattle.rename.proofs.Records.{inst-at}
 use Rattle.rename.proofs.Sequence.{parts-same, appended-append, appended-one, run-none, run-more}
 use Rattle.rename.proofs.Lines.{line-still, still, operands-still}
 
@@ -88,7 +88,7 @@ module _ {u lo m n p : ℕ} {ws₀ ws xs ys ops₀ ops w : List ℕ} (k : AskX u
   same-inst = still ys (h .run .size) line (h .names-size) word
 
   list-used : getD (inst xs q) 7 0 + getD (inst xs q) 8 0 ≤ u
-  list-used = subst (λ (z : ℕ). z ≤ u) (ap₂ (λ (x y : ℕ). x + y) (sym (inst-at xs q 7 (omega arith))) (sym (inst-at xs q 8 (omega arith)))) (line .list-ok)
+  list-used = subst (λ (z : ℕ). z ≤ u) (ap₂ (λ (x y : ℕ). x + y) (word-is xs q 7 (omega arith)) (word-is xs q 8 (omega arith))) (line .list-ok)
 
   -- the member's job, by the words as they are
   abbrev J : Job
@@ -142,7 +142,7 @@ module _ {u lo m n p : ℕ} {ws₀ ws xs ys ops₀ ops w : List ℕ} (k : AskX u
     room = λ z g.
         let list-long : length (new-list ops₀ J) ≡ getD ys (16 * q + 8) 0 =
         length-map (list-of ops₀ (inst xs q)) (named ws) ∙ length-take-le (getD (inst xs q) 8 0) (drop (getD (inst xs q) 7 0) ops₀) (let a = list-used in let b = k .operands .lent in simp length-drop (omega arith))
-        ∙ inst-at xs q 8 (omega arith) ∙ sym (word 8 (omega arith)) in
+        ∙ sym (word-is xs q 8 (omega arith)) ∙ sym (word 8 (omega arith)) in
         let more : length (more-of ops₀ J) ≡ getD ys (16 * q + 8) 0 =
         ap (λ (b : Bool). length {A = ℕ} (elim b as (λ y. List ℕ) [ true ↦ new-list ops₀ J | false ↦ [] ])) (sym changes-is ∙ g) ∙ list-long in
         let f = fits z in

@@ -12,6 +12,7 @@ use lib.Seq.{getD-set-same, getD-set-other, getD-take, getD-drop, ext-getD, leng
 use Rattle.model.specs.Kinds as K
 use Rattle.model.specs.Picture.{Inst, inst, absent, slots, roles}
 use Rattle.model.specs.Move.{Job, renamed, made}
+use Rattle.inst.proofs.Words.{word-is}
 use Rattle.rename.specs.Names.{slotted, Slotted, job, named, reg-or}
 use Rattle.laws.proofs.Renamed.{length-renamed}
 use Rattle.inst.specs.Table.{does, two-bits}
@@ -75,9 +76,6 @@ module _ (j : Job) (start : ℕ) (e : length (j .old) ≡ 16) where
 
 -- ---- a record by its words
 
-pub inst-at : (zs : List ℕ) (p k : ℕ) → k < 16 → getD (inst zs p) k 0 ≡ getD zs (16 * p + k) 0
-inst-at zs p k h = getD-take 16 (drop (16 * p) zs) k 0 h ∙ getD-drop (16 * p) zs k 0
-
 pub inst-length : (zs : List ℕ) (p : ℕ) → 16 * p + 16 ≤ length zs → length (inst zs p) ≡ 16
 inst-length zs p h = length-take-le 16 (drop (16 * p) zs) (simp length-drop (omega arith))
 
@@ -86,7 +84,7 @@ pub inst-same : (xs ys : List ℕ) (q : ℕ) → length ys ≡ length xs → 16 
 inst-same xs ys q e h f =
     let a = inst-length xs q h in
     let b = inst-length ys q (omega arith) in
-    ext-getD 0 (inst ys q) (inst xs q) (b ∙ sym a) (λ k l. let m : k < 16 = omega arith in inst-at ys q k m ∙ f k m ∙ sym (inst-at xs q k m))
+    ext-getD 0 (inst ys q) (inst xs q) (b ∙ sym a) (λ k l. let m : k < 16 = omega arith in sym (word-is ys q k m) ∙ f k m ∙ word-is xs q k m)
 
 module _ (p start : ℕ) {nw uses : ℕ} {ws xs ys : List ℕ} (h : Slotted p uses ws nw xs ys 5) (known : Used xs p uses) where
   abbrev old : Inst
@@ -102,7 +100,7 @@ module _ (p start : ℕ) {nw uses : ℕ} {ws xs ys : List ℕ} (h : Slotted p us
   zs-length = length-set ys (16 * p + 7) start ∙ h .size
 
   word : (k : ℕ) → k < 16 → getD old k 0 ≡ getD xs (16 * p + k) 0
-  word = inst-at xs p
+  word k h = sym (word-is xs p k h)
 
   len : 16 * p + 16 ≤ length xs
   len = known .within .whole
@@ -152,7 +150,7 @@ module _ (p start : ℕ) {nw uses : ℕ} {ws xs ys : List ℕ} (h : Slotted p us
   pub made-here : inst (set ys (16 * p + 7) start) p ≡ made (job (inst xs p) ws nw) start
   made-here =
       let a = inst-length zs p (omega (arith, zs-length, len)) in
-      ext-getD 0 (inst zs p) (made j start) (a ∙ sym (made-length j start old-length)) (λ k l. let m : k < 16 = omega arith in inst-at zs p k m ∙ at-word k m)
+      ext-getD 0 (inst zs p) (made j start) (a ∙ sym (made-length j start old-length)) (λ k l. let m : k < 16 = omega arith in sym (word-is zs p k m) ∙ at-word k m)
 
   -- all other words
   pub made-front : (k : ℕ) → k < 16 * p → getD (set ys (16 * p + 7) start) k 0 ≡ getD xs k 0

@@ -2,19 +2,17 @@
 use mathlib.Core.Path.{_≡_, refl, sym, ap, ap₂, _∙_}
 use mathlib.Core.Bool.{Bool, true, false, not, cond}
 use mathlib.Core.List.{List, [], map}
-use Prim.Native.Nat.{ℕ, _+_, _*_, _≤_, _<_}
+use Prim.Native.Nat.{ℕ, _+_, _*_, _≤_}
 use native.Mathlib.Nat.{add-zero, sub-self, add-sub-cancel-left}
 use native.Mathlib.Omega.{arith}
 use lib.ListN.{length, getD, set, take, drop, length-set, length-map, length-drop}
-use lib.Seq.{getD-take, getD-drop, length-take-le, set-getD}
+use lib.Seq.{length-take-le, set-getD}
 use Rattle.words.specs.Lists.{same}
 use Rattle.model.specs.Picture.{inst, list-of}
 use Rattle.model.specs.Move.{Job, made, new-list, changes, more-of}
+use Rattle.inst.proofs.Words.{word-is}
 use Rattle.rename.specs.Names.{named, part, list-changes, Appended, Slotted, Fit, Remade, job}
 use Rattle.rename.proofs.Records.{made-here, made-front, made-back}
-
-word : (xs : List ℕ) (p k : ℕ) → k < 16 → getD xs (16 * p + k) 0 ≡ getD (inst xs p) k 0
-word xs p k h = sym (getD-take 16 (drop (16 * p) xs) k 0 h ∙ getD-drop (16 * p) xs k 0)
 
 module _ {p uses u o nw s n : ℕ} {ws xs ys ops : List ℕ} (f : Fit p uses u o ws nw xs ops) (h : Slotted p uses ws nw xs ys 5) (es : s ≡ getD (inst xs p) 7 0) (en : n ≡ getD (inst xs p) 8 0) where
   abbrev j : Job
@@ -27,7 +25,7 @@ module _ {p uses u o nw s n : ℕ} {ws xs ys ops : List ℕ} (f : Fit p uses u o
   changes-is = ap (λ (l : List ℕ). not (same (map (named ws) l) l)) list-is
 
   list-within : s + n ≤ u
-  list-within = let l = f .list-ok in let a = word xs p 7 (omega arith) in let b = word xs p 8 (omega arith) in omega arith
+  list-within = let l = f .list-ok in let a = word-is xs p 7 (omega arith) in let b = word-is xs p 8 (omega arith) in omega arith
 
   new-is : map (named ws) (part s n ops) ≡ new-list ops j
   new-is = ap (map (named ws)) list-is
@@ -39,7 +37,7 @@ module _ {p uses u o nw s n : ℕ} {ws xs ys ops : List ℕ} (f : Fit p uses u o
   remade-same e =
       let q : changes ops j ≡ false = sym changes-is ∙ e in
       let start : ℕ = getD (inst xs p) 7 0 in
-      let seven : getD ys (16 * p + 7) 0 ≡ start = h .later (16 * p + 7) (omega arith) ∙ word xs p 7 (omega arith) in
+      let seven : getD ys (16 * p + 7) 0 ≡ start = h .later (16 * p + 7) (omega arith) ∙ word-is xs p 7 (omega arith) in
       let same-list : set ys (16 * p + 7) start ≡ ys = ap (set ys (16 * p + 7)) (sym seven) ∙ set-getD ys (16 * p + 7) 0 in
       let more : more-of ops j ≡ [] = ap (λ (b : Bool). elim b as (λ z. List ℕ) [ true ↦ new-list ops j | false ↦ [] ]) q in
       record {
@@ -71,7 +69,7 @@ module _ {p uses u o nw s n : ℕ} {ws xs ys ops : List ℕ} (f : Fit p uses u o
       }
 
   pub room-is : list-changes ws s n ops ≡ true → o + n ≤ length ops
-  room-is e = let r = f .room (sym changes-is ∙ e) in let b = word xs p 8 (omega arith) in omega arith
+  room-is e = let r = f .room (sym changes-is ∙ e) in let b = word-is xs p 8 (omega arith) in omega arith
 
   pub within : s + n ≤ u
   within = list-within

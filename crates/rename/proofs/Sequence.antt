@@ -1,6 +1,6 @@
 -- One more record made anew. Assumes nothing.
 use mathlib.Core.Path.{_≡_, refl, sym, ap, ap₂, _∙_, subst}
-use mathlib.Core.Bool.{Bool, true, false, not, _||_, cond}
+use mathlib.Core.Bool.{Bool, true, false, not, _||_, cond, or-false}
 use mathlib.Core.List.{List, [], _∷_, _++_, map, append-nil}
 use Prim.Native.Nat.{ℕ, _+_, _-_, _*_, _≤_, _<_}
 use native.Mathlib.Nat.{add-zero, add-assoc, sub-self}
@@ -10,6 +10,7 @@ use lib.Dec.{eqb}
 use lib.ListN.{length, getD, take, drop, length-append}
 use lib.Seq.{take-take, take-add, drop-drop}
 use Rattle.words.specs.Lists.{mem, same, concat}
+use Rattle.words.proofs.Alls.{mem-append}
 use Rattle.model.specs.Picture.{Inst, inst, list-of}
 use Rattle.model.specs.Move.{Job, made, made-all, appended, changes, new-list, more-of}
 use Rattle.words.proofs.Lists.{map-append, concat-append}
@@ -42,16 +43,7 @@ made-all-append ops n (j ∷ js) ks =
 -- ---- places
 
 pub mem-snoc : (q p : ℕ) (ps : List ℕ) → mem q (ps ++ (p ∷ [])) ≡ (mem q ps || eqb q p)
-mem-snoc q p [] = flip (eqb q p)
-  where
-    flip : (b : Bool) → (b || false) ≡ (false || b)
-    flip true = refl
-    flip false = refl
-mem-snoc q p (x ∷ ps) = ap (λ (b : Bool). eqb q x || b) (mem-snoc q p ps) ∙ group (eqb q x) (mem q ps) (eqb q p)
-  where
-    group : (a b c : Bool) → (a || (b || c)) ≡ ((a || b) || c)
-    group true b c = refl
-    group false b c = refl
+mem-snoc q p ps = mem-append q ps (p ∷ []) ∙ ap (λ (b : Bool). mem q ps || b) (or-false (eqb q p))
 
 pub map-agree : {A : Type 0} (f g : ℕ → A) (ps : List ℕ) → ((q : ℕ) → mem q ps ≡ true → f q ≡ g q) → map f ps ≡ map g ps
 map-agree f g ps h = map-on f g ps (λ q i. h q (in-mem q ps i))
@@ -136,8 +128,4 @@ module _ {o₀ o p nw r : ℕ} {ps : List ℕ} {js : List Job} {ws xs ys zs ops 
     where
       inside : (q : ℕ) (b : Bool) → eqb q p ≡ b → (mem q ps || b) ≡ true → 16 * q + 16 ≤ length xs
       inside q true e f = subst (λ (k : ℕ). 16 * k + 16 ≤ length xs) (sym (eqb-true q p e)) len
-      inside q false e f = h .within q (sym (or-none (mem q ps)) ∙ f)
-        where
-          or-none : (a : Bool) → (a || false) ≡ a
-          or-none true = refl
-          or-none false = refl
+      inside q false e f = h .within q (sym (or-false (mem q ps)) ∙ f)

@@ -11,13 +11,13 @@ use Rattle.words.proofs.Lists.{made-ext}
 use Rattle.words.proofs.Members.{in-map, filter-in, range-in, not-in-mem}
 use Rattle.model.specs.Picture.{Inst, inst, absent, writes}
 use Rattle.model.specs.Move.{Job, appended, own-jobs}
+use Rattle.inst.proofs.Words.{word-is}
 use Rattle.pool.specs.Pool.{wrote-at}
 use Rattle.rename.specs.Names.{named, pick}
 use Rattle.rename.specs.Runs.{Line, Operands, Run, goes, rd-after, rd-rest, gone-places, gone-jobs, target-jobs, AskX, PassedX, AskRest, PassedRest, AskOwn}
 use Rattle.rename.specs.Counts.{CountX, CountedX, CountOwn}
 use Rattle.rename.specs.All.{AskAll, all-rd, all-jobs, all-places}
 use Rattle.rename.proofs.Naming.{named-none}
-use Rattle.rename.proofs.Records.{inst-at}
 use Rattle.rename.proofs.Sequence.{appended-append}
 use Rattle.rename.proofs.Both.{Lists, appended-same, run-append}
 use Rattle.rename.proofs.Lines.{line-still, still, operands-still}
@@ -160,8 +160,8 @@ module _ {u lo m n a e R : ℕ} {xs ops w ws : List ℕ} (k : AskAll u lo m n a 
         lists : Lists u (target-jobs (all-rd w xs lo m n) xs a e)
         lists = own-lists u xs (e - a) a (all-rd w xs lo m n) (λ q g h.
             let l = k .target-lines q g (omega arith) .list-ok in
-            let b = inst-at xs q 7 (omega arith) in
-            let c = inst-at xs q 8 (omega arith) in
+            let b = word-is xs q 7 (omega arith) in
+            let c = word-is xs q 8 (omega arith) in
             omega arith)
 
         pub own-ask : AskOwn u o a e ws₂ ys ops₁

@@ -1,17 +1,17 @@
 -- What the call begins with (01, "A round"): acceptance gives what the search for facts, predecessors and rows asks, and the words
 -- that it leaves stand for them. Assumes nothing.
 use mathlib.Core.Path.{_≡_, sym, ap, ap₂, _∙_, subst}
-use mathlib.Core.List.{List, [], _∷_, _++_}
+use mathlib.Core.List.{List, [], _∷_}
 use Prim.Native.Nat.{ℕ, _+_, _-_, _*_, _/_, _≤_, _<_}
-use native.Mathlib.Nat.{mul-le-mul, le-refl, le-of-eq}
+use native.Mathlib.Nat.{le-refl, le-of-eq}
 use native.Mathlib.Omega.{arith}
 use borrow.Author.Tests.{ne-eqb}
-use borrow.Rule.Slice.PartMut.{putMid, postOf, mid-len, same-len-mid, take-put}
+use borrow.Rule.Slice.PartMut.{putMid, mid-len, same-len-mid, take-put}
 use lib.Dec.{eqb}
 use lib.ListN.{length, take, drop, length-map}
-use lib.Seq.{take-at, drop-at, length-take-le}
 use Rattle.words.specs.Lists.{upto}
-use Rattle.words.proofs.Lists.{length-range}
+use Rattle.words.proofs.Lists.{length-range, front-same}
+use Rattle.words.proofs.Parts.{put-part, rows-small}
 use Rattle.model.specs.Picture.{Picture, nblocks, preds}
 use Rattle.model.specs.Refusal.{records, refusal}
 use Rattle.model.specs.Analyse.{facts}
@@ -31,12 +31,8 @@ use Rattle.regfacts.specs.Written.{Fits}
 use Rattle.regfacts.specs.Flags.{Found, Seen}
 use Rattle.analyse.proofs.Accepted.{fits-given, seen-given}
 use Rattle.chainwords.specs.Work.{width, at-regs}
-use Rattle.chainwords.proofs.Standing.{front-same, SameRows, same-rows, firsts-before, rows-room, rows-of}
+use Rattle.chainwords.proofs.Standing.{SameRows, same-rows, firsts-before, rows-room, rows-of}
 use Rattle.search.specs.Search.{Beginning, Began}
-
--- a part that came back as ys
-pub mid-back : {A : Type 0} (a k : ℕ) (xs ys : List A) (n : ℕ) → a ≤ length xs → length ys ≡ n → take n (drop a (putMid a k xs ys)) ≡ ys
-mid-back a k xs ys n h e = ap (take n) (drop-at (take a xs) (ys ++ postOf a k xs) a (length-take-le a xs h)) ∙ take-at ys (postOf a k xs) n e
 
 -- ---- sizes
 
@@ -48,10 +44,6 @@ pub record Rooms (b lent insts w64 w32 : ℕ) : Type 0 where
   pub room64 : 4 * b * width lent + 2 * lent ≤ w64
   pub room32 : 8 * lent + 16 * b + 8000 ≤ w32
 
--- four rows a block are few words
-pub small-product : (a b : ℕ) → a ≤ 16384 → b ≤ 1024 → a * b ≤ 16777216
-small-product a b h g = mul-le-mul h g
-
 pub rooms-of : (P : Picture) (w64 w32 : ℕ) → refusal P w64 w32 records ≡ 0 → Rooms (nblocks P) (length (P .types)) (length (P .locs)) w64 w32
 rooms-of P w64 w32 r =
     let ok = accepted P w64 w32 records r in
@@ -61,7 +53,7 @@ rooms-of P w64 w32 r =
       few-blocks = b;
       few-lent = k;
       few-insts = S.few-insts P ok;
-      small = small-product (4 * nblocks P) (width (length (P .types))) (omega arith) (omega arith);
+      small = rows-small b (omega arith);
       room64 = work-room P w64 w32 records r .0;
       room32 = work-room P w64 w32 records r .1;
     }
@@ -190,12 +182,12 @@ module _ {bounds recs ops pairs targets work64 work32 : List ℕ} {lent insts re
           let blocks : nblocks P ≡ length bounds / 2 = ap (λ (l : List ℕ). length l / 2) eb in
           let at : 4 * nblocks P * width (length (P .types)) ≡ a = ap₂ (λ (b n : ℕ). 4 * b * width n) blocks el ∙ sym e in
           let y : take (length (P .types)) (drop (4 * nblocks P * width (length (P .types))) (putMid a (a + lent - a) mid ys)) ≡ ys =
-          ap (λ (m : ℕ). take (length (P .types)) (drop m (putMid a (a + lent - a) mid ys))) at ∙ mid-back a (a + lent - a) mid ys (length (P .types)) (omega arith) size in
+          ap (λ (m : ℕ). take (length (P .types)) (drop m (putMid a (a + lent - a) mid ys))) at ∙ put-part a (a + lent - a) mid ys (length (P .types)) (omega arith) size in
           let size2 : length zs ≡ 2 * nblocks P = long ∙ mid-len p (p + 2 * (length bounds / 2)) work32 (omega arith) ∙ omega arith in
           let at2 : 8000 + length (P .types) ≡ p = omega arith in
           let x : take (2 * nblocks P) (drop (8000 + length (P .types)) (putMid p (p + 2 * (length bounds / 2) - p) work32 zs)) ≡ zs =
           ap (λ (m : ℕ). take (2 * nblocks P) (drop m (putMid p (p + 2 * (length bounds / 2) - p) work32 zs))) at2
-          ∙ mid-back p (p + 2 * (length bounds / 2) - p) work32 zs (2 * nblocks P) (omega arith) size2 in
+          ∙ put-part p (p + 2 * (length bounds / 2) - p) work32 zs (2 * nblocks P) (omega arith) size2 in
           let found2 : Found (P .recs) (length (P .locs)) (length (P .types)) ys =
           subst (λ (l : List ℕ). Found l (length (P .locs)) (length (P .types)) ys) (sym ec)
           (subst (λ (n : ℕ). Found recs n (length (P .types)) ys) (sym ei) (subst (λ (n : ℕ). Found recs insts n ys) (part-long a e ∙ sym el) found)) in

@@ -1,8 +1,8 @@
 -- The backward pass: registers awaited and what is kept, one position after the other, last to first. Assumes nothing.
 use mathlib.Core.Path.{_≡_, refl, sym, ap, ap₂, _∙_, subst}
-use mathlib.Core.Logic.{_⊎_, inl, inr, ⊎-elim}
+use mathlib.Core.Logic.{⊎-elim}
 use mathlib.Core.Bool.{Bool, true, false, not, _&&_, _||_, cond}
-use mathlib.Core.List.{List, [], _∷_}
+use mathlib.Core.List.{List, []}
 use Prim.Native.Nat.{ℕ, suc, _+_, _*_, _-_, _/_, _%_, _≤_, _<_, max}
 use native.Mathlib.Numerals.{add-one}
 use native.Mathlib.Omega.{arith}
@@ -10,7 +10,8 @@ use borrow.Author.Tests.{eq-eqb, ne-eqb, le-leb, lt-leb}
 use lib.Dec.{eqb, leb}
 use lib.ListN.{getD, length, set, replicate}
 use Rattle.words.specs.Lists.{In, upto, all, mem, hit}
-use Rattle.words.proofs.Bools.{bool?, true-T}
+use Rattle.words.proofs.Bools.{bool?, true-T, hit-le}
+use Rattle.words.proofs.Members.{all-on}
 use Rattle.model.specs.Picture.{inst, absent, reads, writes}
 use Rattle.inst.specs.Record.{write-at}
 use Rattle.words.specs.Last.{last-below}
@@ -22,7 +23,7 @@ use Rattle.legalset.specs.Rules.{last-kept, pending, backward-ok}
 use Rattle.legalset.proofs.Dropping.{passed-none, passed-down}
 use Rattle.legalset.proofs.Easier.{behind, backward-mono}
 use Rattle.legalset.proofs.Pending.{pending-ext}
-use Rattle.summary.specs.Passes.{over, stamp, since, writer-word, kept-word, noted, Stamped, Stamps, Awaits, Awaited, Notes, Noted, noting, later-in, Backed, Summed, Shows}
+use Rattle.summary.specs.Passes.{over, stamp, since, writer-word, kept-word, Stamped, Stamps, Awaits, Awaited, Notes, Noted, noting, later-in, Backed, Summed, Shows}
 use Rattle.summary.proofs.Places.{all-placed, writes-placed}
 use Rattle.summary.proofs.Summing.{zero-at, since-low, since-ext, since-all, notes-none, notes-more, noted-member, noted-all, notes-writes, notes-barrier, notes-suspension}
 use Rattle.summary.proofs.Forwarding.{sifted-other, now-in, is-sifted, is-lost}
@@ -106,32 +107,24 @@ gone-back {recs} {ops} {w} {f} {n} {R} {q} {st} {ls} {st′} {ls′} {keep} S s 
 
 -- ---- the pass
 
-pub all-on : {A : Type 0} (f g : A → Bool) (xs : List A) → ((a : A) → In a xs → f a ≡ g a) → all f xs ≡ all g xs
-all-on f g [] h = refl
-all-on f g (x ∷ xs) h = ap₂ (λ (a b : Bool). a && b) (h x (inl refl)) (all-on f g xs (λ a i. h a (inr i)))
-
 pub writes-low : (recs : List ℕ) (R g : ℕ) → Fits recs R g → (r : ℕ) → In r (writes (inst recs g)) → r < R
 writes-low recs R g h r i =
     let a = writes-placed recs g (h .within) in
     let z = a .to r i in
     ⊎-elim (λ e. absurd (a .real r i (sym (z .2) ∙ e))) (λ l. subst (λ (x : ℕ). x < R) (z .2) l) (h .slot (z .0) (z .1))
 
-hit-low : (b : Bool) → hit b ≤ 1
-hit-low true = omega arith
-hit-low false = omega arith
-
 -- a write: awaited no longer, and noted if it is the last kept one
 write-step : (s : ℕ) (L md p : Bool) (q : ℕ) → s ≤ 800 → q < 800 → stamp 1024 (kept-word L q) 0 md (s + 1024 * hit p) ≡ max s (cond (not L && md) (q + 1) 0) + 1024 * hit (not md && p)
 unfolding stamp over kept-word
-write-step s true true p q h l = let k = hit-low p in omega arith
+write-step s true true p q h l = let k = hit-le p in omega arith
 write-step s true false p q h l = omega arith
-write-step s false true p q h l = let k = hit-low p in omega arith
+write-step s false true p q h l = let k = hit-le p in omega arith
 write-step s false false p q h l = omega arith
 
 -- a read by a kept position
 read-step : (s : ℕ) (a b : Bool) → s ≤ 800 → stamp 1024 0 1024 a (s + 1024 * hit b) ≡ s + 1024 * hit (a || b)
 unfolding stamp over
-read-step s true b h = let k = hit-low b in omega arith
+read-step s true b h = let k = hit-le b in omega arith
 read-step s false b h = refl
 
 module _ (marks : List ℕ) {recs ops w : List ℕ} {n R q : ℕ} (s : Safe recs ops w n R) (h : q < n) {st : List ℕ} (size : length st ≡ R) (i : Awaits (defs-of recs w) (reads-of recs ops w) (in-set marks) n (q + 1) st) where
@@ -235,7 +228,7 @@ stamps-of {recs} {ops} {w} {n} {R} {L} {st} s i = record { kept = λ r h. parts 
         let a = since-all (λ z. not (L z) && mem r (defs-of recs w z)) n in
         let l = since-low (λ z. not (L z) && mem r (defs-of recs w z)) 0 (n - 0) in
         let f = s .few in
-        let k = hit-low (pending (defs-of recs w) (reads-of recs ops w) L r 0 (n - 0)) in
+        let k = hit-le (pending (defs-of recs w) (reads-of recs ops w) L r 0 (n - 0)) in
         (omega arith, omega arith)
 
 pub backing-end : {recs ops w : List ℕ} {n q : ℕ} {st₀ marks₀ st ls marks : List ℕ} {r : ℕ} → Safe recs ops w n (length st₀) → Backing recs ops w n q st₀ marks₀ st ls marks r → q ≤ 0

@@ -12,24 +12,21 @@ use lib.ListN.{getD, length, set, length-set}
 use lib.Seq.{getD-set-same, getD-set-other, set-getD}
 use Rattle.words.specs.Lists.{In, all, mem, conj, hit}
 use Rattle.words.specs.Last.{last-below}
-use Rattle.words.proofs.Bools.{eq?, true-T}
-use Rattle.words.proofs.Members.{in-map, map-on, in-index}
+use Rattle.words.proofs.Bools.{eq?, true-T, hit-le}
+use Rattle.words.proofs.Members.{in-map, map-on, in-index, all-on}
+use Rattle.words.proofs.Lasts.{last-step, last-low}
 use Rattle.model.specs.Picture.{Inst, inst, absent, reads, writes, list-of}
 use Rattle.effects.specs.Origin.{num}
 use Rattle.facts.specs.declared.Fact.{Fact}
 use Rattle.legalset.specs.Chain.{view, cell, flag, defs-of, writer, reg-org, picked, origins, Good, Safe}
 use Rattle.legalset.specs.Marks.{in-set, sifted, lost, own, Passed}
 use Rattle.legalset.specs.Rules.{last-kept, when-in, read-fine, org-fine, own-memory, still-fine, reads-ok, origins-ok, suspends-ok, memory-ok, own-ok, forward-ok}
-use Rattle.legalset.proofs.Lasting.{writer-low, last-low, last-step}
+use Rattle.legalset.proofs.Lasting.{writer-low}
 use Rattle.legalset.proofs.Dropping.{passed-none, passed-up}
 use Rattle.legalset.proofs.Easier.{forward-mono}
 use Rattle.summary.specs.Passes.{over, stamp, writer-word, Stamped, Stamps, Writes, read-test, word-org, org-test, froms, from-test, memory-test, member-at, own-test, stay-test, fact-word, forgot, Forwarded, Summed, Shows}
 use Rattle.summary.proofs.Summing.{at-parts, same-at}
 use Rattle.summary.proofs.Places.{reads-placed, read-low}
-
-all-on : {A : Type 0} (f g : A → Bool) (xs : List A) → ((a : A) → In a xs → f a ≡ g a) → all f xs ≡ all g xs
-all-on f g [] h = refl
-all-on f g (x ∷ xs) h = ap₂ (λ (a b : Bool). a && b) (h x (inl refl)) (all-on f g xs (λ a i. h a (inr i)))
 
 in-picked : (sc : ℕ) (xs : List ℕ) (r : ℕ) → In r (picked sc xs) → In r xs
 unfolding picked
@@ -52,21 +49,13 @@ reads-low recs ops R g h r i =
 list-in-low : (recs ops : List ℕ) (R g : ℕ) → Good recs ops R g → (r : ℕ) → In r (list-of ops (inst recs g)) → r < R
 list-in-low recs ops R g h r i = let z = in-index absent r (list-of ops (inst recs g)) i in subst (λ (x : ℕ). x < R) (z .2) (h .list (z .0) (z .1))
 
-hit-low : (b : Bool) → hit b ≤ 1
-hit-low true = omega arith
-hit-low false = omega arith
-
 -- ---- what is stamped of a writer
-
-pub word-low : (w : List ℕ) (L : ℕ → Bool) (d : ℕ) → cell w d 2 < 2004 → writer-word w L (suc d) < 8020
-unfolding writer-word
-word-low w L d h = let k = hit-low (L d) in omega arith
 
 -- whether it is in the set
 word-in : (w : List ℕ) (L : ℕ → Bool) (d x : ℕ) → x / 2048 ≡ writer-word w L d → eqb (x / 4096 % 2) 1 ≡ when-in L d
 unfolding writer-word when-in
 word-in w L zero x e = let z : x / 4096 % 2 ≡ 0 = omega arith in ap (λ (y : ℕ). eqb y 1) z
-word-in w L (suc d) x e = let k = hit-low (L d) in let z : x / 4096 % 2 ≡ hit (L d) = omega arith in ap (λ (y : ℕ). eqb y 1) z ∙ is (L d)
+word-in w L (suc d) x e = let k = hit-le (L d) in let z : x / 4096 % 2 ≡ hit (L d) = omega arith in ap (λ (y : ℕ). eqb y 1) z ∙ is (L d)
   where
     is : (b : Bool) → eqb (hit b) 1 ≡ b
     is true = refl
@@ -76,7 +65,7 @@ word-in w L (suc d) x e = let k = hit-low (L d) in let z : x / 4096 % 2 ≡ hit 
 word-points : (w regs : List ℕ) (L : ℕ → Bool) (r d x : ℕ) → x / 2048 ≡ writer-word w L d → word-org regs r x ≡ reg-org w regs r d
 unfolding writer-word word-org reg-org
 word-points w regs L r zero x e = ap (λ (b : Bool). cond b (x / 8192) (reg-org [] regs r 0)) (lt-leb 2048 x (omega arith))
-word-points w regs L r (suc d) x e = let k = hit-low (L d) in let z : x / 8192 ≡ cell w d 2 = omega arith in ap (λ (b : Bool). cond b (x / 8192) (reg-org [] regs r 0)) (le-leb 2048 x (omega arith)) ∙ z
+word-points w regs L r (suc d) x e = let k = hit-le (L d) in let z : x / 8192 ≡ cell w d 2 = omega arith in ap (λ (b : Bool). cond b (x / 8192) (reg-org [] regs r 0)) (le-leb 2048 x (omega arith)) ∙ z
 
 module _ (w regs ops : List ℕ) (i : Inst) where
   froms-origins : (st : List ℕ) (d : ℕ → ℕ) → ((r : ℕ) → In r (list-of ops i) → word-org regs r (getD st r 0) ≡ reg-org w regs r (d r)) → (x : ℕ) → froms regs ops i st x ≡ origins w regs ops i d x
@@ -116,11 +105,6 @@ own-same L lasts o e =
     big : (x : ℕ) (b : Bool) → x / 1024 ≡ hit b → leb 1024 x ≡ b
     big x true e = le-leb 1024 x (omega arith)
     big x false e = lt-leb 1024 x (omega arith)
-
-points-low : {recs ops w : List ℕ} {n R : ℕ} → Safe recs ops w n R → (L : ℕ → Bool) (d y : ℕ) → y / 2048 ≡ writer-word w L d → d ≤ n → y / 8192 < 2005
-unfolding writer-word
-points-low s L zero y e h = omega arith
-points-low s L (suc d) y e h = let k = hit-low (L d) in let o = s .org d (omega arith) in omega arith
 
 module _ (regs marks : List ℕ) {recs ops w : List ℕ} {n R p : ℕ} (s : Safe recs ops w n R) (h : p < n) {L₀ : ℕ → Bool} {st lasts : List ℕ} {sus bar : ℕ} (size : length st ≡ R)
     (x : Stamps w (defs-of recs w) L₀ (in-set marks) n p st) (y : Writes (λ q. cell w q 4) L₀ n lasts) (eb : bar ≡ last-kept L₀ (flag w 8) n) (es : sus ≡ last-kept L₀ (flag w 16) n)
@@ -367,4 +351,4 @@ module _ (f : Fact) (b : Bool) where
 
   pub fact-low : f .org < 2004 → fact-word f b < 8020
   unfolding fact-word
-  fact-low h = let k = hit-low b in omega arith
+  fact-low h = let k = hit-le b in omega arith

@@ -49,7 +49,7 @@ in-present r x i = go (eqb x absent) refl i
     go false e (inl q) = (q, borrow.Author.Tests.eqb-false x absent e)
     go false e (inr i) = absurd i
 
-present-in : (x : ℕ) → (x ≡ absent → ⊥) → In x (present x)
+pub present-in : (x : ℕ) → (x ≡ absent → ⊥) → In x (present x)
 unfolding present
 present-in x n = subst (λ (b : Bool). In x (cond b [] (x ∷ []))) (sym (ne-eqb x absent n)) (inl refl)
 

@@ -6,7 +6,7 @@ use Prim.Native.Nat.{ℕ, _+_, _-_, _≤_, _<_}
 use native.Mathlib.Omega.{arith}
 use borrow.Author.Tests.{lt-ltb, le-ltb}
 use lib.ListN.{getD, length, drop, length-take, length-drop}
-use Rattle.inst.proofs.Lists.{getD-any}
+use Rattle.words.proofs.Lists.{getD-any}
 use Rattle.model.specs.Picture.{Inst, absent, list-of}
 use Rattle.inst.specs.Record.{read-at}
 use Rattle.summary.specs.Passes.{read-place}

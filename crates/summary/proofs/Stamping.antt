@@ -1,10 +1,9 @@
 -- Stamping the registers of a list, place by place. Assumes nothing.
 use mathlib.Core.Path.{_≡_, refl, sym, ap, _∙_, subst}
 use mathlib.Core.Logic.{_⊎_, inl, inr, ⊎-elim}
-use mathlib.Core.Bool.{Bool, true, false, _||_, cond}
-use mathlib.Core.List.{List, [], _∷_}
+use mathlib.Core.Bool.{Bool, true, false, _||_, cond, or-false}
+use mathlib.Core.List.{List}
 use Prim.Native.Nat.{ℕ, _+_, _*_, _%_, _≤_, _<_}
-use native.Mathlib.Numerals.{add-one}
 use native.Mathlib.Omega.{arith}
 use borrow.Author.Tests.{eq-eqb, ne-eqb}
 use lib.Dec.{eqb}
@@ -12,8 +11,7 @@ use lib.ListN.{getD, length, set, length-set}
 use lib.Seq.{getD-set-same, getD-set-other}
 use Rattle.words.specs.Lists.{upto, any}
 use Rattle.words.proofs.Bools.{eq?}
-use Rattle.words.proofs.Lists.{range-snoc}
-use Rattle.words.proofs.Alls.{any-append}
+use Rattle.words.proofs.Alls.{any-more}
 use Rattle.model.specs.Picture.{absent}
 use Rattle.summary.specs.Passes.{over, stamp, put-in, Stamped, Beside}
 use Rattle.summary.proofs.Places.{Placed, mem-placed}
@@ -41,15 +39,6 @@ unfolding over
 writer-stamp {v} {x} e h = record { some = omega arith; small = omega arith; twice = λ x. omega arith }
 
 -- ---- place by place
-
-pub any-more : (f : ℕ → Bool) (k : ℕ) → any f (upto (k + 1)) ≡ (any f (upto k) || f k)
-any-more f k =
-    ap (λ (n : ℕ). any f (upto n)) (add-one k) ∙ ap (any f) (range-snoc 0 k) ∙ any-append f (upto k) ((0 + k) ∷ [])
-    ∙ ap (λ (b : Bool). any f (upto k) || b) (or-end (f (0 + k)) ∙ ap f (native.Mathlib.Nat.zero-add k))
-  where
-    or-end : (b : Bool) → (b || false) ≡ b
-    or-end true = refl
-    or-end false = refl
 
 -- the first k places are stamped
 pub record Stamping (g : ℕ → ℕ) (keep lo v k : ℕ) (before now : List ℕ) : Type 0 where
@@ -92,10 +81,6 @@ unfolding stamp
 stamp-again keep lo v h true x = h .twice x
 stamp-again keep lo v h false x = refl
 
-or-no : (b : Bool) → (b || false) ≡ b
-or-no true = refl
-or-no false = refl
-
 module _ {g : ℕ → ℕ} {keep lo v k : ℕ} {before now : List ℕ} (i : Stamping g keep lo v k before now) (b : Beside keep lo v) (few : length before ≤ 65536) where
   pub stamping-more : {x : ℕ} {after : List ℕ} → x ≡ g k → (x ≡ absent) ⊎ (x < length now) → after ≡ put-in keep lo v x now → Stamping g keep lo v (k + 1) before after
   stamping-more {x} {after} e w f = record { size = size; each = λ r h. ap (λ (l : List ℕ). getD l r 0) f ∙ one r h (eq? r x) w ∙ sym (ap (λ (y : Bool). stamp keep lo v y (getD before r 0)) (any-more (λ j. eqb r (g j)) k)) }
@@ -114,7 +99,7 @@ module _ {g : ℕ → ℕ} {keep lo v k : ℕ} {before now : List ℕ} (i : Stam
       one r h (inr q) z =
           ⊎-elim (λ (y : x ≡ absent). ap (λ (l : List ℕ). getD l r 0) (put-absent keep lo v x now y))
           (λ (y : x < length now). let s = i .size in ap (λ (l : List ℕ). getD l r 0) (put-there keep lo v x now (λ u. omega arith)) ∙ getD-set-other now x r (over keep lo v (getD now x 0)) 0 q) z
-          ∙ i .each r h ∙ ap (λ (y : Bool). stamp keep lo v y (getD before r 0)) (sym (ap (λ (y : Bool). any (λ j. eqb r (g j)) (upto k) || y) (ne-eqb r (g k) (λ u. q (u ∙ sym e))) ∙ or-no (any (λ j. eqb r (g j)) (upto k))))
+          ∙ i .each r h ∙ ap (λ (y : Bool). stamp keep lo v y (getD before r 0)) (sym (ap (λ (y : Bool). any (λ j. eqb r (g j)) (upto k) || y) (ne-eqb r (g k) (λ u. q (u ∙ sym e))) ∙ or-false (any (λ j. eqb r (g j)) (upto k))))
 
   pub stamping-end : {l : List ℕ} {K : ℕ} → Placed l g K → k ≤ K → K ≤ k → Stamped l keep lo v before now
   stamping-end {l} {K} a p q = record {

@@ -1,7 +1,7 @@
 -- What the kept positions do, summed up from behind, one position after the other. Assumes nothing.
 use mathlib.Core.Path.{_≡_, refl, sym, ap, ap₂, _∙_, subst}
 use mathlib.Core.Logic.{_⊎_, inl, inr, ⊎-elim}
-use mathlib.Core.Bool.{Bool, true, false, not, _&&_, _||_, cond}
+use mathlib.Core.Bool.{Bool, true, false, not, _&&_, _||_, cond, or-false}
 use mathlib.Core.List.{List}
 use Prim.Native.Nat.{ℕ, zero, suc, _+_, _*_, _-_, _/_, _%_, _≤_, _<_, max}
 use native.Mathlib.Omega.{arith}
@@ -12,22 +12,19 @@ use lib.Seq.{getD-set-same, getD-set-other, set-getD}
 use Rattle.words.specs.Last.{last-below}
 use Rattle.words.specs.Lists.{hit}
 use Rattle.words.proofs.Bools.{eq?, lt?, true-T}
-use Rattle.words.proofs.Lasts.{last-ext}
+use Rattle.words.proofs.Lasts.{last-ext, last-step, last-low}
+use Rattle.words.proofs.Lists.{getD-zeros}
 use Rattle.model.specs.Picture.{inst}
 use Rattle.inst.specs.Record.{Used, uses-of}
 use Rattle.facts.specs.declared.Fact.{Fact}
 use Rattle.legalset.specs.Chain.{cell, flag, Good, Safe}
 use Rattle.legalset.specs.Rules.{last-kept}
-use Rattle.legalset.proofs.Lasting.{last-step, last-low}
 use Rattle.summary.specs.Passes.{since, noted, later-in, member-in, member-at, forgot, Notes, Noted, Writes, noting}
 
 -- ---- the record of a position
 
 pub good-of : {recs ops : List ℕ} {R g x y : ℕ} → Good recs ops R y → x ≡ y → g ≡ x → Good recs ops R g
 good-of {recs} {ops} {R} k e f = subst (λ (j : ℕ). Good recs ops R j) (sym (f ∙ e)) k
-
-pub good-at : {recs ops w : List ℕ} {n R q g x : ℕ} → Safe recs ops w n R → q < n → x ≡ cell w q 0 → g ≡ x → Good recs ops R g
-good-at {q = q} s h e f = good-of (s .good q h) e f
 
 pub used-at : {recs ops : List ℕ} {R g u : ℕ} → Good recs ops R g → u ≡ uses-of (inst recs g) → Used recs g u
 used-at k e = record { within = k .known .within; uses = e }
@@ -37,13 +34,8 @@ safe-len {recs} {ops} {w} {n} s e = subst (Safe recs ops w n) (sym e) s
 
 -- ---- all words 0
 
-pub zeros : (n r : ℕ) → _≡_ {A = ℕ} (getD (replicate n 0) r 0) 0
-zeros zero r = refl
-zeros (suc n) zero = refl
-zeros (suc n) (suc r) = zeros n r
-
 pub zero-at : {st : List ℕ} → st ≡ replicate (length st) 0 → (r : ℕ) → getD st r 0 ≡ 0
-zero-at {st} e r = ap (λ (l : List ℕ). getD l r 0) e ∙ zeros (length st) r
+zero-at {st} e r = ap (λ (l : List ℕ). getD l r 0) e ∙ getD-zeros (length st) r
 
 -- ---- the last that passes, from behind
 
@@ -244,8 +236,8 @@ pub notes-none : (w : List ℕ) (L : ℕ → Bool) (n : ℕ) {ls : List ℕ} →
 unfolding since member-at
 notes-none w L n {ls} e f = record {
   size = ap length e ∙ length-replicate {A = ℕ} 2008 0;
-  each = λ j h. let z : 0 ≡ n - n = omega arith in ap (λ (l : List ℕ). getD l j 0 % 1024) e ∙ ap (λ (y : ℕ). y % 1024) (zeros 2008 j) ∙ ap (since (λ z. not (L z) && noted w j z) n) z;
-  flags = λ j h. ap (λ (l : List ℕ). getD l j 0 / 1024) e ∙ ap (λ (y : ℕ). y / 1024) (zeros 2008 j) ∙ none (leb 5 j && eqb (j % 2) 1) (leb n ((j - 5) / 2)) (L ((j - 5) / 2)) (λ t. f ((j - 5) / 2) (leb→le n ((j - 5) / 2) t));
+  each = λ j h. let z : 0 ≡ n - n = omega arith in ap (λ (l : List ℕ). getD l j 0 % 1024) e ∙ ap (λ (y : ℕ). y % 1024) (getD-zeros 2008 j) ∙ ap (since (λ z. not (L z) && noted w j z) n) z;
+  flags = λ j h. ap (λ (l : List ℕ). getD l j 0 / 1024) e ∙ ap (λ (y : ℕ). y / 1024) (getD-zeros 2008 j) ∙ none (leb 5 j && eqb (j % 2) 1) (leb n ((j - 5) / 2)) (L ((j - 5) / 2)) (λ t. f ((j - 5) / 2) (leb→le n ((j - 5) / 2) t));
 }
   where
     none : (a b c : Bool) → (T b → c ≡ false) → 0 ≡ hit (a && (b && c))
@@ -321,21 +313,17 @@ module _ {recs ops w : List ℕ} {L : ℕ → Bool} {n R : ℕ} {ls : List ℕ} 
   unfolding last-kept
   word-is j h f e = i .each j h ∙ since-all (λ z. not (L z) && noted w j z) n ∙ last-ext (λ z. not (L z) && noted w j z) (λ z. not (L z) && f z) n (λ z l. ap (λ (b : Bool). not (L z) && b) (e z l))
 
-  or-end : (a : Bool) → (a || false) ≡ a
-  or-end true = refl
-  or-end false = refl
-
   pub notes-writes : Writes (λ q. cell w q 4) L n ls
   unfolding noted
   notes-writes = record {
     each = λ o h. word-is o (omega arith) (λ q. eqb (cell w q 4) o) (λ z l.
         ap (λ (b : Bool). (eqb (cell w z 4) o || (b && flag w 8 z)) || (eqb 2007 o && flag w 16 z)) (ne-eqb 2006 o (λ e. omega arith))
-        ∙ ap (λ (b : Bool). (eqb (cell w z 4) o || false) || (b && flag w 16 z)) (ne-eqb 2007 o (λ e. omega arith)) ∙ or-end (eqb (cell w z 4) o || false) ∙ or-end (eqb (cell w z 4) o));
+        ∙ ap (λ (b : Bool). (eqb (cell w z 4) o || false) || (b && flag w 16 z)) (ne-eqb 2007 o (λ e. omega arith)) ∙ or-false (eqb (cell w z 4) o || false) ∙ or-false (eqb (cell w z 4) o));
   }
 
   pub notes-barrier : getD ls 2006 0 % 1024 ≡ last-kept L (flag w 8) n
   unfolding noted
-  notes-barrier = word-is 2006 (omega arith) (flag w 8) (λ z l. let k = s .wrote z l in ap (λ (b : Bool). (b || flag w 8 z) || false) (ne-eqb (cell w z 4) 2006 (λ e. omega arith)) ∙ or-end (flag w 8 z))
+  notes-barrier = word-is 2006 (omega arith) (flag w 8) (λ z l. let k = s .wrote z l in ap (λ (b : Bool). (b || flag w 8 z) || false) (ne-eqb (cell w z 4) 2006 (λ e. omega arith)) ∙ or-false (flag w 8 z))
 
   pub notes-suspension : getD ls 2007 0 % 1024 ≡ last-kept L (flag w 16) n
   unfolding noted

@@ -1,7 +1,7 @@
 -- A position's fact for what it writes and reads, where it has all, else its record. Assumes nothing.
 use mathlib.Core.Path.{_≡_, refl, sym, ap, ap₂, _∙_, subst}
 use mathlib.Core.Logic.{_⊎_, inl, inr, ⊎-elim}
-use mathlib.Core.Bool.{Bool, true, false, not, _&&_, _||_, cond}
+use mathlib.Core.Bool.{Bool, true, not, _&&_, _||_, cond, and-true}
 use mathlib.Core.List.{List, _++_, append-nil}
 use Prim.Native.Nat.{ℕ, _≤_, _<_}
 use native.Mathlib.Omega.{arith}
@@ -48,10 +48,6 @@ module _ {recs ops w : List ℕ} {n R p : ℕ} (s : Safe recs ops w n R) (h : p 
 low-at : {l : List ℕ} {g : ℕ → ℕ} {K R k y : ℕ} → Placed l g K → ((r : ℕ) → In r l → r < R) → k < K → y ≡ g k → (y ≡ absent) ⊎ (y < R)
 low-at {g = g} {R = R} {k = k} a f h e = subst (λ (x : ℕ). (x ≡ absent) ⊎ (x < R)) (sym e) (⊎-elim (λ u. inl u) (λ u. inr (f (g k) u)) (a .from k h))
 
-and-end : (b : Bool) → b ≡ (b && true)
-and-end true = refl
-and-end false = refl
-
 -- ---- what record n writes, d where there is not more
 
 module _ {recs : List ℕ} {R n d : ℕ} {more : Bool} (a : Written recs R n d more) where
@@ -77,7 +73,7 @@ module _ {recs : List ℕ} {R n d : ℕ} {more : Bool} (a : Written recs R n d m
     word-low = low-at {k = 0} word-placed (writes-low recs R n (a .fits)) (omega arith) refl
 
     pub word-tested : (h : ℕ → Bool) {b : Bool} → b ≡ (eqb d absent || h d) → b ≡ all h (writes (inst recs n))
-    word-tested h k = k ∙ and-end (eqb d absent || h d) ∙ sym (all-placed word-placed h)
+    word-tested h k = k ∙ sym (and-true (eqb d absent || h d)) ∙ sym (all-placed word-placed h)
 
     pub word-stamped : {keep lo v : ℕ} (st : List ℕ) {st′ : List ℕ} → Beside keep lo v → length st ≡ R → st′ ≡ put-in keep lo v d st → Stamped (writes (inst recs n)) keep lo v st st′
     word-stamped {keep} {lo} {v} st b s k =
@@ -115,7 +111,7 @@ module _ {recs ops : List ℕ} {R : ℕ} {d : Fact} (a : Readable recs ops R d) 
 
     pub words-tested : (h : ℕ → Bool) {b c : Bool} → b ≡ (eqb (d .use0) absent || h (d .use0)) → c ≡ (eqb (d .use1) absent || h (d .use1)) → (b && c) ≡ all h (reads ops (inst recs (d .rec)))
     words-tested h k l =
-        ap₂ (λ (i j : Bool). i && j) k (l ∙ and-end (eqb (d .use1) absent || h (d .use1)))
+        ap₂ (λ (i j : Bool). i && j) k (l ∙ sym (and-true (eqb (d .use1) absent || h (d .use1))))
         ∙ sym (all-placed words-placed h)
 
     module _ (st : List ℕ) {keep lo v : ℕ} (b : Beside keep lo v) (s : length st ≡ R) where

@@ -12,7 +12,7 @@ use lib.ListN.{length, take, drop}
 use Rattle.words.specs.Bits.{is-in}
 use Rattle.words.specs.Lists.{mem, same, member}
 use Rattle.words.proofs.Bools.{left-true, right-true}
-use Rattle.words.proofs.Lists.{getD-made}
+use Rattle.words.proofs.Lists.{getD-made, front-same, back-same}
 use Rattle.model.specs.Picture.{Picture, nblocks, preds}
 use Rattle.model.specs.Refusal.{records}
 use Rattle.model.specs.Analyse.{Facts}
@@ -30,7 +30,7 @@ use Rattle.chainwords.specs.declared.sizes.Sizes.{Sizes}
 use Rattle.trial.specs.declared.target.Sunk.{Sunk}
 use Rattle.chainwords.specs.Work.{width, at-needed, at-regs, Held, Lists, Tabled}
 use Rattle.trial.specs.Target.{from-start, row-at, stamps-at, taken, Aiming, Aimed}
-use Rattle.chainwords.proofs.Standing.{front-same, back-same, wrote-held}
+use Rattle.chainwords.proofs.Standing.{wrote-held}
 use Rattle.chainwords.proofs.Rooms.{room-of, row-before, Same, held-same, preds-lent}
 
 -- ---- the graph

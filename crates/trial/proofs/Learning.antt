@@ -6,6 +6,8 @@ use native.Mathlib.Omega.{arith}
 use borrow.Rule.Slice.PartMut.{putMid, same-len-mid, mid-len, take-put}
 use lib.ListN.{getD, length, take, drop}
 use lib.Seq.{take-take}
+use Rattle.words.proofs.Lists.{drop-more}
+use Rattle.words.proofs.Parts.{put-part}
 use Rattle.model.specs.Picture.{Picture}
 use Rattle.model.specs.Analyse.{Facts, Fact}
 use Rattle.model.specs.Move.{run-of}
@@ -15,27 +17,21 @@ use Rattle.inst.specs.Table.{rows}
 use Rattle.chains.specs.declared.chain.Chain.{Chain}
 use Rattle.chains.specs.Chain.{blocks-of}
 use Rattle.regfacts.specs.Flags.{Seen}
-use Rattle.analyse.specs.State as A
 use Rattle.analyse.specs.State.{plain}
 use Rattle.analyse.specs.Step.{Ready, Analysed}
 use Rattle.analyse.specs.Cells.{cells}
 use Rattle.facts.specs.declared.Fact as F
 use Rattle.analyse.proofs.Accepted.{good-given, pairs-given, ends-given}
-use Rattle.legalset.specs.Chain.{cell, Told}
+use Rattle.legalset.specs.Chain.{Told}
 use Rattle.plan.proofs.Heard as heard
 use Rattle.chainwords.specs.declared.sizes.Sizes.{Sizes}
 use Rattle.chainwords.specs.Work.{width, at-regs, reg-words, copied-words, Lists, Held}
 use Rattle.chainwords.specs.Puts.{Copying, Copied}
 use Rattle.chainwords.specs.Along.{Along, Learning, Learnt}
 use Rattle.chains.specs.Chain.{chain-in}
-use Rattle.chainwords.proofs.Standing.{drop-more}
-use Rattle.chainwords.proofs.Kept.{part-put, ok, at-is, held-kept}
+use Rattle.chainwords.proofs.Kept.{ok, at-is, held-kept}
 use Rattle.chainwords.proofs.Rooms.{Room, room}
 use Rattle.chainwords.proofs.Using.{places-same}
-
-cell-is : (w : List ℕ) (p j : ℕ) → cell w p j ≡ A.cell w p j
-unfolding cell A.cell
-cell-is w p j = let e : 10 * p + j ≡ p * 10 + j = omega arith in ap (λ (n : ℕ). getD w n 0) e
 
 module _ {bounds recs ops work64 work32 : List ℕ} {facts : List F.Fact} {s : Sizes} {c : Chain} (g : Learning bounds recs ops s c work64 work32 facts) where
   pub fits : Room (s .blocks) (s .regs) (s .lent) (length work64) (length work32)
@@ -103,7 +99,7 @@ module _ {bounds recs ops work64 work32 : List ℕ} {facts : List F.Fact} {s : S
           before-is = ap₂ (λ (k b : ℕ). take k (drop b work64)) all-lent at-a
 
           part-is : take (e - a) (drop a after64) ≡ regs′
-          part-is = part-put a (e - a) work64 regs′ (omega (arith, inside)) regs-long
+          part-is = put-part a (e - a) work64 regs′ (e - a) (omega (arith, inside)) regs-long
 
           after-is : reg-words P after64 ≡ regs′
           after-is = sym (ap₂ (λ (k b : ℕ). take k (drop b after64)) all-lent at-a) ∙ part-is
@@ -134,12 +130,12 @@ module _ {bounds recs ops work64 work32 : List ℕ} {facts : List F.Fact} {s : S
           along = record {
             long = of-picture .positions P refl;
             few = of-picture .short;
-            numbers = λ k i. cell-is w′ k 0 ∙ of-picture .numbers P refl k i;
+            numbers = λ k i. of-picture .numbers P refl k i;
             told = told;
             ended = heard.ended of-picture P refl G seen (copied-words P copied) copy-is;
             safe = heard.safe of-picture;
             brief = heard.brief of-picture;
-            written = λ p i. cell-is w′ p 6 ∙ of-picture .state P refl G seen .each p (let z = told .stands .long in omega arith) .written;
+            written = λ p i. of-picture .state P refl G seen .each p (let z = told .stands .long in omega arith) .written;
           }
 
         pub learnt : Learnt bounds recs ops s c work64 work32 after64 copied facts′ n

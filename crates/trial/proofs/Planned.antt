@@ -13,6 +13,7 @@ use lib.ListN.{getD, length, take, drop, length-drop}
 use lib.Seq.{length-take-le}
 use Rattle.words.specs.Lists.{member, count}
 use Rattle.words.proofs.Bools.{T-true, true-T, not-true-is-false}
+use Rattle.words.proofs.Lists.{front-same, drop-more}
 use Rattle.model.specs.Picture.{Picture, nblocks, size}
 use Rattle.model.specs.Refusal.{records}
 use Rattle.model.specs.Analyse.{Facts, Fact, movable}
@@ -39,7 +40,6 @@ use Rattle.chainwords.specs.Puts as U
 use Rattle.chainwords.specs.Along.{Along, Marked, FromX, Numbered, Using, Lasts, Used}
 use Rattle.chains.specs.Chain.{chain-in}
 use Rattle.trial.specs.Target.{from-start, row-at, stamps-at, taken, Aiming, Aimed, Trying, PlanTried}
-use Rattle.chainwords.proofs.Standing.{front-same, drop-more}
 use Rattle.chainwords.proofs.Kept.{held-kept}
 use Rattle.chainwords.proofs.Rooms.{room, room-of, Same, held-same}
 use Rattle.chainwords.proofs.Telling.{facts-behind, facts-still}

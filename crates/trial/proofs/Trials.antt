@@ -1,16 +1,13 @@
 -- `try_chain`: the chain from the block, which is worth a look, is tried, and the answer is `model`'s `try-block`. Assumes nothing.
 use mathlib.Core.Path.{_≡_, sym, ap, _∙_, subst}
-use mathlib.Core.Bool.{Bool, true, false, _&&_, _||_}
+use mathlib.Core.Bool.{Bool, true, false, _||_}
 use mathlib.Core.List.{List, [], _∷_}
 use mathlib.Core.Option.{Option, none, some}
 use Prim.Native.Nat.{ℕ, _+_, _-_, _*_, _≤_, _<_}
 use native.Mathlib.Nat.{add-zero}
 use native.Mathlib.Omega.{arith}
-use borrow.Author.Tests.{leb-true}
-use lib.Dec.{leb}
 use lib.ListN.{getD, length}
 use Rattle.words.specs.Lists.{mem}
-use Rattle.words.proofs.Bools.{left-true, right-true}
 use Rattle.model.specs.Picture.{Picture, nblocks, size}
 use Rattle.model.specs.Refusal.{records}
 use Rattle.model.specs.Analyse.{Facts}
@@ -19,6 +16,7 @@ use Rattle.model.specs.Move.{Plan, chain, chain-places, minimum, replays, worth
 use Rattle.laws.proofs.Accepted.{Accepted, accepted}
 use Rattle.laws.proofs.Admitted.{ends-parts}
 use Rattle.laws.proofs.Chains.{Found, chain-found, last-of-chain, lead-length}
+use Rattle.laws.proofs.Planned.{minimum-some}
 use Rattle.chains.specs.declared.chain.Chain.{Chain}
 use Rattle.chains.specs.Chain.{blocks-of}
 use Rattle.facts.specs.declared.Fact as F
@@ -36,7 +34,7 @@ use Rattle.trial.specs.Target.{Trying, PlanTried}
 use Rattle.trial.specs.Trial.{tried, else-least, found, Following, Followed}
 use Rattle.worth.specs.Worth.{Chosen}
 use Rattle.chainwords.proofs.Rooms.{room}
-use Rattle.worth.proofs.Looks.{worth-facts, worth-long, minimum-some}
+use Rattle.worth.proofs.Looks.{worth-facts, worth-long}
 use Rattle.trial.proofs.Planned.{along-behind, lists-of}
 use Rattle.trial.proofs.Moves.{plan-in, moves, held-both, first-plan}
 

@@ -1,16 +1,16 @@
 -- 01, "A round": what the search for a move from a block answers, `model`'s `try-block`; the chain's words then stand for the plan, as
 -- `apply` takes it. Assumes nothing.
 use mathlib.Core.Path.{_≡_}
-use mathlib.Core.Bool.{true, cond}
+use mathlib.Core.Bool.{cond}
 use mathlib.Core.List.{List}
 use mathlib.Core.Option.{none, some}
 use Prim.Native.Nat.{ℕ, _*_, _-_, _<_}
 use lib.Dec.{eqb, ltb}
 use lib.ListN.{getD, length}
 use Rattle.words.specs.Lists.{count}
-use Rattle.model.specs.Picture.{Picture, absent, nblocks, size}
+use Rattle.model.specs.Picture.{Picture, absent, size}
 use Rattle.model.specs.Analyse.{Facts}
-use Rattle.model.specs.Move.{Chain, Plan, chain, chain-places, worth-a-look, try-block}
+use Rattle.model.specs.Move.{Chain, Plan, chain, chain-places, try-block}
 use Rattle.pool.specs.Pool.{last-at, wrote-at}
 use Rattle.apply.specs.Apply.{Stands}
 use Rattle.trial.specs.declared.block.Move.{Move}
@@ -19,7 +19,6 @@ use Rattle.trial.specs.declared.block.MaybeMove.the-variants.{Is, Not}
 use Rattle.chainwords.specs.Work.{Shown, Given, Held, chain-words}
 use Rattle.worth.specs.Worth.{Chosen}
 use Rattle.chains.specs.declared.chain.Chain as C
-use Rattle.chains.specs.Chain.{Sound}
 use Rattle.chainwords.specs.declared.sizes.Sizes.{Sizes}
 
 -- the move mv is the plan from block x, and w, ten words a position, say so

@@ -8,9 +8,10 @@ use Prim.Native.Nat.{ℕ, suc, _+_, _≤_, _<_}
 use native.Mathlib.Omega.{arith}
 use lib.ListN.{length, getD}
 use Rattle.words.specs.Lists.{In}
+use Rattle.words.proofs.Members.{in-split}
 use Rattle.walk.specs.Machine.{Instr, Prog, no-instr}
 use Rattle.walk.specs.Rules.{written-by, without-last, straight-code, LastQuiet, Quiet, stays}
-use Rattle.walk.proofs.Facts.{in-split, none-in, Rest, rest-next, rest-behind, rest-at, rest-length}
+use Rattle.walk.proofs.Facts.{none-in, Rest, rest-next, rest-behind, rest-at, rest-length}
 use Rattle.walk.proofs.Scan.{Marked, kept, moved, after-code, scan, all-of, kept-of, written-along}
 use Rattle.walk.proofs.ScanLaws.{after-none}
 use Rattle.walk.proofs.Definers.{locations-at, locations-next}

@@ -7,9 +7,10 @@ use mathlib.Core.Logic.{_⊎_, inl, inr, ⊎-elim}
 use Prim.Native.Nat.{ℕ}
 use lib.ListN.{length, length-map}
 use Rattle.words.specs.Lists.{In}
+use Rattle.words.proofs.Bools.{eq?}
+use Rattle.words.proofs.Members.{in-split}
 use Rattle.walk.specs.Machine.{Instr, with-registers, Prog}
 use Rattle.walk.specs.Demand.{Alike}
-use Rattle.walk.proofs.Facts.{eq?, in-split}
 use Rattle.walk.proofs.Scan.{Marked, kept, moved, Locations, after-writes, after-moved, scan, after-chain, live-in-place, renamed, all-of, kept-of, moved-of, rename-own, ScanRound, ScanRounds, begin, round}
 
 -- what no round changes

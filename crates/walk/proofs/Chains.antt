@@ -7,9 +7,11 @@ use Prim.Native.Nat.{ℕ, _≤_, _<_}
 use native.Mathlib.Omega.{arith}
 use lib.ListN.{length, getD}
 use Rattle.words.specs.Lists.{In}
+use Rattle.words.proofs.Bools.{eq?}
+use Rattle.words.proofs.Members.{in-left, in-right, in-split}
 use Rattle.walk.specs.Machine.{Instr, Prog, no-instr}
 use Rattle.walk.specs.Rules.{written-by, Sole, Linked, ChainSteps, last-block, Exposed, LiveSolution}
-use Rattle.walk.proofs.Facts.{eq?, in-left, in-right, in-split, none-in}
+use Rattle.walk.proofs.Facts.{none-in}
 use Rattle.walk.proofs.Scan.{written-along}
 use Rattle.walk.proofs.Align.{Align, align-end, align-take, align-skip, AlignChain, align-le}
 

@@ -7,9 +7,9 @@ use Prim.Native.Nat.{ℕ, _≤_, _<_}
 use native.Mathlib.Omega.{arith}
 use lib.ListN.{length}
 use Rattle.words.specs.Lists.{In}
+use Rattle.words.proofs.Members.{in-getD, in-index}
 use Rattle.walk.specs.Machine.{Prog, no-instr, instr-at, LastWrite, none, write, takes, latest-visit, Walk}
 use Rattle.walk.specs.Demand.{OwnPlaces, RunsMatch, WritesMatch, Pointwise, Claim}
-use Rattle.walk.proofs.Facts.{getD-in, in-index}
 use Rattle.walk.proofs.Named.{WantedAlong}
 use Rattle.walk.proofs.Scan.{ScanRounds}
 use Rattle.walk.proofs.Compose.{stop, OldBlockLeads, latest-max, back-all, latest-back, rounds-wanted}
@@ -47,7 +47,7 @@ pub claim : (succ : ℕ → List ℕ) (P Q : Prog) → ScanRounds succ P Q → O
 claim succ P Q rs id un w N wk = record { there = there; reads = reads; single = single; matched = matched }
   where
     own-place : OldBlockLeads succ P
-    own-place b i q = let k = in-index no-instr (P b) i q in (0, stop (sym (ap (λ z. z .old-block) (k .2)) ∙ id b (k .0) (k .1) .0))
+    own-place b i q = let k = in-index no-instr i (P b) q in (0, stop (sym (ap (λ z. z .old-block) (k .2)) ∙ id b (k .0) (k .1) .0))
 
     all : OldBlockLeads succ Q × WantedAlong (takes P w) Q w N
     all = rounds-wanted (takes P w) succ P Q rs w N wk own-place (own-wanted-along P w id N)
@@ -57,7 +57,7 @@ claim succ P Q rs id un w N wk = record { there = there; reads = reads; single =
         × ((k : ℕ) → k ≤ n → w k ≡ (instr-at Q (w n) j) .old-block → k ≤ latest-visit w n ((instr-at Q (w n) j) .old-block))
     there n j h q =
         let i = instr-at Q (w n) j in
-        let p = all .0 (w n) (instr-at Q (w n) j) (getD-in no-instr (Q (w n)) j q) in
+        let p = all .0 (w n) (instr-at Q (w n) j) (in-getD no-instr (Q (w n)) j q) in
         let b = back-all succ w N wk ((instr-at Q (w n) j) .old-block) (w n) (p .0) n h refl (p .1) in
         let z = b .1 in
         let l = latest-max w n ((instr-at Q (w n) j) .old-block) (b .0) (omega arith) (b .2) in
@@ -71,7 +71,7 @@ claim succ P Q rs id un w N wk = record { there = there; reads = reads; single =
     single n j n′ j′ m i h h′ q q′ e e′ =
         let same-block : (instr-at Q (w n) j) .old-block ≡ (instr-at Q (w n′) j′) .old-block = sym (there n j h q .1) ∙ ap w (e .0 ∙ sym (e′ .0)) ∙ there n′ j′ h′ q′ .1 in
         let u = un (w n) j (w n′) j′ q q′ same-block (e .1 ∙ sym (e′ .1)) in
-        let p = all .0 (w n) (instr-at Q (w n) j) (getD-in no-instr (Q (w n)) j q) in
+        let p = all .0 (w n) (instr-at Q (w n) j) (in-getD no-instr (Q (w n)) j q) in
         let b = latest-back succ w N wk ((instr-at Q (w n) j) .old-block) (w n) (p .0) n h refl (p .1) in
         let b′ = latest-back succ w N wk ((instr-at Q (w n) j) .old-block) (w n) (p .0) n′ h′ (sym (u .0)) (p .1) in
         let f = e .0 in

@@ -9,9 +9,10 @@ use native.Mathlib.Omega.{arith}
 use lib.Dec.{eqb, eqb→eq}
 use lib.ListN.{length}
 use Rattle.words.specs.Lists.{In}
+use Rattle.words.proofs.Bools.{eq?}
 use Rattle.walk.specs.Machine.{Instr, Prog, LastWrite, latest-visit, Walk}
 use Rattle.walk.specs.Rules.{Sole, Linked}
-use Rattle.walk.proofs.Facts.{eq→eqb, eq?, cond-yes, cond-no}
+use Rattle.walk.proofs.Facts.{eq→eqb, cond-yes, cond-no}
 use Rattle.walk.proofs.Named.{WantedAlong}
 use Rattle.walk.proofs.Scan.{Marked, ScanRound, ScanRounds, begin, round}
 use Rattle.walk.proofs.OneRound.{one-round}

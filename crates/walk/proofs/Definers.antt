@@ -9,9 +9,10 @@ use native.Mathlib.Omega.{arith}
 use lib.Dec.{eqb, eqb→eq}
 use lib.ListN.{getD}
 use Rattle.words.specs.Lists.{In}
+use Rattle.words.proofs.Bools.{eq?}
 use Rattle.walk.specs.Machine.{put, Instr, no-instr}
 use Rattle.walk.specs.Rules.{entry, by, defined-by}
-use Rattle.walk.proofs.Facts.{eq?, cond-no, put-same, put-other, in?}
+use Rattle.walk.proofs.Facts.{cond-no, put-same, put-other, in?}
 use Rattle.walk.proofs.Scan.{Location, same, lost, fresh, Locations, after-writes, unless-reused, after-moved, live-in-place}
 use Rattle.walk.proofs.ScanLaws.{after-writes-out, after-writes-in}
 

@@ -9,9 +9,12 @@ use Prim.Native.Nat.{ℕ, zero, suc, _≤_, _<_}
 use native.Mathlib.Omega.{arith}
 use lib.ListN.{length}
 use Rattle.words.specs.Lists.{In, mem}
+use Rattle.words.proofs.Bools.{eq?}
+use Rattle.words.proofs.Lists.{before-last}
+use Rattle.words.proofs.Members.{in-left, in-right, in-split, map-on}
 use Rattle.walk.specs.Machine.{Instr, with-registers, Prog}
 use Rattle.walk.specs.Rules.{written-by, ChainSteps, last-block, defined-by, Exposed, new-name, goes, owns, Round}
-use Rattle.walk.proofs.Facts.{eq?, in-left, in-right, in-split, in?, none-in, map-same, before-last, behind-same}
+use Rattle.walk.proofs.Facts.{in?, none-in, behind-same}
 use Rattle.walk.proofs.Scan.{Marked, same, Locations, after-writes, after-code, scan, after-chain, live-in-place, register-at, renamed, kept-of, moved-of, rename-own, ReadsInPlace, ChainInPlace, ScanAllows, OwnFindable, written-along, ScanRound}
 use Rattle.walk.proofs.ScanLaws.{after-writes-out, after-writes-same, after-writes-in, after-none, after-code-out, after-code-in, exposed-in-place, own-findable, live-located, after-chain-snoc}
 use Rattle.walk.proofs.Definers.{locations-next, locations-entry}
@@ -97,7 +100,7 @@ module _ (R : ℕ) (succ : ℕ → List ℕ) (P P′ : Prog) (rnd : Round R succ
           ≡ moved-of (locations rnd q) (mark-one b (new-reg q) i ∷ mark-code mark new-reg (suc q) c)
       go true m rest = ap₂ _∷_
           (ap (λ z. with-registers z (map (λ (r : ℕ). new-reg q) (i .writes)) i)
-          (map-same (λ r. new-name mark new-reg (defined-by S q r) r) (renamed (locations rnd q)) (i .reads) (λ r g. moved-name q r m (subst (λ z. In r (z .reads)) (sym at-q) g))))
+          (map-on (λ r. new-name mark new-reg (defined-by S q r) r) (renamed (locations rnd q)) (i .reads) (λ r g. moved-name q r m (subst (λ z. In r (z .reads)) (sym at-q) g))))
           (rest ∙ ap (λ z. moved-of z (mark-code mark new-reg (suc q) c)) (locations-next S mark new-reg (live x) q i true at-q m))
       go false m rest = rest ∙ ap (λ z. moved-of z (mark-code mark new-reg (suc q) c)) (locations-next S mark new-reg (live x) q i false at-q m)
   goes-moved-of (first-last {q = q} {i = i} rr ww m) = go (mark q) m
@@ -115,7 +118,7 @@ module _ (R : ℕ) (succ : ℕ → List ℕ) (P P′ : Prog) (rnd : Round R succ
   owns-rename-own [] ws a h k = refl
   owns-rename-own (i ∷ c) ws a h k = ap₂ _∷_
       (ap (λ z. with-registers z (i .writes) i)
-      (map-same (λ r. cond (mem r ws) r (new-name mark new-reg (defined-by S (length S) r) r)) (renamed a) (i .reads)
+      (map-on (λ r. cond (mem r ws) r (new-name mark new-reg (defined-by S (length S) r) r)) (renamed a) (i .reads)
       (λ r g. ⊎-elim
       (λ q. ap (λ b. cond b r (new-name mark new-reg (defined-by S (length S) r) r)) (q .1) ∙ ap (λ y. register-at y r) (sym (h r (q .0))))
       (λ q. ap (λ b. cond b r (new-name mark new-reg (defined-by S (length S) r) r)) (q .1) ∙ k r (q .0) (inl g))

@@ -6,9 +6,11 @@ use mathlib.Core.Logic.{inl, inr, ⊎-elim}
 use Prim.Native.Nat.{ℕ, _<_}
 use native.Mathlib.Omega.{arith}
 use Rattle.words.specs.Lists.{In}
+use Rattle.words.proofs.Bools.{eq?}
+use Rattle.words.proofs.Members.{in-left, in-right, map-on}
 use Rattle.walk.specs.Machine.{put, Instr, LastWrite, write, State, first-slot, next-slots, store}
 use Rattle.walk.specs.Rules.{written-by}
-use Rattle.walk.proofs.Facts.{eq?, put-same, put-other, in-left, in-right, in-constant, map-same}
+use Rattle.walk.proofs.Facts.{put-same, put-other, in-constant}
 use Rattle.walk.proofs.Named.{step-named, run-named, Wanted, store-other, run-other}
 use Rattle.walk.proofs.Scan.{Marked, kept, moved, Location, same, lost, fresh, Locations, after-writes, after-code, unless-reused, after-moved, scan, register-at, renamed, all-of, kept-of, rename-moved, moved-of, rename-own, ReadsInPlace, Findable, ScanAllows, OwnFindable}
 use Rattle.walk.proofs.ScanLaws.{same≢fresh, fresh-inj, unless-same, unless-fresh, NewAbove, above-one, above-writes}
@@ -96,7 +98,7 @@ pub kept-code-run : (want : ℕ → ℕ → List LastWrite) (visit : ℕ → ℕ
 kept-code-run want visit [] a σ κ h o w = (tt, h)
 kept-code-run want visit (i ∷ c) a σ κ h o w =
     let rest = kept-code-run want visit c (after-writes a (i .writes)) (step-named visit i σ) (step-named visit i κ) (agree-step visit i a σ κ h) (o .1) (w .1) in
-    ((sym (map-same σ κ (i .reads) (λ r m. h r (o .0 r m))) ∙ w .0, rest .0), rest .1)
+    ((sym (map-on σ κ (i .reads) (λ r m. h r (o .0 r m))) ∙ w .0, rest .0), rest .1)
 
 -- the kept part of x, against the whole of x
 pub kept-part-run : (want : ℕ → ℕ → List LastWrite) (visit : ℕ → ℕ) (R : ℕ) (cw : List ℕ) (X : List Marked) (a : Locations) (σ κ : State)
@@ -105,7 +107,7 @@ pub kept-part-run : (want : ℕ → ℕ → List LastWrite) (visit : ℕ → ℕ
 kept-part-run want visit R cw [] a σ κ h o w = (tt, h)
 kept-part-run want visit R cw (kept i ∷ X) a σ κ h o w =
     let rest = kept-part-run want visit R cw X (after-writes a (i .writes)) (step-named visit i σ) (step-named visit i κ) (agree-step visit i a σ κ h) (o .1) (w .1) in
-    ((sym (map-same σ κ (i .reads) (λ r m. h r (o .0 r m))) ∙ w .0, rest .0), rest .1)
+    ((sym (map-on σ κ (i .reads) (λ r m. h r (o .0 r m))) ∙ w .0, rest .0), rest .1)
 kept-part-run want visit R cw (moved f i ∷ X) a σ κ h o w =
     kept-part-run want visit R cw X (after-moved a f (i .writes)) (step-named visit i σ) κ (agree-moved visit f i a σ κ h) (o .2) (w .1)
 
@@ -142,7 +144,7 @@ moved-run want visit visit′ R cw κT (moved f i ∷ X) a σ κ μ ag ho lo ct 
     (λ r h. store-other (visit′ (i .old-block)) (i .old-index) (i .slots) (map (λ (x : ℕ). f) (i .writes)) μ r (λ q. clash r h (in-constant f (i .writes) r q)) ∙ lo r h)
     ct (λ j q. la j (inr q)) (o .2) (w .1) in (
       (
-        map-map μ (renamed a) (i .reads) ∙ map-same (λ r. μ (renamed a r)) σ (i .reads)
+        map-map μ (renamed a) (i .reads) ∙ map-on (λ r. μ (renamed a r)) σ (i .reads)
             (λ r q. read-moved R (written-by (kept-of X)) cw σ κ (run-named visit (kept-of X) κ) κT μ a r ag ho (lo r) (ct r) (λ z. run-other visit (kept-of X) κ r z) (o .1 r q))
             ∙ w .0 ∙ ap (λ m. want m (i .old-index)) (sym e),
         rest .0,
@@ -190,4 +192,4 @@ own-run want visit R [] a σ μ ag ho hi o w = (tt, ag)
 own-run want visit R (i ∷ c) a σ μ ag ho hi o w =
     let rest = own-run want visit R c (after-writes a (i .writes)) (step-named visit i σ) (step-named visit i μ)
     (agree-on-store (λ r. r < R) (visit (i .old-block)) (i .old-index) (i .slots) (i .writes) a σ μ ag) (held-both R (visit (i .old-block)) (i .old-index) (i .slots) (i .writes) a σ μ (o .1) hi ho) (above-writes R (i .writes) a hi) (o .2) (w .1) in
-    ((map-map μ (renamed a) (i .reads) ∙ map-same (λ r. μ (renamed a r)) σ (i .reads) (λ r q. read-own R σ μ a r ag ho (o .0 r q)) ∙ w .0, rest .0), rest .1)
+    ((map-map μ (renamed a) (i .reads) ∙ map-on (λ r. μ (renamed a r)) σ (i .reads) (λ r q. read-own R σ μ a r ag ho (o .0 r q)) ∙ w .0, rest .0), rest .1)

@@ -6,9 +6,10 @@ use mathlib.Core.List.{List, [], _∷_, _++_, map}
 use mathlib.Core.Logic.{inl, inr}
 use Prim.Native.Nat.{ℕ, zero, suc, _<_}
 use Rattle.words.specs.Lists.{In}
+use Rattle.words.proofs.Members.{in-left, in-right}
 use Rattle.walk.specs.Machine.{put, Instr, Prog, LastWrite, none, write, State, first-slot, next-slots, store, latest-visit}
 use Rattle.walk.specs.Rules.{written-by}
-use Rattle.walk.proofs.Facts.{put-other, in-left, in-right}
+use Rattle.walk.proofs.Facts.{put-other}
 
 -- `visit` gives the place of each old block
 abbrev pub step-named : (ℕ → ℕ) → Instr → State → State

@@ -10,8 +10,10 @@ use native.Mathlib.Omega.{arith}
 use lib.ListN.{length, length-append}
 use lib.Seq.{append-snoc}
 use Rattle.words.specs.Lists.{In}
+use Rattle.words.proofs.Bools.{eq?}
+use Rattle.words.proofs.Lists.{snoc-inj, before-last}
+use Rattle.words.proofs.Members.{in-left, in-right, in-mid}
 use Rattle.walk.specs.Machine.{Instr, Prog, LastWrite, State, latest-visit, Walk}
-use Rattle.walk.proofs.Facts.{eq?, in-left, in-right, in-mid, snoc-inj, before-last}
 use Rattle.walk.proofs.Named.{run-named, Wanted, state-named, WantedAlong, state-named-step, wanted-append, run-append, run-other}
 use Rattle.walk.proofs.Scan.{Marked, same, Locations, after-code, scan, after-chain, live-in-place, all-of, kept-of, moved-of, rename-own, ReadsInPlace, ChainInPlace, written-along, ScanRound}
 use Rattle.walk.proofs.ScanLaws.{live-same, live-not-fresh, chain-in-place-at, after-chain-snoc, unwritten-snoc, above-scan, above-chain, above-live}

@@ -9,9 +9,11 @@ use native.Mathlib.Omega.{arith}
 use lib.Dec.{eqb, T, eqb→eq}
 use lib.ListN.{length, getD}
 use Rattle.words.specs.Lists.{In}
+use Rattle.words.proofs.Bools.{eq?}
+use Rattle.words.proofs.Members.{in-mid}
 use Rattle.walk.specs.Machine.{Instr, with-registers, Prog, no-instr, instr-at}
 use Rattle.walk.specs.Demand.{OwnPlaces}
-use Rattle.walk.proofs.Facts.{eq→eqb, eq?, cond-yes, in-mid}
+use Rattle.walk.proofs.Facts.{eq→eqb, cond-yes}
 use Rattle.walk.proofs.Scan.{Marked, kept, moved, Locations, after-writes, after-moved, scan, after-chain, live-in-place, renamed, all-of, kept-of, rename-moved, moved-of, rename-own, ScanRound, ScanRounds, begin, round}
 use Rattle.walk.proofs.Claim.{OldPlacesUnique}
 

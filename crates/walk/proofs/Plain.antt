@@ -6,9 +6,11 @@ use mathlib.Core.Logic.{⊎-elim}
 use Prim.Native.Nat.{ℕ, zero, suc, _+_, _<_}
 use native.Mathlib.Omega.{arith}
 use lib.ListN.{length, getD}
+use Rattle.words.proofs.Bools.{eq?}
+use Rattle.words.proofs.Members.{map-on}
 use Rattle.walk.specs.Machine.{put, Instr, Prog, no-instr, instr-at, LastWrite, none, write, State, first-slot, next-slots, store, run-plain, state-at, takes-from, takes, latest-visit}
 use Rattle.walk.specs.Demand.{OwnPlaces}
-use Rattle.walk.proofs.Facts.{eq?, put-same, put-other, map-same, Rest, rest-all, rest-next, rest-at, rest-length}
+use Rattle.walk.proofs.Facts.{put-same, put-other, Rest, rest-all, rest-next, rest-at, rest-length}
 use Rattle.walk.proofs.Named.{step-named, run-named, Wanted, state-named, WantedAlong}
 use Rattle.walk.proofs.Compose.{latest-here}
 
@@ -49,7 +51,7 @@ module _ (Q : Prog) (w : ℕ → ℕ) where
   named-state (suc n) = named-run n 0 (Q (w n)) (rest-all (Q (w n))) (state-named Q w n) (state-at Q w n) (named-state n)
 
   map-named : (σ σ° : State) (l : List ℕ) → Named σ σ° → map name-of (map σ° l) ≡ map σ l
-  map-named σ σ° l h = map-map name-of σ° l ∙ map-same (λ r. name-of (σ° r)) σ l (λ r q. sym (h r))
+  map-named σ σ° l h = map-map name-of σ° l ∙ map-on (λ r. name-of (σ° r)) σ l (λ r q. sym (h r))
 
   -- what is wanted of the names is what the plain machine takes, by name
   take-named : (want : ℕ → ℕ → List LastWrite) (n j : ℕ) (c : List Instr) → Rest (Q (w n)) j c → (σ σ° : State) → Named σ σ°

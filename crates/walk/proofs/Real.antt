@@ -7,8 +7,9 @@ use Prim.Native.Nat.{ℕ, zero, suc, _≤_, _<_}
 use native.Mathlib.Omega.{arith}
 use lib.ListN.{length}
 use Rattle.words.specs.Lists.{In}
+use Rattle.words.proofs.Bools.{eq?}
 use Rattle.walk.specs.Machine.{put, Instr, Prog, LastWrite, none, write, State, first-slot, next-slots, store, run-plain, state-at, takes-from, takes}
-use Rattle.walk.proofs.Facts.{eq?, put-same, put-other, Rest, rest-all, rest-next, rest-length}
+use Rattle.walk.proofs.Facts.{put-same, put-other, Rest, rest-all, rest-next, rest-length}
 
 module _ (Q : Prog) (w : ℕ → ℕ) (N : ℕ) where
   -- a write by a run of the first N places

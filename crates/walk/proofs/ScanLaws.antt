@@ -8,9 +8,11 @@ use Prim.Native.Nat.{ℕ, _≤_, _<_}
 use native.Mathlib.Omega.{arith}
 use lib.Dec.{eqb, T}
 use Rattle.words.specs.Lists.{In}
+use Rattle.words.proofs.Bools.{eq?}
+use Rattle.words.proofs.Members.{in-left, in-right, in-split}
 use Rattle.walk.specs.Machine.{put, Instr, Prog}
 use Rattle.walk.specs.Rules.{written-by, Exposed}
-use Rattle.walk.proofs.Facts.{eq→eqb, eq?, put-same, put-other, in-left, in-right, in-split, in?}
+use Rattle.walk.proofs.Facts.{eq→eqb, put-same, put-other, in?}
 use Rattle.walk.proofs.Scan.{Marked, kept, moved, Location, same, lost, fresh, Locations, after-writes, after-code, unless-reused, after-moved, scan, after-chain, live-in-place, ReadsInPlace, ChainInPlace, Findable, ScanAllows, OwnFindable, written-along}
 
 -- ---- locations

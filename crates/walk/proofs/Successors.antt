@@ -9,10 +9,10 @@ use native.Mathlib.Omega.{arith}
 use lib.Dec.{T}
 use lib.ListN.{length, getD}
 use Rattle.words.specs.Lists.{In}
+use Rattle.words.proofs.Bools.{eq?}
 use Rattle.walk.specs.Machine.{Instr, with-registers, Prog, no-instr, instr-at, Walk}
 use Rattle.walk.specs.Rules.{without-last, straight-code, defined-by, new-name, stays, goes, owns}
 use Rattle.walk.specs.Demand.{last-goes-to, succs, GoesOn, IsWalk, block-at, FullRound, Sunk, none-yet, again}
-use Rattle.walk.proofs.Facts.{eq?}
 
 -- ---- where the last instruction of the new code goes
 

@@ -6,10 +6,10 @@ use mathlib.Core.Logic.{_↔_}
 use Prim.Native.Nat.{ℕ, _<_}
 use native.Mathlib.Omega.{arith}
 use lib.ListN.{length}
+use Rattle.words.proofs.Members.{in-getD, in-index}
 use Rattle.walk.specs.Machine.{Prog, no-instr, instr-at}
 use Rattle.walk.specs.Rules.{Round}
 use Rattle.walk.specs.Demand.{succs, IsWalk, block-at, Sunk, none-yet, again, OwnPlaces, Claim, Alike, Demand3}
-use Rattle.walk.proofs.Facts.{getD-in, in-index}
 use Rattle.walk.proofs.Scan.{ScanRounds, begin, round}
 use Rattle.walk.proofs.Alike.{alike-rounds}
 use Rattle.walk.proofs.Compose.{along}
@@ -37,8 +37,8 @@ demand P Q s id = record { old = old; stands = places (succs P) P Q rs id; once 
 
     old : (c j : ℕ) → j < length (Q c) → ((instr-at Q c j) .old-index < length (P ((instr-at Q c j) .old-block))) × Alike (instr-at Q c j) (instr-at P ((instr-at Q c j) .old-block) ((instr-at Q c j) .old-index))
     old c j h =
-        let f = alike-rounds (succs P) P Q rs c (instr-at Q c j) (getD-in no-instr (Q c) j h) in
-        let k = in-index no-instr (P (f .0)) (f .1) (f .2) in
+        let f = alike-rounds (succs P) P Q rs c (instr-at Q c j) (in-getD no-instr (Q c) j h) in
+        let k = in-index no-instr (f .1) (P (f .0)) (f .2) in
         let u = id (f .0) (k .0) (k .1) in
         let e : (instr-at Q c j) .old-block ≡ f .0 = f .3 .same-old-block ∙ ap (λ z. z .old-block) (sym (k .2)) ∙ u .0 in
         let g : (instr-at Q c j) .old-index ≡ k .0 = f .3 .same-old-index ∙ ap (λ z. z .old-index) (sym (k .2)) ∙ u .1 in (

@@ -1,17 +1,19 @@
 -- Tests over all numbers below n, `all f (upto n)` and `any f (upto n)`, and over a table; the fixed answers of the loops that decide
 -- them. Assumes nothing.
 use mathlib.Core.Path.{_≡_, refl, sym, ap, _∙_, subst}
-use mathlib.Core.Bool.{Bool, true, false, not, _&&_, _||_}
+use mathlib.Core.Bool.{Bool, true, false, not, _&&_, _||_, or-false}
 use mathlib.Core.List.{List, [], _∷_, _++_, map}
-use Prim.Native.Nat.{ℕ, zero, suc, _+_, _≤_, _<_}
-use native.Mathlib.Nat.{add-zero, zero-add, add-suc, suc-add, le-antisymm, le-of-suc-le-suc, not-suc-le-zero}
+use Prim.Native.Nat.{ℕ, suc, _+_, _≤_, _<_}
+use native.Mathlib.Nat.{zero-add, le-antisymm}
+use native.Mathlib.Numerals.{add-one}
 use native.Mathlib.Omega.{arith}
-use lib.Dec.{T}
+use lib.Dec.{T, eqb}
 use lib.ListN.{length, getD}
 use borrow.Author.Count.{below-more}
 use borrow.Author.Tests.{not-true, not-false}
-use Rattle.words.specs.Lists.{range, upto, all, any}
-use Rattle.words.proofs.Bools.{T-true, true-T, clash, left, right, or-mono, and-mono, bool-ext, not-true-is-false}
+use Rattle.words.specs.Lists.{range, upto, all, any, mem}
+use Rattle.words.proofs.Bools.{T-true, true-T, clash, or-mono, and-mono, bool-ext, not-true-is-false}
+use Rattle.words.proofs.Lists.{range-snoc}
 use Rattle.words.proofs.Members.{all-in, all-of, any-in, any-of, any-no, no-any, in-range, range-in, in-getD, in-index}
 
 -- ---- a range
@@ -32,10 +34,6 @@ module _ {A : Type 0} (f g : A → Bool) (i : (a : A) → T (f a) → T (g a)) w
   any-mono (x ∷ xs) t = or-mono (f x) (any f xs) (g x) (any g xs) (i x) (any-mono xs) t
 
 module _ {A : Type 0} (f : A → Bool) where
-  pub all-append : (xs ys : List A) → all f (xs ++ ys) ≡ (all f xs && all f ys)
-  all-append [] ys = refl
-  all-append (x ∷ xs) ys = ap (λ (b : Bool). f x && b) (all-append xs ys) ∙ sym (mathlib.Core.Bool.and-assoc (f x) (all f xs) (all f ys))
-
   pub any-append : (xs ys : List A) → any f (xs ++ ys) ≡ (any f xs || any f ys)
   any-append [] ys = refl
   any-append (x ∷ xs) ys = ap (λ (b : Bool). f x || b) (any-append xs ys) ∙ sym (mathlib.Core.Bool.or-assoc (f x) (any f xs) (any f ys))
@@ -54,6 +52,14 @@ module _ {A : Type 0} (f : A → Bool) where
       (λ t. let z = any-of (λ i. f (getD xs i d)) (upto (length xs)) t in let y = range-in (z .0) 0 (length xs) (z .1) in
       any-in f (getD xs (z .0) d) xs (in-getD d xs (z .0) (let h = y .1 in omega arith)) (z .2))
 
+pub any-more : (f : ℕ → Bool) (k : ℕ) → any f (upto (k + 1)) ≡ (any f (upto k) || f k)
+any-more f k =
+    ap (λ (n : ℕ). any f (upto n)) (add-one k) ∙ ap (any f) (range-snoc 0 k) ∙ any-append f (upto k) ((0 + k) ∷ [])
+    ∙ ap (λ (b : Bool). any f (upto k) || b) (or-false (f (0 + k)) ∙ ap f (zero-add k))
+
+pub mem-append : (r : ℕ) (xs ys : List ℕ) → mem r (xs ++ ys) ≡ (mem r xs || mem r ys)
+mem-append r = any-append (λ x. eqb r x)
+
 pub any-map : {A B : Type 0} (f : B → Bool) (g : A → B) (xs : List A) → any f (map g xs) ≡ any (λ x. f (g x)) xs
 any-map f g [] = refl
 any-map f g (x ∷ xs) = ap (λ (b : Bool). f (g x) || b) (any-map f g xs)
@@ -63,15 +69,6 @@ any-map f g (x ∷ xs) = ap (λ (b : Bool). f (g x) || b) (any-map f g xs)
 abbrev pub every : (ℕ → ℕ → Bool) → ℕ → List ℕ → Bool
 every f i [] = true
 every f i (x ∷ xs) = f i x && every f (suc i) xs
-
-pub every-at : (f : ℕ → ℕ → Bool) (xs : List ℕ) → T (every f 0 xs) → (k : ℕ) → k < length xs → T (f k (getD xs k 0))
-every-at f xs t k h = subst (λ (m : ℕ). T (f m (getD xs k 0))) (zero-add k) (from xs 0 t k h)
-  where
-    from : (xs : List ℕ) (i : ℕ) → T (every f i xs) → (k : ℕ) → k < length xs → T (f (i + k) (getD xs k 0))
-    from [] i t k h = absurd (not-suc-le-zero h)
-    from (x ∷ xs) i t zero h = subst (λ (m : ℕ). T (f m x)) (sym (add-zero i)) (left (f i x) (every f (suc i) xs) t)
-    from (x ∷ xs) i t (suc k) h =
-        subst (λ (m : ℕ). T (f m (getD xs k 0))) (suc-add i k ∙ sym (add-suc i k)) (from xs (suc i) (right (f i x) (every f (suc i) xs) t) k (le-of-suc-le-suc h))
 
 -- ---- below n, as equations
 
@@ -118,9 +115,3 @@ and-yes {b = b} e t k = k ∙ ap (λ (x : Bool). x && b) (sym t ∙ e)
 
 pub and-nay : {a r : Bool} (b : Bool) → r ≡ a → r ≡ false → false ≡ a && b
 and-nay b e t = ap (λ (x : Bool). x && b) (sym t ∙ e)
-
-pub or-yes : {a r : Bool} (b : Bool) → r ≡ a → r ≡ true → true ≡ a || b
-or-yes b e t = ap (λ (x : Bool). x || b) (sym t ∙ e)
-
-pub or-else : {a b r s : Bool} → r ≡ a → r ≡ false → s ≡ b → s ≡ a || b
-or-else {b = b} e t k = k ∙ ap (λ (x : Bool). x || b) (sym t ∙ e)

@@ -74,6 +74,10 @@ pub right-true : (a b : Bool) → a && b ≡ true → b ≡ true
 right-true true b p = p
 right-true false b p = absurd (true≢false (sym p))
 
+pub and-no : (a : Bool) {b : Bool} → b ≡ false → (a && b) ≡ false
+and-no true e = e
+and-no false e = refl
+
 pub and-mono : (a b c d : Bool) → (T a → T c) → (T b → T d) → T (a && b) → T (c && d)
 and-mono a b c d f g t = both c d (f (left a b t)) (g (right a b t))
 
@@ -190,6 +194,10 @@ hit-and false false = refl
 pub hit-not : (a : Bool) → hit (not a) ≡ 1 - hit a
 hit-not true = refl
 hit-not false = refl
+
+pub hit-le : (a : Bool) → hit a ≤ 1
+hit-le true = omega arith
+hit-le false = omega arith
 
 pub hit-inj : (a b : Bool) → hit a ≡ hit b → a ≡ b
 hit-inj true true e = refl

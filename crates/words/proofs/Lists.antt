@@ -1,13 +1,13 @@
 -- Laws of map, range, filter, concat, spans, lookup and `same` (specs/Lists), and of lists made by a rule. Assumes nothing.
-use mathlib.Core.Path.{_≡_, refl, sym, ap, ap₂, _∙_}
+use mathlib.Core.Path.{_≡_, refl, sym, ap, ap₂, _∙_, subst}
 use mathlib.Core.Bool.{Bool, true, false, cond}
 use mathlib.Core.List.{List, [], _∷_, _++_, map, append-assoc, append-nil, nil≢cons, head-eq-of-cons-eq, tail-eq-of-cons-eq}
-use Prim.Native.Nat.{ℕ, zero, suc, _+_, _*_, _≤_, _<_}
+use Prim.Native.Nat.{ℕ, zero, suc, _+_, _-_, _*_, _≤_, _<_}
 use native.Mathlib.Nat.{add-zero, zero-add, suc-add, add-suc, le-of-suc-le-suc, not-suc-le-zero}
 use native.Mathlib.Omega.{arith}
 use lib.Dec.{T, eqb, eqb→eq}
-use lib.ListN.{length, getD, take, drop, length-append}
-use lib.Seq.{drop-cons, drop-append-add, take-append-seam}
+use lib.ListN.{length, getD, take, drop, replicate, length-append}
+use lib.Seq.{drop-cons, drop-drop, drop-append-add, take-take, take-append-seam, getD-take, getD-drop}
 use Rattle.words.specs.Lists.{range, filter, concat, spans, same}
 use Rattle.words.proofs.Bools.{left, right}
 
@@ -76,6 +76,11 @@ module _ {A : Type 0} (f : ℕ → A) where
   getD-past d s (suc n) zero h = absurd (not-suc-le-zero h)
   getD-past d s (suc n) (suc p) h = getD-past d (suc s) n p (le-of-suc-le-suc h)
 
+  pub take-made : (m s n : ℕ) → m ≤ n → take m (map f (range s n)) ≡ map f (range s m)
+  take-made zero s n h = refl
+  take-made (suc m) s zero h = absurd (not-suc-le-zero h)
+  take-made (suc m) s (suc n) h = ap (λ (l : List A). f s ∷ l) (take-made m (suc s) n (le-of-suc-le-suc h))
+
   pub made-next : (s n : ℕ) → map f (range (suc s) n) ≡ map (λ b. f (suc b)) (range s n)
   made-next s zero = refl
   made-next s (suc n) = ap (λ (l : List A). f (suc s) ∷ l) (made-next (suc s) n)
@@ -95,7 +100,54 @@ made-ext f g s zero h = refl
 made-ext {A} f g s (suc n) h =
     ap₂ (λ (x : A) (l : List A). x ∷ l) (h s (omega arith) (omega arith)) (made-ext f g (suc s) n (λ b u v. h b (omega arith) (omega arith)))
 
+-- the places of a list, whatever the default
+pub getD-any : {A : Type 0} (l : List A) (k : ℕ) (a b : A) → k < length l → getD l k a ≡ getD l k b
+getD-any [] k a b h = absurd (not-suc-le-zero h)
+getD-any (x ∷ l) zero a b h = refl
+getD-any (x ∷ l) (suc k) a b h = getD-any l k a b (le-of-suc-le-suc h)
+
+pub getD-zeros : (n i : ℕ) → _≡_ {A = ℕ} (getD (replicate n 0) i 0) 0
+getD-zeros zero i = refl
+getD-zeros (suc n) zero = refl
+getD-zeros (suc n) (suc i) = getD-zeros n i
+
+-- ---- lists that are the same from the front, or from behind
+
+module _ {A : Type 0} (a b : ℕ) (xs ys : List A) (h : a ≤ b) where
+  pub take-less : take b xs ≡ take b ys → take a xs ≡ take a ys
+  take-less e = sym (take-take a b xs h) ∙ ap (take a) e ∙ take-take a b ys h
+
+  pub drop-more : drop a xs ≡ drop a ys → drop b xs ≡ drop b ys
+  drop-more e =
+      let z : a + (b - a) ≡ b = omega arith in
+      subst (λ (n : ℕ). drop n xs ≡ drop n ys) z (sym (drop-drop (b - a) a xs) ∙ ap (drop (b - a)) e ∙ drop-drop (b - a) a ys)
+
+module _ (k : ℕ) (xs ys : List ℕ) where
+  pub front-same : take k ys ≡ take k xs → (i : ℕ) → i < k → getD ys i 0 ≡ getD xs i 0
+  front-same e i h = sym (getD-take k ys i 0 h) ∙ ap (λ (l : List ℕ). getD l i 0) e ∙ getD-take k xs i 0 h
+
+  pub back-same : drop k ys ≡ drop k xs → (i : ℕ) → k ≤ i → getD ys i 0 ≡ getD xs i 0
+  back-same e i h =
+      let z : k + (i - k) ≡ i = omega arith in
+      subst (λ (j : ℕ). getD ys j 0 ≡ getD xs j 0) z (sym (getD-drop k ys (i - k) 0) ∙ ap (λ (l : List ℕ). getD l (i - k) 0) e ∙ getD-drop k xs (i - k) 0)
+
 -- ---- filter
+
+-- a test over a range, by what it says there
+module _ (f : ℕ → Bool) where
+  pub filter-ext : (g : ℕ → Bool) (s n : ℕ) → ((p : ℕ) → s ≤ p → p < s + n → f p ≡ g p) → filter f (range s n) ≡ filter g (range s n)
+  filter-ext g s zero h = refl
+  filter-ext g s (suc n) h =
+      ap₂ (λ (b : Bool) (l : List ℕ). cond b (s ∷ l) l) (h s (omega arith) (omega arith)) (filter-ext g (suc s) n (λ p u v. h p (omega arith) (omega arith)))
+
+  pub filter-none : (s n : ℕ) → ((p : ℕ) → s ≤ p → p < s + n → f p ≡ false) → filter f (range s n) ≡ []
+  filter-none s zero h = refl
+  filter-none s (suc n) h =
+      ap (λ (b : Bool). cond b (s ∷ filter f (range (suc s) n)) (filter f (range (suc s) n))) (h s (omega arith) (omega arith)) ∙ filter-none (suc s) n (λ p u v. h p (omega arith) (omega arith))
+
+  pub filter-all : (s n : ℕ) → ((p : ℕ) → s ≤ p → p < s + n → f p ≡ true) → filter f (range s n) ≡ range s n
+  filter-all s zero h = refl
+  filter-all s (suc n) h = ap₂ (λ (b : Bool) (l : List ℕ). cond b (s ∷ l) (filter f (range (suc s) n))) (h s (omega arith) (omega arith)) (filter-all (suc s) n (λ p u v. h p (omega arith) (omega arith)))
 
 module _ {A : Type 0} (f : A → Bool) where
   pub filter-append : (xs ys : List A) → filter f (xs ++ ys) ≡ filter f xs ++ filter f ys

@@ -1,15 +1,14 @@
 -- Laws of membership, `In a xs`, and of the tests over all elements of a list. Assumes nothing.
 use mathlib.Core.Path.{_≡_, refl, sym, ap, ap₂, _∙_, subst}
 use mathlib.Core.Logic.{_⊎_, inl, inr, ⊎-elim}
-use mathlib.Core.Bool.{Bool, true, false, cond, _||_}
+use mathlib.Core.Bool.{Bool, true, false, cond, _&&_, _||_}
 use mathlib.Core.List.{List, [], _∷_, _++_, map}
 use Prim.Native.Nat.{ℕ, zero, suc, _+_, _≤_, _<_}
 use native.Mathlib.Nat.{le-of-suc-le-suc, not-suc-le-zero}
 use native.Mathlib.Omega.{arith}
 use lib.Dec.{T, eqb}
 use lib.ListN.{length, getD, take, drop}
-use borrow.Author.Tests.{eqb-true}
-use Rattle.words.specs.Lists.{In, range, all, any, filter, concat, mem, lookup}
+use Rattle.words.specs.Lists.{In, range, all, any, filter, concat, mem}
 use Rattle.words.proofs.Bools.{T-true, true-T, clash, both, left, right, or-first, or-second, or-cases, not-true-is-false, eq?}
 
 module _ {A : Type 0} where
@@ -125,6 +124,10 @@ module _ {A : Type 0} (f g : A → Bool) where
   any-on [] h = refl
   any-on (x ∷ xs) h = ap₂ (λ (a b : Bool). a || b) (h x (inl refl)) (any-on xs (λ a i. h a (inr i)))
 
+  pub all-on : (xs : List A) → ((a : A) → In a xs → f a ≡ g a) → all f xs ≡ all g xs
+  all-on [] h = refl
+  all-on (x ∷ xs) h = ap₂ (λ (a b : Bool). a && b) (h x (inl refl)) (all-on xs (λ a i. h a (inr i)))
+
   pub filter-on : (xs : List A) → ((a : A) → In a xs → f a ≡ g a) → filter f xs ≡ filter g xs
   filter-on [] h = refl
   filter-on (x ∷ xs) h = ap₂ (λ (t : Bool) (l : List A). cond t (x ∷ l) l) (h x (inl refl)) (filter-on xs (λ a i. h a (inr i)))
@@ -180,13 +183,3 @@ in? r l = go (mem r l) refl
     go : (b : Bool) → mem r l ≡ b → In r l ⊎ (In r l → ⊥)
     go true e = inl (mem-in r l e)
     go false e = inr (mem-not-in r l e)
-
--- what is looked up is the default or stands in the table
-pub lookup-in : (ps : List (ℕ × ℕ)) (r d : ℕ) → (lookup ps r d ≡ d) ⊎ In (r, lookup ps r d) ps
-lookup-in [] r d = inl refl
-lookup-in (x ∷ ps) r d = go (eqb r (x .0)) refl (lookup-in ps r d)
-  where
-    go : (b : Bool) → eqb r (x .0) ≡ b → (lookup ps r d ≡ d) ⊎ In (r, lookup ps r d) ps
-        → (elim b as (λ z. ℕ) [ true ↦ x .1 | false ↦ lookup ps r d ] ≡ d) ⊎ In (r, elim b as (λ z. ℕ) [ true ↦ x .1 | false ↦ lookup ps r d ]) (x ∷ ps)
-    go true e k = inr (inl (ap (λ (y : ℕ). (y, x .1)) (eqb-true r (x .0) e)))
-    go false e k = ⊎-elim (λ q. inl q) (λ q. inr (inr q)) k

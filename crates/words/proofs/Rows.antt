@@ -10,14 +10,15 @@ use native.Mathlib.Omega.{arith}
 use lib.Bits.{bitAnd, bitOr}
 use lib.Count.{ones, ones-le}
 use lib.Dec.{eqb, eqb→eq}
-use lib.ListN.{length, getD, set, take, drop, replicate, length-set, List·getD-eq-default}
-use lib.Seq.{getD-set-same, getD-set-other, getD-take, getD-drop, set-out}
+use lib.ListN.{length, getD, set, take, replicate, length-set, List·getD-eq-default}
+use lib.Seq.{getD-set-same, getD-set-other, set-out}
 use mir.Syntax.{w64}
 use mir.Val.{Fits}
 use borrow.Author.Tests.{eq-eqb, ne-eqb}
 use Rattle.words.specs.Bits.{digit, digit-in, is-in, set-bit, unset-bit, ones-in, room}
 use Rattle.words.specs.Lists.{hit}
 use Rattle.words.proofs.Bools.{true-T, both, left, right, bool-ext, hit-or, hit-and, hit-not, hit-inj}
+use Rattle.words.proofs.Lists.{getD-zeros, front-same}
 use Rattle.words.proofs.Parts.{cell-inj}
 use Rattle.words.proofs.Digits.{digit-le, digit-zero, digit-put, digit-take, ones-put, shl-one}
 
@@ -31,12 +32,12 @@ digit-past ws r h = ap (λ (x : ℕ). digit x (r % 64)) (List·getD-eq-default w
 
 pub digit-clear : (n r : ℕ) → digit-in (replicate n 0) r ≡ 0
 unfolding digit-in
-digit-clear n r = ap (λ (x : ℕ). digit x (r % 64)) (zeros n (r / 64)) ∙ digit-zero (r % 64)
-  where
-    zeros : (n i : ℕ) → _≡_ {A = ℕ} (getD (replicate n 0) i 0) 0
-    zeros zero i = refl
-    zeros (suc n) zero = refl
-    zeros (suc n) (suc i) = zeros n i
+digit-clear n r = ap (λ (x : ℕ). digit x (r % 64)) (getD-zeros n (r / 64)) ∙ digit-zero (r % 64)
+
+-- slices with the same first k words
+pub digit-front : (l m : List ℕ) (k q : ℕ) → take k l ≡ take k m → q / 64 < k → digit-in l q ≡ digit-in m q
+unfolding digit-in
+digit-front l m k q e h = ap (λ (x : ℕ). digit x (q % 64)) (front-same k m l e (q / 64) h)
 
 -- ---- one number put in or taken out
 
@@ -106,6 +107,10 @@ pub in-past : (ws : List ℕ) (r : ℕ) → 64 * length ws ≤ r → is-in ws r 
 unfolding is-in
 in-past ws r h = ap (λ (x : ℕ). eqb x 1) (digit-past ws r h)
 
+pub in-front : (l m : List ℕ) (k q : ℕ) → take k l ≡ take k m → q < 64 * k → is-in l q ≡ is-in m q
+unfolding is-in
+in-front l m k q e h = ap (λ (x : ℕ). eqb x 1) (digit-front l m k q e (omega arith))
+
 -- ---- a row in a larger slice: bit r of the row at word `at` is bit 64 * at + r of the slice
 
 pub row-word : (at r : ℕ) → (64 * at + r) / 64 ≡ at + r / 64
@@ -114,10 +119,6 @@ row-word at r = omega arith
 pub row-place : (at r : ℕ) → (64 * at + r) % 64 ≡ r % 64
 row-place at r = omega arith
 
-pub digit-row : (ws : List ℕ) (at n r : ℕ) → r < 64 * n → digit-in (take n (drop at ws)) r ≡ digit-in ws (64 * at + r)
-unfolding digit-in
-digit-row ws at n r h =
-    rw (row-word, row-place) (ap (λ (x : ℕ). digit x (r % 64)) (getD-take n (drop at ws) (r / 64) 0 (omega arith) ∙ getD-drop at ws (r / 64) 0))
 
 -- rows of w words: block b's begins at word b * w
 pub row-eqb : (w b c r q : ℕ) → r < 64 * w → q < 64 * w → eqb (64 * (c * w) + q) (64 * (b * w) + r) ≡ (eqb c b && eqb q r)
@@ -182,7 +183,3 @@ unfolding room
 room-set [] p v h = absurd (not-suc-le-zero h)
 room-set (x ∷ xs) zero v h = omega arith
 room-set (x ∷ xs) (suc p) v h = omega (arith, room-set xs p v (le-of-suc-le-suc h))
-
--- a word that rises leaves less room
-pub room-less : (l : List ℕ) (p v : ℕ) → p < length l → getD l p 0 < v → v ≤ 2 ^ 64 → room (set l p v) < room l
-room-less l p v h lt le = omega (arith, room-set l p v h)

@@ -6,10 +6,9 @@ use mathlib.Core.Bool.{Bool, true, false}
 use mathlib.Core.List.{List, [], _∷_}
 use Prim.Native.Nat.{ℕ, zero, suc, _+_, _≤_, _<_, zero-le, suc-le-suc}
 use native.Mathlib.Nat.{suc-inj}
-use native.Mathlib.Numerals.{add-one}
 use native.Mathlib.Omega.{arith}
 use lib.Dec.{T}
-use lib.ListN.{length, set}
+use lib.ListN.{length}
 use Rattle.words.specs.Lists.{iterate, member, count}
 
 infix 20 _⊑_
@@ -36,17 +35,6 @@ part-or-less (x ∷ S) (y ∷ S′) e h = go x y (h 0) (part-or-less S S′ (suc
     go false true k r = absurd (k tt)
     go false false k (inl e) = inl (ap (λ (X : List Bool). false ∷ X) e)
     go false false k (inr l) = inr l
-
-pub count-part : (S S′ : List Bool) → length S ≡ length S′ → member S′ ⊑ member S → count S′ ≤ count S
-count-part S S′ e h = ⊎-elim (λ (q : S′ ≡ S). omega (arith, ap count q)) (λ (l : count S′ < count S). omega arith) (part-or-less S S′ e h)
-
--- one member dropped is one less
-pub count-drop : (S : List Bool) (p : ℕ) → T (member S p) → count (set S p false) + 1 ≡ count S
-count-drop [] p t = absurd t
-count-drop (true ∷ S) zero t = add-one (count S)
-count-drop (false ∷ S) zero t = absurd t
-count-drop (true ∷ S) (suc p) t = omega (arith, count-drop S p t)
-count-drop (false ∷ S) (suc p) t = count-drop S p t
 
 -- the same for sets of any lengths
 pub count-within : (S S′ : List Bool) → member S ⊑ member S′ → count S ≤ count S′

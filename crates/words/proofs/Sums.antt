@@ -48,11 +48,6 @@ module _ {A : Type 0} (v : A → ℕ) where
   sum-add w [] = refl
   sum-add w (x ∷ xs) = omega (arith, sum-add w xs)
 
--- two pairs of sums that balance element by element
-pub sum-balance : {A : Type 0} (f g f′ g′ : A → ℕ) → ((a : A) → f a + g a ≡ f′ a + g′ a) → (xs : List A) → sum f xs + sum g xs ≡ sum f′ xs + sum g′ xs
-sum-balance f g f′ g′ h [] = refl
-sum-balance f g f′ g′ h (x ∷ xs) = omega (arith, h x, sum-balance f g f′ g′ h xs)
-
 pub sum-ones : {A : Type 0} (xs : List A) → sum (λ x. 1) xs ≡ length xs
 sum-ones [] = refl
 sum-ones (x ∷ xs) = omega (arith, sum-ones xs)

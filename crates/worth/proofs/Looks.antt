@@ -1,20 +1,21 @@
 -- The tests of look.rt are those of `model`. Assumes nothing.
 use mathlib.Core.Path.{_≡_, refl, sym, ap, _∙_}
 use mathlib.Core.Bool.{Bool, true, false, _&&_, _||_}
-use mathlib.Core.List.{List, _∷_, map}
-use Prim.Native.Nat.{ℕ, zero, suc, _+_, _-_, _*_, _≤_, _<_}
-use native.Mathlib.Nat.{le-of-suc-le-suc, not-suc-le-zero, le-antisymm, add-zero}
+use mathlib.Core.List.{List, map}
+use Prim.Native.Nat.{ℕ, _+_, _-_, _*_, _≤_, _<_}
+use native.Mathlib.Nat.{le-antisymm, add-zero}
 use native.Mathlib.Omega.{arith}
 use lib.Dec.{leb}
 use lib.ListN.{getD, length, take}
 use borrow.Author.Tests.{le-leb, lt-leb, leb-true}
 use Rattle.words.specs.Lists.{range, upto, any, mem}
-use Rattle.words.proofs.Lists.{map-map, shift-range}
+use Rattle.words.proofs.Lists.{map-map, shift-range, take-made}
 use Rattle.words.proofs.Alls.{any-map, find-yes, find-on}
 use Rattle.words.proofs.Bools.{left-true, right-true}
 use Rattle.model.specs.Picture.{Picture, inst, size}
 use Rattle.model.specs.Move as M
 use Rattle.model.specs.Move.{chain-places, minimum, replays, worth-a-look}
+use Rattle.laws.proofs.Planned.{minimum-some}
 use Rattle.inst.specs.Record.{Within}
 use Rattle.checks.specs.Causes.{plain-cat}
 use Rattle.chains.specs.declared.chain.Chain.{Chain}
@@ -54,22 +55,12 @@ module _ (recs : List ℕ) (a : ℕ) where
 pub record-there : (recs : List ℕ) {p e : ℕ} → p < e → 16 * e ≤ length recs → Within recs p
 record-there recs h l = record { whole = omega arith }
 
-take-made : {A : Type 0} (f : ℕ → A) (m s n : ℕ) → m ≤ n → take m (map f (range s n)) ≡ map f (range s m)
-take-made f zero s n h = refl
-take-made f (suc m) s zero h = absurd (not-suc-le-zero h)
-take-made {A} f (suc m) s (suc n) h = ap (λ (l : List A). f s ∷ l) (take-made f m (suc s) n (le-of-suc-le-suc h))
-
 -- ---- the tests in order
 
 -- what they ask of the lists, with n positions in the chain and the answer on replay
 unfoldable pub asked : List ℕ → ℕ → ℕ → ℕ → Bool → Bool
 asked recs a e n again =
     leb (minimum again) (e - a - 1) && leb n 800 && (again || any plain-cat (take (e - a - 1) (map (inst recs) (range a (e - a)))))
-
--- the fewest members are three or eight
-some-members : (again : Bool) → 3 ≤ minimum again
-some-members true = omega arith
-some-members false = omega arith
 
 over : (x y z : Bool) → y ≡ false → false ≡ (x && y && z)
 over true y z e = sym (ap (λ (t : Bool). t && z) e)
@@ -78,7 +69,7 @@ over false y z e = refl
 module _ (recs : List ℕ) (a e n : ℕ) (again : Bool) where
   pub too-few : {m : ℕ} → m ≡ minimum again → e - a ≤ m → false ≡ asked recs a e n again
   unfolding asked
-  too-few em h = let z = some-members again in
+  too-few em h = let z = minimum-some again in
       sym (ap (λ (t : Bool). t && leb n 800 && (again || any plain-cat (take (e - a - 1) (map (inst recs) (range a (e - a)))))) (lt-leb (minimum again) (e - a - 1) (omega arith)))
 
   pub too-long : 800 < n → false ≡ asked recs a e n again
@@ -121,10 +112,6 @@ worth-facts P x c e =
     let b = leb (length (chain-places P (c .blocks))) 800 in
     let f = left-true (a && b) _ e in
     (leb-true (minimum (replays P c)) (size P x - 1) (left-true a b f), leb-true (length (chain-places P (c .blocks))) 800 (right-true a b f))
-
-pub minimum-some : (b : Bool) → 3 ≤ minimum b
-minimum-some true = omega arith
-minimum-some false = omega arith
 
 -- such a block has more than 3 instructions
 pub worth-long : (P : Picture) (x : ℕ) (c : M.Chain) → worth-a-look P x c ≡ true → 3 < size P x

@@ -8,14 +8,14 @@ use native.Mathlib.Nat.{add-mul, zero-max, le-antisymm}
 use native.Mathlib.Omega.{arith}
 use lib.Bits.{bitAnd, bitOr}
 use lib.ListN.{length, getD, set, take, length-set}
-use lib.Seq.{getD-take, getD-set-same, getD-set-other, take-set-le, drop-set-lt}
+use lib.Seq.{getD-set-same, getD-set-other, take-set-le, drop-set-lt}
 use Rattle.words.specs.Bits.{digit, digit-in, is-in}
 use Rattle.words.specs.Lists.{any, hit}
 use Rattle.words.proofs.Bools.{hit-or, hit-and, hit-not, hit-inj, eq?}
 use Rattle.words.proofs.Digits.{digit-or, digit-and-not, digit-zero}
 use Rattle.words.proofs.Members.{any-on, in-index}
 use Rattle.words.proofs.Parts.{row-fits}
-use Rattle.words.proofs.Rows.{hit-in, row-word, row-place}
+use Rattle.words.proofs.Rows.{hit-in, row-word, row-place, in-front}
 use Rattle.model.specs.Picture.{Picture, nblocks, succs}
 use Rattle.model.specs.Live.{live-in}
 use Rattle.model.specs.Move.{needed}
@@ -68,14 +68,6 @@ module _ {ss : List ℕ} {n w into other : ℕ} {bits : List ℕ} (f : Fits ss n
   fits-kept m e = record { target = f .target; branch = f .branch; next = f .next; room = omega (arith, f .room) }
 
 -- ---- one word more
-
--- the words before k say the same
-digit-front : (l m : List ℕ) (k q : ℕ) → take k l ≡ take k m → q / 64 < k → digit-in l q ≡ digit-in m q
-unfolding digit-in
-digit-front l m k q e i = ap (λ (x : ℕ). digit x (q % 64)) (sym (getD-take k l (q / 64) 0 i) ∙ ap (λ (t : List ℕ). getD t (q / 64) 0) e ∙ getD-take k m (q / 64) 0 i)
-
-in-front : (l m : List ℕ) (k q : ℕ) → take k l ≡ take k m → q < 64 * k → is-in l q ≡ is-in m q
-in-front l m k q e h = let i : q / 64 < k = omega arith in hit-inj (is-in l q) (is-in m q) (hit-in l q ∙ digit-front l m k q e i ∙ sym (hit-in m q))
 
 -- a bit of the row that begins at word `at`, by its word
 in-word : (l : List ℕ) (at r : ℕ) → hit (is-in l (64 * at + r)) ≡ digit (getD l (at + r / 64) 0) (r % 64)

@@ -3,7 +3,7 @@ use borrow.Author.Needs.{needs}
 use mathlib.Core.Path.{ap₂}
 use Prim.Native.Nat.{ℕ, _*_}
 use native.Mathlib.Omega.{arith}
-use Rattle.chainwords.proofs.Kept.{size-low}
+use Rattle.words.proofs.Parts.{rows-small}
 use Rattle.chainwords.proofs.sizes.at_regs.Statement.{statement}
 use Rattle.chainwords.proofs.sizes.at_regs.Tie as tie
 
@@ -17,10 +17,10 @@ width-requires : tie.Need-width-requires
 width-requires c κs = search needs
 
 mul-result-2 : tie.Need-mul-result-2
-mul-result-2 c = let w = c .width .ensures in let b = c .before .wide .ensures in omega (arith, size-low {x = c .before .wide .result} {y = c .width .result} (omega arith) (omega arith))
+mul-result-2 c = let w = c .width .ensures in let b = c .before .wide .ensures in omega (arith, rows-small {b = c .before .wide .result} {w = c .width .result} (omega arith) (omega arith))
 
 returns : tie.Need-returns
-returns c = let w = c .width .ensures in let b = c .before .wide .ensures in (ap₂ (λ (x y : ℕ). 4 * x * y) b w, size-low {x = c .before .wide .result} {y = c .width .result} (omega arith) (omega arith))
+returns c = let w = c .width .ensures in let b = c .before .wide .ensures in (ap₂ (λ (x y : ℕ). 4 * x * y) b w, rows-small {b = c .before .wide .result} {w = c .width .result} (omega arith) (omega arith))
 
 pub at-regs-spec : {M : Type 1} → statement M
 at-regs-spec = tie.close (tie.spec wide-requires mul-result width-requires mul-result-2 returns)

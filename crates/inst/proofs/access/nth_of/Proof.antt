@@ -2,7 +2,7 @@
 use mathlib.Core.Path.{sym}
 use lib.ListN.{List·getD-eq-default}
 use Rattle.model.specs.Picture.{absent}
-use Rattle.inst.proofs.Lists.{getD-any}
+use Rattle.words.proofs.Lists.{getD-any}
 use borrow.Author.Needs.{needs}
 use Rattle.inst.proofs.access.nth_of.Statement.{statement}
 use Rattle.inst.proofs.access.nth_of.Tie as tie

@@ -2,7 +2,7 @@
 use Rattle.checks.specs.Causes.{too-short}
 use mathlib.Core.Path.{refl}
 use native.Mathlib.Omega.{arith}
-use Rattle.checks.proofs.Given.{rows-fit}
+use Rattle.words.proofs.Parts.{rows-small}
 use Prim.Native.Nat.{_+_, _/_}
 use borrow.Author.Needs.{needs}
 use Rattle.picture.proofs.sizes.too_short.Statement.{statement}
@@ -15,13 +15,13 @@ add-result : tie.Need-add-result
 add-result c = search needs
 
 mul-result-2 : tie.Need-mul-result-2
-mul-result-2 c = omega (arith, rows-fit (c .args .nb / 2) ((c .args .nt + 63) / 64) (omega arith) (omega arith))
+mul-result-2 c = omega (arith, rows-small {b = c .args .nb / 2} {w = (c .args .nt + 63) / 64} (omega arith) (omega arith))
 
 mul-result-3 : tie.Need-mul-result-3
 mul-result-3 c = search needs
 
 add-result-2 : tie.Need-add-result-2
-add-result-2 c = omega (arith, rows-fit (c .args .nb / 2) ((c .args .nt + 63) / 64) (omega arith) (omega arith))
+add-result-2 c = omega (arith, rows-small {b = c .args .nb / 2} {w = (c .args .nt + 63) / 64} (omega arith) (omega arith))
 
 mul-result-4 : tie.Need-mul-result-4
 mul-result-4 c = search needs

@@ -4,7 +4,7 @@ use Prim.Native.Nat.{ℕ, _%_}
 use lib.ListN.{getD}
 use Rattle.model.specs.Picture.{absent}
 use Rattle.rename.specs.Names.{reg-or}
-use Rattle.rename.proofs.Naming.{getD-any}
+use Rattle.words.proofs.Lists.{getD-any}
 use borrow.Author.Needs.{needs}
 use Rattle.rename.proofs.names.name.Statement.{statement}
 use Rattle.rename.proofs.names.name.Tie as tie
