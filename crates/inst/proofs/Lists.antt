@@ -28,6 +28,5 @@ part-is {A} {a} {n} {s} {l} xs e q =
     let h : a + n - a ≡ l = omega arith in
     ap (λ (m : ℕ). take m (drop a xs)) h ∙ ap (λ (m : ℕ). take l (drop m xs)) e
 
-
 pub getD-upto : (n k : ℕ) → k < n → getD (upto n) k 0 ≡ k
 getD-upto n k h = getD-range 0 n k h ∙ zero-add k

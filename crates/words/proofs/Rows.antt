@@ -119,7 +119,6 @@ row-word at r = omega arith
 pub row-place : (at r : ℕ) → (64 * at + r) % 64 ≡ r % 64
 row-place at r = omega arith
 
-
 -- rows of w words: block b's begins at word b * w
 pub row-eqb : (w b c r q : ℕ) → r < 64 * w → q < 64 * w → eqb (64 * (c * w) + q) (64 * (b * w) + r) ≡ (eqb c b && eqb q r)
 row-eqb w b c r q hr hq = bool-ext (eqb (64 * (c * w) + q) (64 * (b * w) + r)) (eqb c b && eqb q r)
