@@ -39,8 +39,12 @@ fn run(
     facts: &mut [Fact],
     m: At,
 ) -> Ran
-    requires { ⌜ (now t ≡ rows) × Coming (picture-of (now bounds) (now recs) (now locs) (now vias) (now types) (m .sizes .regs) (now ops) (m .operands) (now pairs) (now targets) (now replay)) m (now work64) (now work32) (length (now facts)) ⌝ }
-    ensures { λ r. ⌜ Finished (picture-of (now (bounds .entry)) (now (recs .entry)) (now (locs .entry)) (now (vias .entry)) (now (types .entry)) (m .sizes .regs) (now (ops .entry)) (m .operands) (now (pairs .entry)) (now (targets .entry)) (now (replay .entry))) m (now (work64 .entry)) (now (work32 .entry)) (now (facts .entry)) (r .answer) (r .lines) (now (bounds .exit)) (now (recs .exit)) (now (locs .exit)) (now (vias .exit)) (now (types .exit)) (now (ops .exit)) (now (work64 .exit)) (now (work32 .exit)) (now (facts .exit)) ⌝ }
+    requires { ⌜ (
+        let P = picture-of (now bounds) (now recs) (now locs) (now vias) (now types) (m .sizes .regs) (now ops) (m .operands) (now pairs) (now targets) (now replay) in
+        (now t ≡ rows) × Coming P m (now work64) (now work32) (length (now facts))) ⌝ }
+    ensures { λ r. ⌜ (
+        let P = picture-of (now (bounds .entry)) (now (recs .entry)) (now (locs .entry)) (now (vias .entry)) (now (types .entry)) (m .sizes .regs) (now (ops .entry)) (m .operands) (now (pairs .entry)) (now (targets .entry)) (now (replay .entry)) in
+        Finished P m (now (work64 .entry)) (now (work32 .entry)) (now (facts .entry)) (r .answer) (r .lines) (now (bounds .exit)) (now (recs .exit)) (now (locs .exit)) (now (vias .exit)) (now (types .exit)) (now (ops .exit)) (now (work64 .exit)) (now (work32 .exit)) (now (facts .exit))) ⌝ }
 {
     let mut m = m;
     while m.on {
