@@ -143,7 +143,8 @@ module _ {M : Type 1} (𝓤 : URA M) (H : Heap 𝓤) (A : Atoms 𝓤) (W : Given
     abbrev given : List Val
     given = F.given kinds vs
 
-    abbrev Post : Val → SProp 𝓤
+    -- it is shut but where it is shown
+    Post : Val → SProp 𝓤
     Post = Ends κs qs vs
 
     -- the picture that is lent
@@ -154,6 +155,7 @@ module _ {M : Type 1} (𝓤 : URA M) (H : Heap 𝓤) (A : Atoms 𝓤) (W : Given
     Said z r = Promised Lends (work64 .list) (work32 .list) (facts .list) r (z .0) (z .1 .0) (z .1 .1 .0) (z .1 .1 .1 .0) (z .1 .1 .1 .1 .0) (z .1 .1 .1 .1 .1 .0) (z .1 .1 .1 .1 .1 .1 .0) (z .1 .1 .1 .1 .1 .1 .1 .0) (z .1 .1 .1 .1 .1 .1 .1 .1 .0)
 
     exits : (z : F.Lasts kinds) (r : Ran) (w : Val) → F.Same kinds vs z → Is R.the-row r (w ∷ []) → Said z r → ent 𝓤 (⋆ 𝓤 H A (Held z)) (Post w)
+    unfolding Post
     exits z r w same is said =
         qed W (Held z) ∵
         suffices ! _ (ends-at 𝓤 H A f.ended stayed (f.clauses 𝓤 H A mem run) W ((κs, qs, tt, entries κs kinds vs, machs κs kinds vs), tt) w r (fins κs kinds vs z) (fit-all κs kinds vs z same)) $ says ! {φ = Said z r} said $
@@ -328,7 +330,8 @@ module _ {M : Type 1} (𝓤 : URA M) (H : Heap 𝓤) (A : Atoms 𝓤) (W : Given
           land ! (from ! (stop !)) (init ! 74 refl (array-lawful 𝓤 H A W u32 (uint-lawful 𝓤 H A W w32) 202 .typed (r .0) (w ∷ []) (a .0) .0)) $ assigns ! (of-opd ! (load ! (from ! (stop !)) (look ! 74 refl))) (from ! (stop !)) (init ! 78 refl (array-lawful 𝓤 H A W u32 (uint-lawful 𝓤 H A W w32) 202 .typed (r .0) (w ∷ []) (a .0) .0)) $
           by ! (lends-first w (subst (λ (ts : List ℕ). Is Tab ts (w ∷ [])) (a .1 .0) (a .0))))
 
-    from-entry : ent 𝓤 (onEntry 𝓤 H A f.signature κs qs (entries κs kinds vs) (machs κs kinds vs)) (WpFn 𝓤 H C Λ code.function given Post)
+    from-entry : ent 𝓤 (onEntry 𝓤 H A f.signature κs qs (entries κs kinds vs) (machs κs kinds vs)) (WpFn 𝓤 H C Λ code.function given (Ends κs qs vs))
+    unfolding Post
     from-entry = via 𝓤 (⋆ 𝓤 H A (Held (at-first (work64 .list) (work32 .list)))) (opened 𝓤 H A W (params (at-first (work64 .list) (work32 .list))))
         (enters-all 𝓤 H A W C Λ code.function given (Held (at-first (work64 .list) (work32 .list))) Post (λ homes. all-typed 𝓤 H A (typesAt (F.slots kinds) κs) (lawfuls 𝓤 H A W κs kinds) (entries κs kinds vs) (machs κs kinds vs) (ares κs kinds vs)) begins)
 
