@@ -15,7 +15,7 @@ use base.Fml.{Lft, GName, Share, Fml, fsep, flft, fdead, fobs, fauth, flent, fob
 use prog.Wp.{Heap}
 use ghost.Atoms.{Atoms, sem}
 use contract.BorrowLft.{meet-⊑-right}
-use types.Kit.{Given, Goal, Soaks, Seq, Item, ‵, raw, mean, _⊛_, some, later, _$_, _∵_, !, qed, move, drop, use1, use2, use3, split, join, pick, fsplit, fjoin, feqI, frame, await, updating, now as at-once, show, done}
+use types.Kit.{Given, Goal, Soaks, Seq, Item, ‵, raw, mean, _⊛_, some, later, _$_, _∵_, !, qed, move, drop, use1, use2, use3, split, pick, fsplit, fjoin, feqI, frame, await, updating, now as at-once, show, done}
 use types.Share.{arr-parts}
 use types.Tokens.{lft-new, lent-back, shr-bor-shorten}
 use borrow.Within.Token.{Rest, within-token, within-end}
@@ -23,7 +23,7 @@ use denote.RattleType.{RattleType}
 use denote.Ref.{RefT}
 use denote.Shadow.{pureL, pureI}
 use denote.Memory.{shares}
-use denote.Slice.{sliceVal, MutSlice, ShrSlice, heres, Room, at-slice, codedHoleys, shr-slice-copy}
+use denote.Slice.{sliceVal, ShrSlice, heres, Room, at-slice, codedHoleys, shr-slice-copy}
 use denote.Lend.{Held, lends-shr-slice}
 use denote.Index.{opens-slice, closes-slice}
 use Rattle.facts.proofs.Lent.{Mine, at-list}

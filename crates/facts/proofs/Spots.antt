@@ -1,11 +1,11 @@
 -- Where a reference that a walk holds points, apart from the list that it leads to: the walk goes through many lists at one place.
 --     spot      that of a reference, at its lifetime, with the share of its token.      at-spot     the reference, at a list
---     value     the machine value of a slice there.      points     that of a reference to one value
+--     value     the machine value of a slice there
 -- Assumes nothing.
 use Prim.Native.Nat.{ℕ}
 use mathlib.Core.List.{List}
 use lib.ListN.{length}
-use mir.Val.{Val, vptr}
+use mir.Val.{Val}
 use base.Fml.{Lft, GName, Share}
 use denote.Ref.{RefT}
 use denote.Slice.{sliceVal}
@@ -26,6 +26,3 @@ at-spot s ys = record { ptr = (s .b, s .o); name = s .γ; now = ys }
 
 abbrev pub value : {X : Type 0} → Spot → List X → Val
 value s ys = sliceVal (s .b, s .o) (length ys)
-
-abbrev pub points : Spot → Val
-points s = vptr (s .b) (s .o)

@@ -17,7 +17,7 @@ use mir.Syntax.{Lifetime, Mutability, Width, Ty, tyInt, tyRef, w64, field, deref
 use mir.Val.{Val, Vals, vptr, vint, vstruct, vnil, vcons, hasTy, Fits}
 use base.Logic.{via, guardI}
 use mir.Fields.{setV}
-use base.Fml.{Share, fat, froom}
+use base.Fml.{fat, froom}
 use prog.Memory.{fieldOf}
 use prog.Wp.{Heap, Env, Calls, Loops, spotOf}
 use ghost.Atoms.{Atoms}
