@@ -1,5 +1,6 @@
 -- 01, "One listing whole": the listing, its marked variants, and what each must give; then a second table, with a row for each
--- slip that the marked cases do not show. Assumes nothing.
+-- slip of the checklist that the marked cases do not show. The pages Refused, Arms, Memory, Paths and Moved have a row for every other
+-- clause. Assumes nothing.
 use mathlib.Core.Path.{_≡_, refl}
 use mathlib.Core.List.{List, [], _∷_, _++_, map}
 use Prim.Native.Nat.{ℕ, zero, suc, _+_, _^_, _%_, _/_}

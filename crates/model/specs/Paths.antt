@@ -96,6 +96,13 @@ listings-cases = refl
 abbrev links : List (List Inst)
 links = (jump 4 ∷ []) ∷ (jump 5 ∷ []) ∷ (jump 6 ∷ []) ∷ []
 
+-- a block that reads nothing, and one with a Cat that nothing leads to
+abbrev ending : List Inst
+ending = ret [] ∷ []
+
+abbrev apart : List Inst
+apart = cat 0 0 0 ∷ jump 3 ∷ []
+
 abbrev pub chains : List Row
 chains =
     -- x and a second block; that one has a second predecessor
@@ -116,6 +123,9 @@ chains =
     -- three members without replay; two with it
     ∷ replayed [] (whole (three ++ cat 0 0 0 ∷ []) ∷ around)
     ∷ rests two
+    -- f is the target, and alone in replay; where both are targets, t is tried first
+    ∷ once 1 (keep (konst 8) ∷ three-to 9 ++ keep (branch 2 1) ∷ []) around (shown 9) (other ∷ [])
+    ∷ once 1 (steps (three-to 9)) (ending ∷ ending ∷ apart ∷ []) ending (ending ∷ apart ∷ [])
     -- a target is not in the chain: t is x itself
     ∷ replayed (0 ∷ []) ((konst 8 ∷ three ++ branch 0 2 ∷ []) ∷ around)
     -- the target has a second predecessor, which is itself: it reads r3, writes it, and goes to itself
