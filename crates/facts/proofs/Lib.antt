@@ -13,7 +13,6 @@ pub mod Passing
 pub mod Part
 pub mod PartAs
 pub mod Refs
-pub mod Spots
 pub mod Statements
 pub mod Turns
 pub mod Walks
