@@ -37,14 +37,14 @@ def edited(path):
 
 
 def refused(folder):
-    """The place of the first error: the file, and the declaration that it names; or, of a function that has no proof file, the
-    function and the fact that is owed."""
+    """The place of the first error that does not only follow from another: the file, and the declaration that it names; or, of a
+    function that has no proof file, the function and the fact that is owed."""
     log = f"{folder}/.log"
     if not os.path.exists(log):
         return "not tried"
     for line in open(log, errors="replace"):
         found = re.match(r"\S*?((?:src|specs|proofs)/\S+?):\d+:\d+: error: `([^`]+)`", line)
-        if found:
+        if found and "was not admitted" not in line:
             return place(found.group(1), found.group(2))
         owed = re.match(r"note: \S*?/(src/\S+?):(\d+):\d+: it is not proved .*\(`([^`]+)`\)", line)
         if owed:
