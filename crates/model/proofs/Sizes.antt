@@ -1,7 +1,7 @@
 -- The bounds that no short list shows, as laws of any picture of that size: those of cause 1, the budget, and a chain's 800.
 -- Assumes nothing.
 use mathlib.Core.Path.{_≡_, refl}
-use mathlib.Core.Bool.{Bool, true, false, _&&_, _||_}
+use mathlib.Core.Bool.{Bool, true, false, _&&_, or-true, and-false}
 use mathlib.Core.List.{List, _∷_}
 use Prim.Native.Nat.{ℕ, _-_, _*_}
 use lib.Dec.{eqb, leb}
@@ -12,14 +12,6 @@ use Rattle.model.specs.Picture.{Picture, is-kind, form, nblocks, size}
 use Rattle.model.specs.Refusal.{too-large, causes, refusal, lowest, all-code}
 use Rattle.model.specs.Move.{Chain, chain-places, replays, worth-a-look}
 use Rattle.model.specs.Pass.{gated}
-
-or-true : (a : Bool) → a || true ≡ true
-or-true true = refl
-or-true false = refl
-
-and-false : (a : Bool) → a && false ≡ false
-and-false true = refl
-and-false false = refl
 
 -- ---- cause 1: one more of anything is too large, whatever else is so; and what is too large is refused with 1
 

@@ -81,7 +81,7 @@ sent-at p (send i j ∷ ss) = p ∷ sent-at (suc p) ss
 
 -- ---- rows
 
--- nine registers in use and n new ones, all I64, 16 lent; two operands, both r1
+-- nine registers in use and n new ones, all I64, 12 lent; two operands, both r1, and room for one more
 abbrev pub wide : ℕ → Room
 wide n = record { types = replicate 9 0 ++ replicate n 0; registers = 12; ops = 1 ∷ 1 ∷ []; operands = 3 }
 

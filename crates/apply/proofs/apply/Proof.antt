@@ -47,20 +47,37 @@ wide-requires-3 : tie.Need-wide-requires-3
 wide-requires-3 c κs = search needs
 
 add-types-requires : tie.Need-add-types-requires
-add-types-requires c κs = types-fit (c .before .before .before .before .before .before .before .before .before .before .before .before .before .before .before .pre .0 .1) (c .before .before .before .before .before .before .before .before .before .before .before .before .before .before .before .pre .1 .0)
+add-types-requires c κs =
+    let at-pre = c .before .before .before .before .before .before .before .before .before .before .before .before .before .before .before in
+    types-fit (at-pre .pre .0 .1) (at-pre .pre .1 .0)
 
 rename-all-requires : tie.Need-rename-all-requires
-rename-all-requires c κs = let g = c .before .before .before .before .before .before .before .before .before .before .before .before .before .before .before .before .before .before .before .before .before .args in let k = c .before .before .before .before .before .before .before .before .before .before .before .before .before .before .before .before .before .before .before .before .before .pre .0 .1 in let el = c .before .before .before .before .before .before .before .before .before .before .before .wide .ensures in let ea = c .before .before .before .before .before .before .before .before .before .wide2 .ensures in let ee = c .before .before .before .before .before .before .before .wide3 .ensures in
+rename-all-requires c κs =
+    let at-wide3 = c .before .before .before .before .before .before .before in
+    let at-wide2 = at-wide3 .before .before in
+    let at-wide = at-wide2 .before .before in
+    let at-args = at-wide .before .before .before .before .before .before .before .before .before .before in
+    let g = at-args .args in let k = at-args .pre .0 .1 in let el = at-wide .wide .ensures in let ea = at-wide2 .wide2 .ensures in let ee = at-wide3 .wide3 .ensures in
     ((c .before .before .before .before .before .before .before .before .before .before .before .before .before .before .before .before .before .before .before .before .before .pre .0 .0, ask-at k el ea ee), room-at (g .x) (g .into) (g .m) (g .n) (g .u) (g .bounds .now) (g .recs .now) (g .ops .now) (g .w .now) el ea ee (c .before .before .before .before .before .before .before .before .before .before .before .before .before .before .before .before .before .before .before .before .before .pre .1 .0 .opers))
 
 move-all-requires : tie.Need-move-all-requires
-move-all-requires c κs = move-at (c .before .before .before .before .before .before .before .before .before .before .before .before .before .before .before .before .before .before .before .before .before .before .before .before .before .before .before .before .before .before .before .pre .0 .1) _ _ _ refl (c .before .before .before .before .before .before .before .before .before .before .before .before .before .before .before .before .before .before .before .before .before .before .before .before .before .before .before .before .before .before .before .pre .1 .1) (c .before .before .before .before .before .before .before .before .before .rename-all .ensures .size) (c .before .before .before .before .before .before .before .before .before .before .before .before .before .before .before .before .before .before .before .before .before .wide .ensures) (c .before .before .before .before .before .before .before .before .before .before .before .before .before .before .before .before .before .before .before .wide2 .ensures)
+move-all-requires c κs =
+    let at-rename-all = c .before .before .before .before .before .before .before .before .before in
+    let at-wide2 = at-rename-all .before .before .before .before .before .before .before .before .before .before in
+    let at-wide = at-wide2 .before .before in
+    let at-pre = at-wide .before .before .before .before .before .before .before .before .before .before in
+    move-at (at-pre .pre .0 .1) _ _ _ refl (at-pre .pre .1 .1) (at-rename-all .rename-all .ensures .size) (at-wide .wide .ensures) (at-wide2 .wide2 .ensures)
 
 count-requires : tie.Need-count-requires
-count-requires c κs = let k = c .before .before .before .before .before .before .before .before .before .before .before .before .before .before .before .before .before .before .before .before .before .before .before .before .before .before .before .before .before .before .before .before .before .before .before .before .before .before .before .pre .0 .1 in (omega (arith, k .words, k .chain), k .few)
+count-requires c κs =
+    let at-pre = c .before .before .before .before .before .before .before .before .before .before .before .before .before .before .before .before .before .before .before .before .before .before .before .before .before .before .before .before .before .before .before .before .before .before .before .before .before .before .before in
+    let k = at-pre .pre .0 .1 in (omega (arith, k .words, k .chain), k .few)
 
 move-bounds-requires : tie.Need-move-bounds-requires
-move-bounds-requires c κs = bounds-at (c .before .before .before .before .before .before .before .before .before .before .before .before .before .before .before .before .before .before .before .before .before .before .before .before .before .before .before .before .before .before .before .before .before .before .before .before .before .before .before .before .pre .0 .1) (c .count .ensures)
+move-bounds-requires c κs =
+    let at-count = c in
+    let at-pre = at-count .before .before .before .before .before .before .before .before .before .before .before .before .before .before .before .before .before .before .before .before .before .before .before .before .before .before .before .before .before .before .before .before .before .before .before .before .before .before .before .before in
+    bounds-at (at-pre .pre .0 .1) (at-count .count .ensures)
 
 same-length : tie.Need-same-length
 same-length c = search needs
@@ -84,7 +101,17 @@ same-length-7 : tie.Need-same-length-7
 same-length-7 c = search needs
 
 returns : tie.Need-returns
-returns c = apply-law (c .before .before .before .before .before .before .before .before .before .before .before .before .before .before .before .before .before .before .before .before .before .before .before .before .before .before .before .before .before .before .before .before .before .before .before .before .before .before .before .before .before .before .before .pre .0 .1) (c .before .before .before .before .before .before .before .before .before .before .before .before .before .before .before .before .before .before .before .before .before .before .before .before .before .before .before .before .before .before .before .before .before .wide .ensures) (c .before .before .before .before .before .before .before .before .before .before .before .before .before .before .before .before .before .before .before .before .before .before .before .before .before .before .before .before .before .before .before .wide2 .ensures) (c .before .before .before .before .before .before .before .before .before .before .before .before .before .before .before .before .before .before .before .before .before .before .before .before .before .before .before .before .before .wide3 .ensures) (c .before .before .before .count .ensures) (c .before .before .before .before .before .before .before .before .before .before .before .before .before .before .before .before .before .before .before .before .before .before .before .before .before .before .before .add-types .ensures .0) (c .before .before .before .before .before .before .before .before .before .before .before .before .before .before .before .before .before .before .before .before .before .rename-all .ensures) (c .before .before .before .before .before .before .before .before .before .before .before .move-all .ensures) (c .before .before .before .before .before .before .before .before .before .before .before .before .before .before .before .before .before .before .before .before .before .before .before .before .before .before .before .before .before .before .before .before .before .before .before .before .before .before .before .before .before .before .before .pre .1 .1 .each-or-none) (c .before .before .move-bounds .ensures)
+returns c =
+    let at-move-bounds = c .before .before in
+    let at-count = at-move-bounds .before in
+    let at-move-all = at-count .before .before .before .before .before .before .before .before in
+    let at-rename-all = at-move-all .before .before .before .before .before .before .before .before .before .before in
+    let at-add-types = at-rename-all .before .before .before .before .before .before in
+    let at-wide3 = at-add-types .before .before in
+    let at-wide2 = at-wide3 .before .before in
+    let at-wide = at-wide2 .before .before in
+    let at-pre = at-wide .before .before .before .before .before .before .before .before .before .before in
+    apply-law (at-pre .pre .0 .1) (at-wide .wide .ensures) (at-wide2 .wide2 .ensures) (at-wide3 .wide3 .ensures) (at-count .count .ensures) (at-add-types .add-types .ensures .0) (at-rename-all .rename-all .ensures) (at-move-all .move-all .ensures) (at-pre .pre .1 .1 .each-or-none) (at-move-bounds .move-bounds .ensures)
 
 pub apply-spec : {M : Type 1} → statement M
 apply-spec =
