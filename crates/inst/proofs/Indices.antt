@@ -1,11 +1,16 @@
 -- What an answer of `new` tells of the number. Assumes nothing.
 use mathlib.Core.Bool.{Bool, true, false}
-use mathlib.Core.Path.{_≡_, refl, ap}
+use mathlib.Core.Path.{_≡_, refl, ap, sym}
 use Prim.Native.Nat.{ℕ, _≤_, _<_}
 use native.Mathlib.Omega.{arith}
 use lib.Dec.{ltb}
 use borrow.Author.Tests.{ltb-true, ltb-false}
-use Rattle.inst.specs.Index.{block-of, pick-block}
+use mathlib.Core.Logic.{_⊎_, inl, inr}
+use Rattle.model.specs.Picture.{absent}
+use Rattle.inst.specs.Index.{block-of, pick-block, reg-of, pick-reg, word-of, Among}
+use Rattle.inst.specs.declared.index.Reg.{Reg}
+use Rattle.inst.specs.declared.index.MaybeReg.{MaybeReg}
+use Rattle.inst.specs.declared.index.MaybeReg.the-variants as R
 use Rattle.inst.specs.declared.index.BlockId.{BlockId}
 use Rattle.inst.specs.declared.index.MaybeBlock.{MaybeBlock}
 use Rattle.inst.specs.declared.index.MaybeBlock.the-variants as B
@@ -30,3 +35,23 @@ module _ (n count : ℕ) where
       go : (b : Bool) → ltb n count ≡ b → pick-block b (B.Is (record { 0 = n })) B.Not ≡ B.Not → count ≤ n
       go true e q = let z : _≡_ {A = ℕ} 0 1 = cc in absurd (omega arith)
       go false e q = ltb-false n count e
+
+  -- ---- a register's number
+
+  pub among-of : count ≤ absent → Among count (reg-of n count)
+  unfolding reg-of
+  among-of h = go (ltb n count) refl
+    where
+      go : (b : Bool) → ltb n count ≡ b → Among count (pick-reg b (R.Is (record { 0 = n })) R.Not)
+      go true e = let l = ltb-true n count e in (l, omega arith)
+      go false e = tt
+
+  -- a word that is absent, or a register's, comes back as it was
+  pub word-of-reg : (n ≡ absent) ⊎ (n < count) → word-of (reg-of n count) ≡ n
+  unfolding reg-of
+  word-of-reg h = go (ltb n count) refl h
+    where
+      go : (b : Bool) → ltb n count ≡ b → (n ≡ absent) ⊎ (n < count) → word-of (pick-reg b (R.Is (record { 0 = n })) R.Not) ≡ n
+      go true e h = refl
+      go false e (inl a) = sym a
+      go false e (inr l) = let g = ltb-false n count e in absurd (omega arith)

@@ -1,5 +1,7 @@
 // Which registers a record reads and writes (01, "The call": `visit_mut` fixes the roles): what its slots do is looked up
 // in the table once, and then each slot by its place; the operand list is a part of the operands.
+use crate::index::MaybeReg;
+use crate::index::Reg;
 use crate::record::form;
 use crate::record::kind;
 use crate::record::list_len;
@@ -18,6 +20,7 @@ ghost use Rattle.model.specs.Picture.{inst, kind, absent, list-of, reads, write
 ghost use Rattle.inst.specs.Table.{rows, packed};
 ghost use Rattle.inst.specs.Record.{Known, Used, Listed, uses-of, asks-of, read-at, write-at, later, present, rest-reads, rest-writes};
 ghost use Rattle.inst.specs.Firsts.{Heads};
+ghost use Rattle.inst.specs.Index.{reg-of};
 
 // The row of record p's kind.
 pub fn row_at(t: &[u32; 202], recs: &[u32], p: usize) -> u32
@@ -43,9 +46,9 @@ pub fn wanted(t: &[u32; 202], recs: &[u32], p: usize) -> u32
     asks(row_at(t, recs, p), form(recs, p))
 }
 
-// The register that slot s reads, or absent. (Of a slot's two bits the lower says that it is read, the upper that it is
+// The word of slot s where it reads, or absent. (Of a slot's two bits the lower says that it is read, the upper that it is
 // written.)
-pub fn read_at(recs: &[u32], p: usize, uses: u32, s: usize) -> u32
+fn read_word(recs: &[u32], p: usize, uses: u32, s: usize) -> u32
     requires { ⌜ Used (now recs) p uses × (s < 5) ⌝ }
     ensures { λ r. ⌜ r ≡ read-at (inst (now (recs .entry)) p) s ⌝ }
 {
@@ -55,8 +58,8 @@ pub fn read_at(recs: &[u32], p: usize, uses: u32, s: usize) -> u32
     ABSENT
 }
 
-// The register that slot s writes, or absent.
-pub fn write_at(recs: &[u32], p: usize, uses: u32, s: usize) -> u32
+// The word of slot s where it writes, or absent.
+fn write_word(recs: &[u32], p: usize, uses: u32, s: usize) -> u32
     requires { ⌜ Used (now recs) p uses × (s < 5) ⌝ }
     ensures { λ r. ⌜ r ≡ write-at (inst (now (recs .entry)) p) s ⌝ }
 {
@@ -64,6 +67,22 @@ pub fn write_at(recs: &[u32], p: usize, uses: u32, s: usize) -> u32
         return slot(recs, p, s);
     }
     ABSENT
+}
+
+// The register, of `count`, that slot s reads, if there is one: absent is not below any count.
+pub fn read_at(recs: &[u32], p: usize, uses: u32, s: usize, count: usize) -> MaybeReg
+    requires { ⌜ Used (now recs) p uses × (s < 5) ⌝ }
+    ensures { λ r. ⌜ r ≡ reg-of (read-at (inst (now (recs .entry)) p) s) count ⌝ }
+{
+    Reg::new(read_word(recs, p, uses, s), count)
+}
+
+// The register, of `count`, that slot s writes, if there is one.
+pub fn write_at(recs: &[u32], p: usize, uses: u32, s: usize, count: usize) -> MaybeReg
+    requires { ⌜ Used (now recs) p uses × (s < 5) ⌝ }
+    ensures { λ r. ⌜ r ≡ reg-of (write-at (inst (now (recs .entry)) p) s) count ⌝ }
+{
+    Reg::new(write_word(recs, p, uses, s), count)
 }
 
 // Does a slot after the first write? Few kinds have one.
@@ -93,8 +112,8 @@ fn nth_of(xs: &[u32], k: usize) -> u32
     ABSENT
 }
 
-// The first three registers that a record reads, slots first and then its list, and the first two that it writes; absent
-// where there is none.
+// The first three registers that a record reads, slots first and then its list, and the first two that it writes, as the words
+// that stand there; absent where there is none. Whoever goes by one makes it a `Reg` first.
 pub struct Firsts {
     pub r0: u32,
     pub r1: u32,
@@ -157,8 +176,8 @@ fn slot_first(x: Firsts, recs: &[u32], p: usize, uses: u32, s: usize) -> Firsts
     ensures { λ y. ⌜ ((l : List ℕ) → Heads (rest-reads (inst (now (recs .entry)) p) (s + 1) ++ l) (rest-writes (inst (now (recs .entry)) p) (s + 1)) x → Heads (rest-reads (inst (now (recs .entry)) p) s ++ l) (rest-writes (inst (now (recs .entry)) p) s) y) ⌝ }
 {
     written_first(
-        read_first(x, read_at(recs, p, uses, s)),
-        write_at(recs, p, uses, s),
+        read_first(x, read_word(recs, p, uses, s)),
+        write_word(recs, p, uses, s),
     )
 }
 

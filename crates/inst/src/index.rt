@@ -3,9 +3,9 @@
 ghost use mathlib.Core.Path.{_≡_};
 ghost use Rattle.inst.specs.Index.{reg-of, block-of};
 
-pub struct Reg(pub u32);
+pub struct Reg(u32);
 
-pub struct BlockId(pub u32);
+pub struct BlockId(u32);
 
 pub enum MaybeReg {
     Is(Reg),
@@ -19,10 +19,10 @@ pub enum MaybeBlock {
 
 impl Reg {
     // The register n of count, or none.
-    pub fn new(n: u32, count: u32) -> MaybeReg
+    pub fn new(n: u32, count: usize) -> MaybeReg
         ensures { λ r. ⌜ r ≡ reg-of n count ⌝ }
     {
-        if n < count {
+        if (n as usize) < count {
             return MaybeReg::Is(Reg(n));
         }
         MaybeReg::Not
@@ -33,6 +33,13 @@ impl Reg {
         ensures { λ r. ⌜ r ≡ self .0 ⌝ }
     {
         self.0 as usize
+    }
+
+    // Its number, as a record has it.
+    pub fn number(self) -> u32
+        ensures { λ r. ⌜ r ≡ self .0 ⌝ }
+    {
+        self.0
     }
 }
 
@@ -52,5 +59,12 @@ impl BlockId {
         ensures { λ r. ⌜ r ≡ self .0 ⌝ }
     {
         self.0 as usize
+    }
+
+    // Its number, as a record has it.
+    pub fn number(self) -> u32
+        ensures { λ r. ⌜ r ≡ self .0 ⌝ }
+    {
+        self.0
     }
 }

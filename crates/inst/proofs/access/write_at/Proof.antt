@@ -1,24 +1,16 @@
 -- `inst::access::write_at` meets its contract. Assumes nothing.
-use Rattle.inst.proofs.Slots.{write-yes, write-no}
 use borrow.Author.Needs.{needs}
 use Rattle.inst.proofs.access.write_at.Statement.{statement}
 use Rattle.inst.proofs.access.write_at.Tie as tie
 
-cast-two-bits : tie.Need-cast-two-bits
-cast-two-bits c = search needs
+write-word-requires : tie.Need-write-word-requires
+write-word-requires c κs = search needs
 
-two-bits-requires : tie.Need-two-bits-requires
-two-bits-requires c κs = search needs
-
-slot-requires : tie.Need-slot-requires
-slot-requires c κs = search needs
+new-requires : tie.Need-new-requires
+new-requires c κs = search needs
 
 returns : tie.Need-returns
-returns c = write-yes _ _ _ _ (c .before .before .before .before .pre .0) (c .before .before .before .before .pre .1) _ (c .before .before .two-bits .ensures) (c .before .if1 .taken) (c .slot .ensures)
-
-returns-2 : tie.Need-returns-2
-returns-2 c = write-no _ _ _ _ (c .before .before .before .pre .0) (c .before .before .before .pre .1) _ (c .before .two-bits .ensures) (c .if1 .left)
+returns c = cc
 
 pub write-at-spec : {M : Type 1} → statement M
-write-at-spec =
-    tie.close (tie.spec cast-two-bits two-bits-requires slot-requires returns returns-2)
+write-at-spec = tie.close (tie.spec write-word-requires new-requires returns)
