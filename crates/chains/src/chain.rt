@@ -97,13 +97,13 @@ impl Chain {
         ensures { λ r. ⌜ r ≡ mem (b .0) (blocks-of self) ⌝ }
     {
         let n = self.count;
-        let x = b.0;
-        let y0 = self.b0.0;
-        let y1 = self.b1.0;
-        let y2 = self.b2.0;
-        let y3 = self.b3.0;
-        let y4 = self.b4.0;
-        let y5 = self.b5.0;
+        let x = b.number();
+        let y0 = self.b0.number();
+        let y1 = self.b1.number();
+        let y2 = self.b2.number();
+        let y3 = self.b3.number();
+        let y4 = self.b4.number();
+        let y5 = self.b5.number();
         let h4 = ((4 < n) & (x == y4)) | ((5 < n) & (x == y5));
         let h2 = ((2 < n) & (x == y2)) | (((3 < n) & (x == y3)) | h4);
         (x == y0) | (((1 < n) & (x == y1)) | h2)
@@ -119,7 +119,7 @@ impl Chain {
         }
         let at = b.at();
         let x = self.last();
-        let last = x.0;
+        let last = x.number();
         (preds[2 * at] == 1) & (preds[2 * at + 1] == last)
     }
 

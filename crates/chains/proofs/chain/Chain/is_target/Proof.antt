@@ -1,5 +1,6 @@
 -- `chains::chain::Chain::is_target` meets its contract. Assumes nothing.
 use Rattle.chains.proofs.Search.{target-in, target-out}
+use mathlib.Core.Path.{_∙_}
 use borrow.Author.Needs.{needs}
 use Rattle.chains.proofs.chain.Chain.is_target.Statement.{statement}
 use Rattle.chains.proofs.chain.Chain.is_target.Tie as tie
@@ -15,6 +16,9 @@ at-requires c κs = search needs
 
 last-requires : tie.Need-last-requires
 last-requires c κs = search needs
+
+number-requires : tie.Need-number-requires
+number-requires c κs = search needs
 
 mul-result : tie.Need-mul-result
 mul-result c = search needs
@@ -38,7 +42,10 @@ shared-slice-read-result-2 : tie.Need-shared-slice-read-result-2
 shared-slice-read-result-2 c = search needs
 
 returns-2 : tie.Need-returns-2
-returns-2 c = λ P q. target-out (c .before .before .before .before .before .before .before .args .self) q (c .before .before .before .before .before .before .before .pre .1) (c .before .before .before .before .before .has .ensures) (c .before .before .before .before .if1 .left) (c .before .before .before .at .ensures) (c .before .before .last .ensures)
+returns-2 c =
+    let at-entry = c .before .before .before .before .before .before .before .before in
+    let last = c .before .before .number .ensures ∙ c .before .before .before .last .ensures in
+    λ P q. target-out (at-entry .args .self) q (at-entry .pre .1) (c .before .before .before .before .before .before .has .ensures) (c .before .before .before .before .before .if1 .left) (c .before .before .before .before .at .ensures) last
 
 pub is-target-spec : {M : Type 1} → statement M
 is-target-spec =
@@ -48,6 +55,7 @@ is-target-spec =
     returns
     at-requires
     last-requires
+    number-requires
     mul-result
     mul-result-2
     shared-slice-read-result
