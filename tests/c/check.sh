@@ -5,7 +5,7 @@
 #
 #   tests/c/check.sh [ARCHIVE]    else target/staticlib/libhost.a, which `rt staticlib host` writes
 #
-# What is left out, for want of a compiler, of python3 or of the archive, is said; where CI=true, that is a failure.
+# What is left out, for want of a compiler, of python3 or of the archive, is said; without the archive it fails where CI=true.
 set -u
 cd "$(dirname "$0")/../.."
 archive=${1:-target/staticlib/libhost.a}
@@ -14,10 +14,7 @@ trap 'rm -r "$made"' EXIT
 checks=0 failed=0
 passes() { checks=$((checks + ${1:-1})); }
 fails() { echo "c: failed: $1" >&2; failed=1; }
-lacks() {
-    echo "c: left out: $1" >&2
-    [ "${CI:-}" != true ] || failed=1
-}
+lacks() { echo "c: left out: $1" >&2; }
 there() { command -v "$1" >/dev/null 2>&1; }
 strict="-Wall -Wextra -pedantic -Werror"
 
@@ -80,6 +77,7 @@ calls() {
 }
 if [ ! -f "$archive" ]; then
     lacks "all that calls, since $archive is not there"
+    [ "${CI:-}" != true ] || failed=1
 elif [ -n "$cc" ]; then
     calls
 fi

@@ -1,7 +1,7 @@
 #!/bin/sh
 # Holds the definitions and the port against the Rust of the pass: the table of roles, the oracle against itself, the rows of
-# crate `crossed`, made anew, the layers of the port and the pass over slices, through crate `probe`, the host's entry, from C
-# too, and what `sinkrounds` prints. See README.md.
+# crate `crossed`, made anew, the layers of the port and the pass over slices, through crate `probe`, the host's entry, and what
+# `sinkrounds` prints. See README.md; tests/c calls the entry from C.
 #
 #   compare.sh              needs the Rust; without it, or without cargo or rt, it says so and ends with 2
 #   compare.sh --if-there   for .ci/run: without the Rust the comparison is left out, except that it fails where CI=true
@@ -70,18 +70,6 @@ $compare flow $((${PICTURES:-4000} / 4)) "${SEED:-1}"
 $compare facts $((${PICTURES:-4000} / 8)) "${SEED:-1}"
 $compare sink "${SUNK:-10000}" "${SEED:-1}"
 $compare large "${LARGE:-40}" "${SEED:-1}"
-
-# The same entry from C.
-if command -v cc >/dev/null 2>&1; then
-    cc -std=c99 -Wall -Wextra -Werror -O2 -I ../../include ../c/example.c ../../target/staticlib/libhost.a -o "$made/example"
-    $compare bytes | "$made/example" >"$made/after" 2>"$made/answer"
-    echo "done 1" | cmp - "$made/answer"
-    $compare bytes | $compare sunk | cmp - "$made/after"
-    rm "$made/example" "$made/after" "$made/answer"
-    echo "example.c: the listing is sunk as by the Rust"
-else
-    echo "example.c: left out, there is no cc"
-fi
 
 # The stored pictures are what the command writes, and what `sinkrounds` prints for them is what the Rust gives.
 listed() {
