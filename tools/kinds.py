@@ -267,13 +267,15 @@ def header(kinds, words):
 
 
 def reference(kinds, words):
-    """The two tables of the reference."""
-    out = ['| kind | | forms | registers, words 2 on | list | what it is |', '|---:|---|---|---|---|---|']
+    """The three tables of the reference."""
+    out = ['| kind | | forms | registers, words 2 on | list | what it is |', '|---:|---|---:|---|---|---|']
     for k in kinds:
         names, what = words[k.name]
-        forms = ', '.join(f'{n} {name}' for n, name in k.forms.items())
+        forms = f'{k.least} to {k.most}' if k.forms else '0'
         regs = ', '.join(DOES[s].format(n) for s, n in zip(k.slots, names))
         out.append(f'| {k.number} | {k.name} | {forms} | {regs} | {"yes" if k.listed else ""} | {what} |')
+    out += ['', '| kind | form | | what it is |', '|---|---:|---|---|']
+    out += [f'| {k.name} | {n} | {name} | {MEANT.get(f"{k.name}.{name}", "")} |' for k in kinds for n, name in k.forms.items()]
     out += ['', '| kinds | to the pass |', '|---|---|']
     for arm, what in ARMS.items():
         if arm != 'other':
