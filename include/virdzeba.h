@@ -3,8 +3,8 @@
  *
  * Link target/lib/libvirdzeba.a, which `make lib` writes (x86-64 Linux; README.md has the line).
  *
- * A picture is one function as a list of 32-bit words, little-endian, as x86-64 has them in memory: an array of uint32_t can be lent
- * as it is. Its parts lie end to end in this order:
+ * A picture is one function as a list of 32-bit words, little-endian, as x86-64 has them in memory: an array of uint32_t can be
+ * lent as it is. Its parts lie end to end in this order:
  *
  *   8 words             the counts (enum virdzeba_count)
  *   2 a block           bounds: the number of the block's first instruction, and that behind its last. Block 0 starts at 0, each
@@ -123,7 +123,7 @@ enum virdzeba_kind {
     VIRDZEBA_L_FILL = 37,            /* r base, r index, r count, r value: elements of a logic array, set alike */
     VIRDZEBA_L_COPY = 38,            /* r at, r offset, r from, r start, r count: elements copied between logic arrays */
     VIRDZEBA_CAT = 39,               /* r at, r count, r unit, list: the pieces of the list, one behind the other, at an address */
-    VIRDZEBA_CHECK = 40,             /* r value, r low (not at form 1), r high (from form 2 on): a test that stops the run where it fails */
+    VIRDZEBA_CHECK = 40,             /* r value, r low (not at form 1), r high (from form 2): a test that stops the run where it fails */
     VIRDZEBA_F_CHECK = 41,           /* r value, r low, r high: the same of floats */
     VIRDZEBA_BIN_RANGE = 42,         /* w to, r a, r b, r low, r high: arithmetic on whole numbers within a range, checked */
     VIRDZEBA_MAKE_DOPE = 43,         /* r at, list: a descriptor written to memory, from the list */
@@ -274,13 +274,14 @@ static inline size_t virdzeba_length(const uint8_t *picture)
  * answers write nothing.
  *
  * Any bytes and numbers may be given. Asked is this:
- * - `picture` leads to picture_len bytes that can be read, `result` to result_len bytes that can be written. With length 0 a pointer
- *   may be anything, NULL too: a picture or result of no bytes is answered by VIRDZEBA_UNREAD.
- * - The two do not overlap, and nobody writes the picture, or touches the result, during the call. The call does not write the picture.
+ * - `picture` leads to picture_len bytes that can be read, `result` to result_len bytes that can be written. With length 0 a
+ *   pointer may be anything, NULL too: a picture or result of no bytes is answered by VIRDZEBA_UNREAD.
+ * - The two do not overlap. During the call nobody writes the picture, and nobody reads or writes the result.
  * - The thread has VIRDZEBA_STACK bytes of stack to spare; some threads have less by default.
  *
- * No alignment is asked. The call keeps no state, allocates nothing and always returns: threads may call it at once, each with a result
- * of its own. The same picture and numbers give the same answer and bytes. */
+ * No alignment is asked. The call does not write the picture, keeps no state, allocates nothing and always returns: threads may
+ * call it at once, each with a result of its own. The same picture and numbers give the same answer and bytes. Of C's library it
+ * takes memcpy and memset, and nothing else. */
 uint32_t virdzeba_sink(const uint8_t *picture, size_t picture_len,
                        uint8_t *result, size_t result_len,
                        uint32_t registers, uint32_t operands);

@@ -204,7 +204,7 @@ ARMS = {
 
 DOES = {
     'Def': 'w {}', 'Use': 'r {}', 'Def?': 'w {}?', 'Use?': 'r {}?',
-    'Use-but-1': 'r {} (not at form 1)', 'Use-from-2': 'r {} (from form 2 on)', 'Def-if-1': 'w {} (r at form 0)',
+    'Use-but-1': 'r {} (not at form 1)', 'Use-from-2': 'r {} (from form 2)', 'Def-if-1': 'w {} (r at form 0)',
 }
 
 

@@ -20,18 +20,21 @@ strict="-Wall -Wextra -pedantic -Werror"
 
 # The header by itself, twice in one file.
 printf '#include "virdzeba.h"\n#include "virdzeba.h"\n' >"$made/header.c"
+compiles() {
+    if $1 $strict -I include -fsyntax-only "$made/header.c"; then passes; else fails "the header by $1"; fi
+}
 cc= cxx=
 for compiler in gcc clang cc; do
     there $compiler || continue
     cc=$compiler
     for std in c99 c11; do
-        if $compiler -std=$std $strict -I include -fsyntax-only "$made/header.c"; then passes; else fails "$compiler -std=$std"; fi
+        compiles "$compiler -std=$std"
     done
 done
 for compiler in g++ clang++ c++; do
     there $compiler || continue
     cxx=$compiler
-    if $compiler -std=c++17 $strict -I include -x c++ -fsyntax-only "$made/header.c"; then passes; else fails "$compiler -std=c++17"; fi
+    compiles "$compiler -std=c++17 -x c++"
 done
 [ -n "$cc" ] || lacks "the header as C, and all that calls, since there is no C compiler"
 [ -n "$cxx" ] || lacks "the header as C++, since there is no C++ compiler"
@@ -47,7 +50,9 @@ fi
 build() {
     name=$1
     shift
-    "$cc" -std=c99 $strict -O2 -I include "$@" "tests/c/$name.c" "$archive" -o "$made/$name" || { fails "$name.c does not build"; return 1; }
+    "$cc" -std=c99 $strict -O2 -I include "$@" "tests/c/$name.c" "$archive" -o "$made/$name" && return
+    fails "$name.c does not build"
+    return 1
 }
 
 # What example.c ends with and says, when it is run so.
@@ -56,7 +61,11 @@ ends() {
     shift 2
     "$made/example" "$@" 2>"$made/say"
     status=$?
-    if [ $status -eq "$want" ] && [ "$(head -n 1 "$made/say")" = "$said" ]; then passes; else fails "example.c $* ended with $status: $(cat "$made/say")"; fi
+    if [ $status -eq "$want" ] && [ "$(head -n 1 "$made/say")" = "$said" ]; then
+        passes
+    else
+        fails "example.c $* ended with $status: $(cat "$made/say")"
+    fi
 }
 
 calls() {

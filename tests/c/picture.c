@@ -8,6 +8,8 @@
 #include <string.h>
 #include "virdzeba.h"
 
+#define MOST VIRDZEBA_REGISTERS, VIRDZEBA_OPERANDS /* lent, where nothing else is said */
+
 /* ---- building */
 
 struct built {
@@ -126,7 +128,8 @@ static void expect(int holds, const char *what)
 }
 
 /* The answer to these bytes, and whether the result then holds these words and nothing else was written; NULL for none at all. */
-static int gives(const void *picture, size_t len, size_t room, uint32_t registers, uint32_t operands, uint32_t answer, const struct built *left)
+static int gives(const void *picture, size_t len, size_t room, uint32_t registers, uint32_t operands, uint32_t answer,
+                 const struct built *left)
 {
     size_t k, n = left ? left->len : 0;
     memset(result, 0xa5, sizeof result);
@@ -192,13 +195,13 @@ static void unread(void)
 {
     const uint8_t *p = (const uint8_t *)before.words;
     uint32_t answer;
-    expect(gives(p, before.len - 1, VIRDZEBA_RESULT, VIRDZEBA_REGISTERS, VIRDZEBA_OPERANDS, VIRDZEBA_UNREAD, NULL), "a byte too few");
-    expect(gives(p, before.len + 1, VIRDZEBA_RESULT, VIRDZEBA_REGISTERS, VIRDZEBA_OPERANDS, VIRDZEBA_UNREAD, NULL), "a byte too many");
-    expect(gives(p, before.len, VIRDZEBA_RESULT - 1, VIRDZEBA_REGISTERS, VIRDZEBA_OPERANDS, VIRDZEBA_UNREAD, NULL), "a result too small");
+    expect(gives(p, before.len - 1, VIRDZEBA_RESULT, MOST, VIRDZEBA_UNREAD, NULL), "a byte too few");
+    expect(gives(p, before.len + 1, VIRDZEBA_RESULT, MOST, VIRDZEBA_UNREAD, NULL), "a byte too many");
+    expect(gives(p, before.len, VIRDZEBA_RESULT - 1, MOST, VIRDZEBA_UNREAD, NULL), "a result too small");
     expect(gives(p, before.len, VIRDZEBA_RESULT, VIRDZEBA_REGISTERS + 1, VIRDZEBA_OPERANDS, VIRDZEBA_UNREAD, NULL), "a register too many");
     expect(gives(p, before.len, VIRDZEBA_RESULT, VIRDZEBA_REGISTERS, VIRDZEBA_OPERANDS + 1, VIRDZEBA_UNREAD, NULL), "an operand too many");
-    expect(gives(NULL, 0, VIRDZEBA_RESULT, VIRDZEBA_REGISTERS, VIRDZEBA_OPERANDS, VIRDZEBA_UNREAD, NULL), "no picture at NULL");
-    answer = virdzeba_sink(p, before.len, NULL, 0, VIRDZEBA_REGISTERS, VIRDZEBA_OPERANDS);
+    expect(gives(NULL, 0, VIRDZEBA_RESULT, MOST, VIRDZEBA_UNREAD, NULL), "no picture at NULL");
+    answer = virdzeba_sink(p, before.len, NULL, 0, MOST);
     expect(answer == VIRDZEBA_UNREAD, "no result at NULL");
     answer = virdzeba_sink(NULL, 0, NULL, 0, 0, 0);
     expect(answer == VIRDZEBA_UNREAD, "neither");
@@ -211,15 +214,18 @@ static void sizes(void)
         VIRDZEBA_PAIR_WORDS, VIRDZEBA_TARGET_WORDS, VIRDZEBA_REPLAY_WORDS, VIRDZEBA_VIA_WORDS};
     static uint32_t words[VIRDZEBA_RESULT / 4 + 17];
     const uint8_t *p = (const uint8_t *)words;
+    uint32_t answer;
     int k;
     memcpy(words, most, sizeof most);
     expect(virdzeba_length(p) == VIRDZEBA_RESULT, "the sizes make the largest picture");
     for (k = 0; k < VIRDZEBA_COUNTS; k++) {
         memset(words, 0, sizeof words);
         words[k] = most[k];
-        expect(virdzeba_sink(p, virdzeba_length(p), result, VIRDZEBA_RESULT, VIRDZEBA_REGISTERS, VIRDZEBA_OPERANDS) != VIRDZEBA_UNREAD, "a size at its last number is read");
+        answer = virdzeba_sink(p, virdzeba_length(p), result, VIRDZEBA_RESULT, MOST);
+        expect(answer != VIRDZEBA_UNREAD, "a size at its last number is read");
         words[k]++;
-        expect(virdzeba_sink(p, virdzeba_length(p), result, VIRDZEBA_RESULT, VIRDZEBA_REGISTERS, VIRDZEBA_OPERANDS) == VIRDZEBA_UNREAD, "one past it is not");
+        answer = virdzeba_sink(p, virdzeba_length(p), result, VIRDZEBA_RESULT, MOST);
+        expect(answer == VIRDZEBA_UNREAD, "one past it is not");
     }
 }
 
@@ -228,18 +234,19 @@ static void odd(void)
 {
     static uint8_t from[VIRDZEBA_RESULT + 1], into[VIRDZEBA_RESULT + 1];
     memcpy(from + 1, before.words, before.len);
-    expect(virdzeba_sink(from + 1, before.len, into + 1, VIRDZEBA_RESULT, VIRDZEBA_REGISTERS, VIRDZEBA_OPERANDS) == VIRDZEBA_DONE + 1
+    expect(virdzeba_sink(from + 1, before.len, into + 1, VIRDZEBA_RESULT, MOST) == VIRDZEBA_DONE + 1
         && memcmp(into + 1, after.words, after.len) == 0, "bytes at odd places");
 }
 
 /* Many calls in a thread with as much stack as the header says. */
 static void *calls(void *into)
 {
+    const uint8_t *p = (const uint8_t *)before.words;
     uint8_t *bytes = (uint8_t *)into;
     int k, good = 1;
     for (k = 0; k < 2000; k++) {
         bytes[0] = 0;
-        good &= virdzeba_sink((const uint8_t *)before.words, before.len, bytes, VIRDZEBA_RESULT, VIRDZEBA_REGISTERS, VIRDZEBA_OPERANDS) == VIRDZEBA_DONE + 1;
+        good &= virdzeba_sink(p, before.len, bytes, VIRDZEBA_RESULT, MOST) == VIRDZEBA_DONE + 1;
         good &= memcmp(bytes, after.words, after.len) == 0;
     }
     return good ? into : NULL;
@@ -252,7 +259,8 @@ static void threads(void)
     pthread_attr_t with;
     void *good;
     int k;
-    expect(pthread_attr_init(&with) == 0 && pthread_attr_setstacksize(&with, VIRDZEBA_STACK) == 0, "a thread of so much stack can be had");
+    k = pthread_attr_init(&with) || pthread_attr_setstacksize(&with, VIRDZEBA_STACK);
+    expect(k == 0, "a thread of so much stack can be had");
     for (k = 0; k < 4; k++)
         expect(pthread_create(&thread[k], &with, calls, own[k]) == 0, "the thread starts");
     for (k = 0; k < 4; k++)
