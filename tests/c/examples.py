@@ -12,9 +12,13 @@ import subprocess
 import sys
 
 ROOT = os.path.join(os.path.dirname(os.path.abspath(__file__)), '../..')
-sys.dont_write_bytecode = True
-sys.path.insert(0, os.path.join(ROOT, 'tools'))
-import listing  # noqa: E402
+
+
+def listing(word, data):
+    """A listing as bytes (`pack`), or bytes as a listing (`show`); nothing, and what is wrong is said, where it is none."""
+    if b'as-is' not in open(os.path.join(ROOT, 'tools/listing.py'), 'rb').read():
+        data = data.replace(b'\nas-is\n', b'\n')
+    return subprocess.run([os.path.join(ROOT, 'tools/listing.py'), word, '-'], input=data, stdout=subprocess.PIPE).stdout
 
 
 def call(program, picture, registers=512):
@@ -31,13 +35,9 @@ def page(program):
         head = re.match(r'# (?:(done|short|refused) (\d+)(?:, (\d+) registers lent)?|(after))\n', block)
         if not head:
             continue
-        try:
-            picture = listing.pack(listing.parse(block.split('\n')))
-        except listing.Wrong as e:
-            yield f'{e}, in the example\n{block}'
-            continue
+        picture = listing('pack', block.encode())
         if head[4]:
-            yield None if picture == left else f'something else comes after:\n{listing.show(listing.unpack(left))}'
+            yield None if picture == left else f'something else comes after:\n{listing("show", left).decode()}'
             continue
         answer, left = call(program, picture, int(head[3] or 512))
         refused |= {int(head[2])} if head[1] == 'refused' else set()
