@@ -5,7 +5,8 @@
 #
 #   tests/c/check.sh [ARCHIVE]    else target/staticlib/libhost.a, which `rt staticlib host` writes
 #
-# What is left out, for want of a compiler, of python3 or of the archive, is said; without the archive it fails where CI=true.
+# What is left out, for want of a compiler, of python3 or of the archive, is said. Where CI=true it fails without the archive or a C
+# compiler.
 set -u
 cd "$(dirname "$0")/../.."
 archive=${1:-target/staticlib/libhost.a}
@@ -15,6 +16,10 @@ checks=0 failed=0
 passes() { checks=$((checks + ${1:-1})); }
 fails() { echo "c: failed: $1" >&2; failed=1; }
 lacks() { echo "c: left out: $1" >&2; }
+needs() {
+    lacks "$1"
+    [ "${CI:-}" != true ] || failed=1
+}
 there() { command -v "$1" >/dev/null 2>&1; }
 strict="-Wall -Wextra -pedantic -Werror"
 
@@ -36,7 +41,7 @@ for compiler in g++ clang++ c++; do
     cxx=$compiler
     compiles "$compiler -std=c++17 -x c++"
 done
-[ -n "$cc" ] || lacks "the header as C, and all that calls, since there is no C compiler"
+[ -n "$cc" ] || needs "the header as C, and all that calls, since there is no C compiler"
 [ -n "$cxx" ] || lacks "the header as C++, since there is no C++ compiler"
 
 # The kinds, as they are printed.
@@ -85,8 +90,7 @@ calls() {
     if n=$(tests/c/examples.py "$made/example"); then passes "$n"; else fails "an example of docs/REFERENCE.md, or a stored picture"; fi
 }
 if [ ! -f "$archive" ]; then
-    lacks "all that calls, since $archive is not there"
-    [ "${CI:-}" != true ] || failed=1
+    needs "all that calls, since $archive is not there"
 elif [ -n "$cc" ]; then
     calls
 fi
