@@ -6,8 +6,15 @@ use lib.ListN.{length}
 use Rattle.words.specs.Bits.{set-bit, unset-bit}
 use Rattle.words.specs.Lists.{In}
 use Rattle.words.specs.Steps.{steps}
-use Rattle.model.specs.Picture.{Inst, inst, reads, writes}
+use Rattle.model.specs.Picture.{Inst, inst, absent, reads, writes}
 use Rattle.inst.specs.Record.{Known, Listed}
+use Rattle.inst.specs.declared.index.MaybeReg.{MaybeReg}
+use Rattle.inst.specs.declared.index.MaybeReg.the-variants as R
+
+-- the register, if it is one
+abbrev pub one : MaybeReg → List ℕ
+one (R.Is r) = r .0 ∷ []
+one R.Not = []
 
 -- r is read: it goes into the row at u
 abbrev pub put : ℕ → List ℕ → ℕ → List ℕ
@@ -26,15 +33,18 @@ unfoldable pub run : List ℕ → ℕ → ℕ → List ℕ → List Inst → Lis
 run ops u d ws [] = ws
 run ops u d ws (i ∷ is) = before ops u d (run ops u d ws is) i
 
--- what acceptance (01, "The call", causes 4 and 6) gives of the records: known kinds, lists within the operands
-pub record Code (recs ops : List ℕ) : Type 0 where
+-- each of the list is one of R registers, and absent is none
+pub record Low (R : ℕ) (l : List ℕ) : Type 0 where
+  pub few : R ≤ absent
+  pub each : (q : ℕ) → In q l → q < R
+
+-- what acceptance (01, "The call", causes 4 to 6) gives of the records: known kinds, lists within the operands, and each
+-- register that is read or written is one of R
+pub record Code (recs ops : List ℕ) (R : ℕ) : Type 0 where
   pub known : (p : ℕ) → 16 * p + 16 ≤ length recs → Known recs p
   pub listed : (p : ℕ) → 16 * p + 16 ≤ length recs → Listed recs ops p
-
--- and of their registers (causes 5 and 6): each that is read or written is below R
-pub record Below (recs ops : List ℕ) (R : ℕ) : Type 0 where
-  pub read : (p q : ℕ) → 16 * p + 16 ≤ length recs → In q (reads ops (inst recs p)) → q < R
-  pub written : (p q : ℕ) → 16 * p + 16 ≤ length recs → In q (writes (inst recs p)) → q < R
+  pub read : (p : ℕ) → 16 * p + 16 ≤ length recs → Low R (reads ops (inst recs p))
+  pub written : (p : ℕ) → 16 * p + 16 ≤ length recs → Low R (writes (inst recs p))
 
 -- n blocks have their rows of live-in and of what they write, of w words each, in the slice
 pub record Room (n w : ℕ) (bits : List ℕ) : Type 0 where

@@ -1,8 +1,7 @@
 -- `defuse::sets::read_slots` meets its contract. Assumes nothing.
 use borrow.Author.Needs.{needs}
-use Rattle.inst.specs.Record.{present}
-use Rattle.inst.proofs.Firsts.{three-reads}
-use Rattle.defuse.specs.Sets.{put}
+use Rattle.defuse.specs.Sets.{one, put}
+use Rattle.defuse.proofs.Runs.{three-read}
 use Rattle.words.proofs.Steps.{three-steps}
 use Rattle.defuse.proofs.sets.read_slots.Statement.{statement}
 use Rattle.defuse.proofs.sets.read_slots.Tie as tie
@@ -38,7 +37,12 @@ same-length-2 : tie.Need-same-length-2
 same-length-2 c = search needs
 
 returns-2 : tie.Need-returns-2
-returns-2 c = let a = c .before .before .before .before .before .before .before .before .before .before .before .before .before .before .before .before .before .before .args in three-steps (put (a .u)) (present (c .before .before .before .before .before .before .before .before .before .before .before .before .before .read-at .result)) (present (c .before .before .before .before .before .before .before .before .read-at2 .result)) (present (c .before .before .before .read-at3 .result)) _ _ (three-reads _ _ _ (c .before .before .before .before .before .before .before .before .before .before .before .before .before .before .before .before .before .before .pre .1) (c .before .before .before .before .before .before .before .before .before .before .before .before .before .before .before .if1 .left) _ _ _ (c .before .before .before .before .before .before .before .before .before .before .before .before .before .read-at .ensures) (c .before .before .before .before .before .before .before .before .read-at2 .ensures) (c .before .before .before .read-at3 .ensures)) (c .before .before .before .before .before .before .before .before .before .before .before .before .read-one .ensures) (c .before .before .before .before .before .before .before .read-one2 .ensures) (c .before .before .read-one3 .ensures)
+returns-2 c =
+    let in-f = c .before .before .before .before .before .before .before .before .before .before .before .before .before .before .before .before .before .before in
+    let a = in-f .args in
+    three-steps (put (a .at .u)) (one (c .before .before .before .before .before .before .before .before .before .before .before .before .before .read-at .result)) (one (c .before .before .before .before .before .before .before .before .read-at2 .result)) (one (c .before .before .before .read-at3 .result)) _ _
+    (three-read (in-f .pre .1) (c .before .before .before .before .before .before .before .before .before .before .before .before .before .before .before .if1 .left) (in-f .pre .2) (c .before .before .before .before .before .before .before .before .before .before .before .before .before .read-at .ensures) (c .before .before .before .before .before .before .before .before .read-at2 .ensures) (c .before .before .before .read-at3 .ensures))
+    (c .before .before .before .before .before .before .before .before .before .before .before .before .read-one .ensures) (c .before .before .before .before .before .before .before .read-one2 .ensures) (c .before .before .read-one3 .ensures)
 
 pub read-slots-spec : {M : Type 1} → statement M
 read-slots-spec =

@@ -1,14 +1,20 @@
 -- `defuse::sets::write_one` meets its contract. Assumes nothing.
-use Rattle.defuse.proofs.Runs.{no-register, one-written}
+use Rattle.defuse.proofs.Runs.{none-held, one-written}
 use borrow.Author.Needs.{needs}
 use Rattle.defuse.proofs.sets.write_one.Statement.{statement}
 use Rattle.defuse.proofs.sets.write_one.Tie as tie
 
-returns : tie.Need-returns
-returns c = no-register _ _ _ (c .if1 .taken)
+enum-known-r : tie.Need-enum-known-r
+enum-known-r c = search needs
 
-wide-requires : tie.Need-wide-requires
-wide-requires c κs = search needs
+enum-told : tie.Need-enum-told
+enum-told c = search needs
+
+returns : tie.Need-returns
+returns c = none-held _ _ (c .enum-told .given .1)
+
+at-requires : tie.Need-at-requires
+at-requires c κs = search needs
 
 unset-in-requires : tie.Need-unset-in-requires
 unset-in-requires c κs = search needs
@@ -20,9 +26,17 @@ same-length : tie.Need-same-length
 same-length c = search needs
 
 returns-2 : tie.Need-returns-2
-returns-2 c = one-written _ _ _ _ _ (c .before .before .before .before .before .before .before .before .before .if1 .left) (c .before .before .before .before .before .before .before .before .wide .ensures) (c .before .before .before .before .before .before .unset-in .ensures) (c .before .before .set-in .ensures)
+returns-2 c = one-written _ _ _ _ (c .before .before .before .before .before .before .before .before .before .before .r .given .1) (c .before .before .before .before .before .before .before .before .at .ensures) (c .before .before .before .before .before .before .unset-in .ensures) (c .before .before .set-in .ensures)
 
 pub write-one-spec : {M : Type 1} → statement M
 write-one-spec =
     tie.close
-    (tie.spec returns wide-requires unset-in-requires set-in-requires same-length returns-2)
+    (tie.spec
+    enum-known-r
+    enum-told
+    returns
+    at-requires
+    unset-in-requires
+    set-in-requires
+    same-length
+    returns-2)
