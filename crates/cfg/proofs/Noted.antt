@@ -147,7 +147,3 @@ module _ (succ : ℕ → List ℕ) (ws : List ℕ) where
 
   pub noted-end : (c n : ℕ) {l : List ℕ} → c ≤ n → n ≤ c → l ≡ all-noted succ ws c → l ≡ all-noted succ ws n
   noted-end c n h g p = p ∙ ap (all-noted succ ws) (le-antisymm h g)
-
--- the words of a successor lie within
-pub pair-fits : {n : ℕ} (ws ss : List ℕ) → ((j : ℕ) → j < length ss → getD ss j 0 < n) → 2 * n ≤ length ws → (j : ℕ) → j < length ss → 2 * getD ss j 0 + 1 < length ws
-pair-fits ws ss h k j l = omega (arith, h j l)

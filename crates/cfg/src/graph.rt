@@ -1,6 +1,8 @@
 // Where a block goes and where it is come from (01, "The walk": "A block's successors are those of its last instruction"; in
 // the Rust `succs`, `find_preds`). The successors lie in the lent words: in the record of the branch, or in the case targets.
 use inst::access::row_at;
+use inst::index::BlockId;
+use inst::index::MaybeBlock;
 use inst::record::word;
 use inst::table::shape;
 use words::copy::fill;
@@ -66,13 +68,14 @@ pub fn succs<'a>(
     recs: &'a [u32],
     pairs: &[u32],
     targets: &'a [u32],
-    b: usize,
+    b: BlockId,
 ) -> &'a [u32]
-    requires { ⌜ (now t ≡ rows) × Graph (now bounds) (now recs) (now pairs) (now targets) × (b < length (now bounds) / 2) ⌝ }
-    ensures { λ r. ⌜ now r ≡ succs (drawn (now (bounds .entry)) (now (recs .entry)) [] (now (pairs .entry)) (now (targets .entry))) b ⌝ }
+    requires { ⌜ (now t ≡ rows) × Graph (now bounds) (now recs) (now pairs) (now targets) × (b .0 < length (now bounds) / 2) ⌝ }
+    ensures { λ r. ⌜ now r ≡ succs (drawn (now (bounds .entry)) (now (recs .entry)) [] (now (pairs .entry)) (now (targets .entry))) (b .0) ⌝ }
 {
-    let start = wide(bounds[2 * b]);
-    let end = wide(bounds[2 * b + 1]);
+    let k = b.at();
+    let start = wide(bounds[2 * k]);
+    let end = wide(bounds[2 * k + 1]);
     if end <= start {
         return &recs[..0];
     }
@@ -80,47 +83,51 @@ pub fn succs<'a>(
 }
 
 // How many predecessors a block has with c, where k and p are its two words.
-fn count_after(k: u32, p: u32, c: u32) -> u32
-    ensures { λ r. ⌜ r ≡ count-after k p c ⌝ }
+fn count_after(k: u32, p: u32, c: BlockId) -> u32
+    ensures { λ r. ⌜ r ≡ count-after k p (c .0) ⌝ }
 {
     if k == 0 {
         return 1;
     }
-    if (k == 1) & (p != c) {
+    if (k == 1) & (p != c.number()) {
         return 2;
     }
     k
 }
 
 // And which is the first.
-fn which_after(k: u32, p: u32, c: u32) -> u32
-    ensures { λ r. ⌜ r ≡ which-after k p c ⌝ }
+fn which_after(k: u32, p: u32, c: BlockId) -> u32
+    ensures { λ r. ⌜ r ≡ which-after k p (c .0) ⌝ }
 {
     if k == 0 {
-        return c;
+        return c.number();
     }
     p
 }
 
 // Block c goes to block b.
-fn note(words: &mut [u32], c: u32, b: usize)
-    requires { ⌜ 2 * b + 1 < length (now words) ⌝ }
-    ensures { λ _. ⌜ now (words .exit) ≡ noted c (now (words .entry)) b ⌝ }
+fn note(words: &mut [u32], c: BlockId, b: BlockId)
+    requires { ⌜ 2 * b .0 + 1 < length (now words) ⌝ }
+    ensures { λ _. ⌜ now (words .exit) ≡ noted (c .0) (now (words .entry)) (b .0) ⌝ }
 {
-    let k = words[2 * b];
-    let p = words[2 * b + 1];
-    words[2 * b] = count_after(k, p, c);
-    words[2 * b + 1] = which_after(k, p, c);
+    let i = b.at();
+    let k = words[2 * i];
+    let p = words[2 * i + 1];
+    words[2 * i] = count_after(k, p, c);
+    words[2 * i + 1] = which_after(k, p, c);
 }
 
-// Block c goes to each block of the list.
-fn note_all(words: &mut [u32], list: &[u32], c: u32)
-    requires { ⌜ ((j : ℕ) → j < length (now list) → 2 * getD (now list) j 0 + 1 < length (now words)) ⌝ }
-    ensures { λ _. ⌜ now (words .exit) ≡ steps (noted c) (now (words .entry)) (now (list .entry)) ⌝ }
+// Block c, of n, goes to each block of the list.
+fn note_all(words: &mut [u32], list: &[u32], n: u32, c: BlockId)
+    requires { ⌜ (2 * n ≤ length (now words)) × ((j : ℕ) → j < length (now list) → getD (now list) j 0 < n) ⌝ }
+    ensures { λ _. ⌜ now (words .exit) ≡ steps (noted (c .0)) (now (words .entry)) (now (list .entry)) ⌝ }
 {
     let mut j = 0usize;
     while j < list.len() {
-        note(words, c, wide(list[j]));
+        let MaybeBlock::Is(b) = BlockId::new(list[j], n) else {
+            return;
+        };
+        note(words, c, b);
         j += 1;
     }
 }
@@ -137,12 +144,15 @@ pub fn find_preds<'a>(
     requires { ⌜ (now t ≡ rows) × Graph (now bounds) (now recs) (now pairs) (now targets) × (2 * (length (now bounds) / 2) ≤ length (now words)) ⌝ }
     ensures { λ _. ⌜ Preds (drawn (now (bounds .entry)) (now (recs .entry)) [] (now (pairs .entry)) (now (targets .entry))) (now (words .exit)) ⌝ }
 {
-    let n = bounds.len() / 2;
+    let n = (bounds.len() / 2) as u32;
     fill(words, 0);
-    let mut c = 0usize;
-    while c < n {
+    let mut k: u32 = 0;
+    while k < n {
+        let MaybeBlock::Is(c) = BlockId::new(k, n) else {
+            return;
+        };
         let list = succs(t, bounds, recs, pairs, targets, c);
-        note_all(words, list, c as u32);
-        c += 1;
+        note_all(words, list, n, c);
+        k += 1;
     }
 }

@@ -1,8 +1,16 @@
 -- `cfg::graph::note` meets its contract. Assumes nothing.
+use mathlib.Core.Path.{_∙_, ap}
+use Prim.Native.Nat.{_+_, _*_, _<_}
+use native.Mathlib.Omega.{arith}
+use lib.ListN.{length, length-set}
+use Rattle.cfg.specs.Preds.{noted}
 use Rattle.cfg.proofs.Noted.{one-noted}
 use borrow.Author.Needs.{needs}
 use Rattle.cfg.proofs.graph.note.Statement.{statement}
 use Rattle.cfg.proofs.graph.note.Tie as tie
+
+at-requires : tie.Need-at-requires
+at-requires c κs = search needs
 
 mul-k : tie.Need-mul-k
 mul-k c = search needs
@@ -50,18 +58,23 @@ mul-words-4 : tie.Need-mul-words-4
 mul-words-4 c = search needs
 
 slice-write-words-2 : tie.Need-slice-write-words-2
-slice-write-words-2 c = search needs
+slice-write-words-2 c =
+    let h : 2 * c .before .before .before .before .at .result + 1 < length (c .before .before .before .before .before .before .args .words .now) = omega (arith, c .before .before .before .before .before .before .pre, c .before .before .before .before .at .ensures) in
+    simp length-set h
 
 same-length : tie.Need-same-length
 same-length c = search needs
 
 returns : tie.Need-returns
-returns c = let a = c .before .before .before .before .before .args in one-noted (a .c) (a .words .now) (a .b) _ _ (c .before .count-after .ensures) (c .which-after .ensures)
+returns c =
+    let a = c .before .before .before .before .before .before .args in
+    one-noted (a .c .0) (a .words .now) (c .before .before .before .before .at .result) _ _ (c .before .count-after .ensures) (c .which-after .ensures) ∙ ap (noted (a .c .0) (a .words .now)) (c .before .before .before .before .at .ensures)
 
 pub note-spec : {M : Type 1} → statement M
 note-spec =
     tie.close
     (tie.spec
+    at-requires
     mul-k
     mul-k-2
     slice-read-k
