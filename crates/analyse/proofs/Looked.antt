@@ -1,21 +1,25 @@
 -- What is looked up of a register. Assumes nothing.
 use mathlib.Core.Bool.{Bool, true, false, cond}
 use mathlib.Core.List.{List}
-use mathlib.Core.Logic.{inl, inr}
 use mathlib.Core.Option.{Option, none, some}
 use mathlib.Core.Path.{_≡_, refl, sym, ap, _∙_, subst}
 use Prim.Native.Nat.{ℕ, zero, suc, _+_, _*_, _-_, _/_, _%_, _≤_, _<_}
 use native.Mathlib.Omega.{arith}
 use borrow.Author.Tests.{eq-eqb, ne-eqb}
 use lib.Dec.{eqb}
-use lib.ListN.{getD, List·getD-eq-default}
+use lib.ListN.{getD, length, List·getD-eq-default}
 use Rattle.model.specs.Picture.{absent}
 use Rattle.model.specs.Analyse.{Facts, Fact, Known, unknown, Org, Unknown, Ro, Frame, no-fact, last-writer, org-of, len-of, when-some, known-of, small, positive, Read}
+use Rattle.inst.specs.Index.{reg-of, word-of, Among}
+use Rattle.inst.specs.declared.index.Reg.{Reg}
+use Rattle.inst.specs.declared.index.MaybeReg.{MaybeReg}
+use Rattle.inst.specs.declared.index.MaybeReg.the-variants.{Is, Not}
+use Rattle.inst.proofs.Indices.{among-of, reg-made}
 use Rattle.effects.specs.Origin.{org-at, num}
 use Rattle.effects.proofs.Origins.{num-le}
 use Rattle.analyse.specs.declared.look.Value.{Value}
 use Rattle.regfacts.specs.Flags.{flags-of, Seen}
-use Rattle.analyse.specs.State.{place-at, left-in, Left, Marked, Ranges, org-reg, len-reg, Reg?, Valued}
+use Rattle.analyse.specs.State.{place-at, left-in, Left, Marked, Ranges, Ranged, org-reg, len-reg, Reg?, Valued}
 use Rattle.analyse.proofs.Layouts.{lay-low}
 
 -- ---- bits
@@ -63,9 +67,15 @@ module _ (k : Known) (f : ℕ) (e : f % 16 ≡ flags-of k) where
 
 -- ---- a register
 
-pub a-reg : {R r : ℕ} → Reg? R r → (r ≡ absent → ⊥) → r < R
-a-reg (inl e) n = absurd (n e)
-a-reg (inr h) n = h
+pub a-reg : {R : ℕ} {m : MaybeReg} {k : Reg} → m ≡ Is k → Among R m → (word-of m < R) × (word-of m ≡ absent → ⊥)
+a-reg {R} {m} {k} e a =
+    let in-use : Among R (Is k) = subst (Among R) e a in
+    let w : word-of m ≡ k .0 = ap word-of e in
+    (omega (arith, in-use .0, w), λ (q : word-of m ≡ absent). omega (arith, in-use .1, w, q))
+
+among-more : {R K : ℕ} → R ≤ K → (m : MaybeReg) → Among R m → Among K m
+among-more h (Is k) a = (omega (arith, h, a .0), a .1)
+among-more h Not a = tt
 
 abbrev read : List Fact → ℕ → Read
 read past r = record { reg = r; writer = last-writer 0 past r }
@@ -140,3 +150,12 @@ a-writer v {w} e g h = go (v / 16 % 1024) refl
 pub left-org : {n v w : ℕ} {x : Value} → v ≡ w → Ranges n w → x ≡ left-in v → x .org < 4 + 2 * n
 unfolding left-in
 left-org {n} {v} {w} {x} e g q = subst (λ (z : ℕ). z < 4 + 2 * n) (sym (ap (λ (z : Value). z .org) q ∙ ap (λ (z : ℕ). z / 16384 % 2048) e)) (g .org)
+
+-- ---- a word of what is read, made a register
+
+module _ {R n : ℕ} {regs : List ℕ} (g : Ranged R n regs) (r : ℕ) {m : MaybeReg} where
+  pub made-reg : Reg? R r → m ≡ reg-of r R → Among R m × (word-of m ≡ r)
+  made-reg h e = reg-made r R (omega (arith, g .in-use, g .lent)) h e
+
+  pub read-reg : m ≡ reg-of r R → Among (length regs) m
+  read-reg e = among-more (g .in-use) m (subst (Among R) (sym e) (among-of r R (omega (arith, g .in-use, g .lent))))

@@ -5,6 +5,7 @@ use effects::arms::Effect;
 use effects::arms::Input;
 use inst::access::Firsts;
 use inst::constant::decode;
+use inst::index::Reg;
 use inst::kinds::CALL_NATIVE;
 use inst::record::form;
 use inst::record::kind;
@@ -41,9 +42,10 @@ pub fn ask(recs: &[u32], regs: &[u64], x: Firsts, g: usize, p: u32, count: usize
     requires { ⌜ Ranged count p (now regs) × Within (now recs) g × Below count x ⌝ }
     ensures { λ y. ⌜ Small y × (y .p ≡ p) × ((ops : List ℕ) (G : Facts) (past : List Fact) → Heads (reads ops (inst (now (recs .entry)) g)) (writes (inst (now (recs .entry)) g)) x → length past ≡ p → Marked G past count (now (regs .entry)) → Asked G past ops (inst (now (recs .entry)) g) y) ⌝ }
 {
-    let v0 = value_of(regs, x.r0, count);
-    let v1 = value_of(regs, x.r1, count);
-    let v2 = value_of(regs, x.r2, count);
+    let r1 = Reg::new(x.r1, count);
+    let v0 = value_of(regs, Reg::new(x.r0, count));
+    let v1 = value_of(regs, r1);
+    let v2 = value_of(regs, Reg::new(x.r2, count));
     Input {
         form: form(recs, g),
         list: word(recs, g, 8),
@@ -54,7 +56,7 @@ pub fn ask(recs: &[u32], regs: &[u64], x: Firsts, g: usize, p: u32, count: usize
         l0: v0.len,
         l1: v1.len,
         l2: v2.len,
-        divisor: is_divisor(regs, x.r1, count),
+        divisor: is_divisor(regs, r1),
         small: holds_length(recs, g),
         layout: v0.layout,
         layout1: v1.layout,

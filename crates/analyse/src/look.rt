@@ -2,18 +2,18 @@
 // in the chain, or else from the facts of before round 1. A register's word has all of it, from the lowest bits up: 4 flags of
 // before round 1; 10 bits for the last writer's position and 1, or 0; and where there is a writer, what it left: 11 bits for
 // where that points, as an origin's number, 1 bit if it is a length, 1 bit if it points to a block whose maker is a layout.
-use model::ABSENT;
+use inst::index::MaybeReg;
 use regfacts::flags::FLAGS;
-use words::numbers::wide;
 ghost use mathlib.Core.Path.{_≡_};
 ghost use mathlib.Core.Bool.{cond};
 ghost use mathlib.Core.List.{List};
 ghost use Prim.Native.Nat.{ℕ, _+_, _*_, _%_, _≤_, _<_};
 ghost use lib.ListN.{length};
 ghost use Rattle.model.specs.Analyse.{Facts, Fact, Known, Unknown, Ro, Frame, when-some, positive, known-of};
+ghost use Rattle.inst.specs.Index.{word-of, Among};
 ghost use Rattle.effects.specs.Origin.{org-at};
 ghost use Rattle.regfacts.specs.Flags.{flags-of, Seen};
-ghost use Rattle.analyse.specs.State.{Marked, Ranged, Reg?, Valued, left-in};
+ghost use Rattle.analyse.specs.State.{Marked, Ranged, Valued, left-in};
 
 // What the last writer left stands over it and the flags, by this; in it whether that is a length stands over where it points, and
 // whether it points to a layout over that.
@@ -55,19 +55,19 @@ fn left_in(v: u64) -> Value
     }
 }
 
-// What is known of the value of register r, or absent.
-pub fn value_of(regs: &[u64], r: u32, count: usize) -> Value
-    requires { ⌜ (count ≤ length (now regs)) × Reg? count r ⌝ }
-    ensures { λ x. ⌜ ((n : ℕ) → Ranged count n (now (regs .entry)) → (x .org < 4 + 2 * n) × ((G : Facts) (past : List Fact) → length past ≡ n → Marked G past count (now (regs .entry)) → Valued G past r x)) ⌝ }
+// What is known of the value of register r, if that is one.
+pub fn value_of(regs: &[u64], r: MaybeReg) -> Value
+    requires { ⌜ Among (length (now regs)) r ⌝ }
+    ensures { λ x. ⌜ ((count n : ℕ) → Among count r → Ranged count n (now (regs .entry)) → (x .org < 4 + 2 * n) × ((G : Facts) (past : List Fact) → length past ≡ n → Marked G past count (now (regs .entry)) → Valued G past (word-of r) x)) ⌝ }
 {
-    if r == ABSENT {
+    let MaybeReg::Is(k) = r else {
         return Value {
             org: 0,
             len: false,
             layout: false,
         };
-    }
-    let v = regs[wide(r)];
+    };
+    let v = regs[k.at()];
     if v < FLAGS {
         return Value {
             org: flags_org(v),
@@ -79,12 +79,12 @@ pub fn value_of(regs: &[u64], r: u32, count: usize) -> Value
 }
 
 // Is register r a constant above 0?
-pub fn is_divisor(regs: &[u64], r: u32, count: usize) -> bool
-    requires { ⌜ (count ≤ length (now regs)) × (count ≤ 65536) × Reg? count r ⌝ }
-    ensures { λ b. ⌜ ((G : Facts) → Seen G count (now (regs .entry)) → b ≡ when-some positive (known-of G r .konst)) ⌝ }
+pub fn is_divisor(regs: &[u64], r: MaybeReg) -> bool
+    requires { ⌜ Among (length (now regs)) r ⌝ }
+    ensures { λ b. ⌜ ((G : Facts) (count : ℕ) → Among count r → count ≤ 65536 → Seen G count (now (regs .entry)) → b ≡ when-some positive (known-of G (word-of r) .konst)) ⌝ }
 {
-    if r == ABSENT {
+    let MaybeReg::Is(k) = r else {
         return false;
-    }
-    regs[wide(r)] / 8 % 2 == 1
+    };
+    regs[k.at()] / 8 % 2 == 1
 }

@@ -3,17 +3,17 @@
 use crate::look;
 use inst::access::Firsts;
 use inst::access::write_at;
+use inst::index::MaybeReg;
+use inst::index::Reg;
 use model::ABSENT;
 use regfacts::flags::FLAGS;
 use words::numbers::one;
-use words::numbers::wide;
 ghost use mathlib.Core.Path.{_≡_};
-ghost use mathlib.Core.Logic.{_⊎_};
 ghost use Prim.Native.Nat.{_≤_, _<_};
 ghost use lib.ListN.{length, getD};
 ghost use Rattle.model.specs.Picture.{inst, absent, writes};
+ghost use Rattle.inst.specs.Index.{word-of, Among};
 ghost use Rattle.inst.specs.Record.{Used};
-ghost use Rattle.effects.specs.Origin.{num};
 ghost use Rattle.regfacts.specs.Written.{put-in, Fits, Written};
 ghost use Rattle.analyse.specs.Step.{stamp, marked, Forgot};
 
@@ -48,14 +48,15 @@ pub fn stamp(p: u32, org: u32, len: bool, layout: bool) -> u64
 }
 
 // Register r, if that is one, is written.
-fn mark(regs: &mut [u64], r: u32, d: u64)
-    requires { ⌜ (d < 16777216) × ((r ≡ absent) ⊎ (r < length (now regs))) ⌝ }
-    ensures { λ _. ⌜ now (regs .exit) ≡ put-in (marked d) r (now (regs .entry)) ⌝ }
+fn mark(regs: &mut [u64], r: MaybeReg, d: u64)
+    requires { ⌜ (d < 16777216) × Among (length (now regs)) r ⌝ }
+    ensures { λ _. ⌜ now (regs .exit) ≡ put-in (marked d) (word-of r) (now (regs .entry)) ⌝ }
 {
-    if r != ABSENT {
-        let k = wide(r);
-        regs[k] = FLAGS * d + regs[k] % FLAGS;
-    }
+    let MaybeReg::Is(w) = r else {
+        return;
+    };
+    let k = w.at();
+    regs[k] = FLAGS * d + regs[k] % FLAGS;
 }
 
 // Each slot of record g that writes.
@@ -65,7 +66,7 @@ fn mark_slots(recs: &[u32], regs: &mut [u64], g: usize, uses: u32, d: u64)
 {
     let mut s = 0usize;
     while s < 5 {
-        mark(regs, write_at(recs, g, uses, s), d);
+        mark(regs, write_at(recs, g, uses, s, regs.len()), d);
         s += 1;
     }
 }
@@ -76,7 +77,7 @@ pub fn mark_record(recs: &[u32], regs: &mut [u64], x: Firsts, g: usize, uses: u3
     ensures { λ _. ⌜ Written (marked d) (inst (now (recs .entry)) g) (now (regs .entry)) (now (regs .exit)) ⌝ }
 {
     if x.d1 == ABSENT {
-        mark(regs, x.d0, d);
+        mark(regs, Reg::new(x.d0, regs.len()), d);
         return;
     }
     mark_slots(recs, regs, g, uses, d);

@@ -1,6 +1,6 @@
 -- What an answer of `new` tells of the number. Assumes nothing.
 use mathlib.Core.Bool.{Bool, true, false}
-use mathlib.Core.Path.{_≡_, refl, ap, sym}
+use mathlib.Core.Path.{_≡_, refl, ap, sym, _∙_, subst}
 use Prim.Native.Nat.{ℕ, _≤_, _<_}
 use native.Mathlib.Omega.{arith}
 use lib.Dec.{ltb}
@@ -55,3 +55,7 @@ module _ (n count : ℕ) where
       go true e h = refl
       go false e (inl a) = sym a
       go false e (inr l) = let g = ltb-false n count e in absurd (omega arith)
+
+  -- what is made of such a word, by as many registers as a list can have
+  pub reg-made : count ≤ absent → (n ≡ absent) ⊎ (n < count) → {m : MaybeReg} → m ≡ reg-of n count → Among count m × (word-of m ≡ n)
+  reg-made few h e = (subst (Among count) (sym e) (among-of few), ap word-of e ∙ word-of-reg h)

@@ -6,16 +6,19 @@ use mathlib.Core.Path.{_≡_, refl, sym, ap, _∙_, subst}
 use Prim.Native.Nat.{ℕ, _+_, _≤_, _<_}
 use native.Mathlib.Decide.{ℕ-discrete}
 use native.Mathlib.Omega.{arith}
-use borrow.Author.Tests.{eqb-true, eqb-false}
+use borrow.Author.Tests.{eqb-true, eqb-false, eq-eqb, ne-eqb}
 use lib.Dec.{eqb}
 use lib.ListN.{getD, length, set, length-set}
 use lib.Seq.{getD-set-same, getD-set-other}
 use Rattle.words.specs.Lists.{mem}
 use Rattle.model.specs.Picture.{Inst, inst, absent, writes}
+use Rattle.inst.specs.Index.{reg-of, word-of, Among}
+use Rattle.inst.specs.declared.index.MaybeReg.{MaybeReg}
 use Rattle.inst.specs.Record.{Within, write-at, present, rest-writes}
 use Rattle.inst.proofs.Rest.{writes-step, writes-next, writes-end, writes-all}
 use Rattle.inst.proofs.Firsts.{present-none, present-some}
 use Rattle.inst.proofs.Looked.{mem-hit, mem-miss}
+use Rattle.inst.proofs.Indices.{reg-made}
 use Rattle.regfacts.specs.Written.{Fits, put-in, settle, Written}
 
 none-there : (r : ℕ) (ys : List ℕ) → mem r (present absent ++ ys) ≡ mem r ys
@@ -29,6 +32,24 @@ put-size f w xs = go (eqb w absent)
     go : (b : Bool) → length (cond b xs (set xs w (f (getD xs w 0)))) ≡ length xs
     go true = refl
     go false = length-set xs w (f (getD xs w 0))
+
+-- f at the register whose number is w, or at none
+pub put-at : (f : ℕ → ℕ) (xs : List ℕ) {w n k v : ℕ} → w ≡ n → n < absent → k ≡ n → v ≡ f (getD xs k 0) → set xs k v ≡ put-in f w xs
+unfolding put-in
+put-at f xs {w} {n} {k} {v} ew low ek ev =
+    ap (set xs k) ev ∙ ap (λ (x : ℕ). set xs x (f (getD xs x 0))) (ek ∙ sym ew)
+    ∙ sym (ap (λ (b : Bool). cond b xs (set xs w (f (getD xs w 0)))) (ne-eqb w absent (λ e. omega (arith, ew, e, low))))
+
+pub put-none : (f : ℕ → ℕ) (xs : List ℕ) {w : ℕ} → w ≡ absent → xs ≡ put-in f w xs
+unfolding put-in
+put-none f xs {w} e = sym (ap (λ (b : Bool). cond b xs (set xs w (f (getD xs w 0)))) (eq-eqb w absent e))
+
+-- what is made of slot s, by a count of registers
+pub slot-made : {recs : List ℕ} {R g s count : ℕ} → Fits recs R g → s < 5 → count ≡ R → {m : MaybeReg} → m ≡ reg-of (write-at (inst recs g) s) count
+    → Among count m × (word-of m ≡ write-at (inst recs g) s)
+slot-made {recs} {R} {g} {s} {count} fits lt size =
+    let n = write-at (inst recs g) s in
+    reg-made n count (omega (arith, size, fits .room)) (subst (λ (k : ℕ). (n ≡ absent) ⊎ (n < k)) (sym size) (fits .slot s lt))
 
 pub settle-yes : (f : ℕ → ℕ) (v : ℕ) {b : Bool} → b ≡ true → settle f b v ≡ f v
 unfolding settle
@@ -118,7 +139,14 @@ module _ (recs : List ℕ) (g : ℕ) {R : ℕ} (fits : Fits recs R g) where
   low-end = subst Low (sym (writes-end recs g (fits .whole .within) 5 (omega arith))) (inl refl)
 
   -- the first register written is below R, if it is one
-  pub first-low : (getD (writes (inst recs g)) 0 absent ≡ absent) ⊎ (getD (writes (inst recs g)) 0 absent < R)
+  first-low : (getD (writes (inst recs g)) 0 absent ≡ absent) ⊎ (getD (writes (inst recs g)) 0 absent < R)
   first-low =
       subst Low (writes-all (inst recs g))
       (low-step 0 (omega arith) (low-step 1 (omega arith) (low-step 2 (omega arith) (low-step 3 (omega arith) (low-step 4 (omega arith) low-end)))))
+
+  -- what is made of it, by R
+  pub first-made : {d : ℕ} → d ≡ getD (writes (inst recs g)) 0 absent → {m : MaybeReg} → m ≡ reg-of d R → Among R m × (word-of m ≡ d) × ((word-of m ≡ absent) ⊎ (word-of m < R))
+  first-made {d} e q =
+      let low : (d ≡ absent) ⊎ (d < R) = subst (λ (n : ℕ). (n ≡ absent) ⊎ (n < R)) (sym e) first-low in
+      let made = reg-made d R (omega (arith, fits .room)) low q in
+      (made .0, made .1, subst (λ (n : ℕ). (n ≡ absent) ⊎ (n < R)) (sym (made .1)) low)

@@ -6,20 +6,20 @@ use inst::access::uses;
 use inst::access::write_at;
 use inst::constant::Constant;
 use inst::constant::decode;
+use inst::index::MaybeReg;
 use inst::kinds::ADDR_OF;
 use inst::record::form;
 use inst::record::kind;
-use model::ABSENT;
 use words::numbers::full;
 use words::numbers::long;
 use words::numbers::one;
-use words::numbers::wide;
 ghost use mathlib.Core.Path.{_≡_};
 ghost use mathlib.Core.Logic.{_⊎_};
 ghost use Prim.Native.Nat.{ℕ, _*_, _≤_, _<_};
 ghost use lib.ListN.{length, getD};
-ghost use Rattle.model.specs.Picture.{inst, absent};
+ghost use Rattle.model.specs.Picture.{inst};
 ghost use Rattle.model.specs.Analyse.{known, small, positive};
+ghost use Rattle.inst.specs.Index.{word-of, Among};
 ghost use Rattle.inst.specs.Table.{rows};
 ghost use Rattle.inst.specs.Record.{Within, Used};
 ghost use Rattle.regfacts.specs.Written.{put-in, Fits, Written};
@@ -51,14 +51,15 @@ fn next(v: u64, p: u64) -> u64
 }
 
 // Record p writes register w, if that is one.
-fn note(regs: &mut [u64], w: u32, p: u64)
-    requires { ⌜ (p < 32768) × ((w ≡ absent) ⊎ (w < length (now regs))) ⌝ }
-    ensures { λ _. ⌜ now (regs .exit) ≡ put-in (noted p) w (now (regs .entry)) ⌝ }
+fn note(regs: &mut [u64], w: MaybeReg, p: u64)
+    requires { ⌜ (p < 32768) × Among (length (now regs)) w ⌝ }
+    ensures { λ _. ⌜ now (regs .exit) ≡ put-in (noted p) (word-of w) (now (regs .entry)) ⌝ }
 {
-    if w != ABSENT {
-        let r = wide(w);
-        regs[r] = next(regs[r], p);
-    }
+    let MaybeReg::Is(r) = w else {
+        return;
+    };
+    let k = r.at();
+    regs[k] = next(regs[k], p);
 }
 
 // Record p and all that its slots write, one by one.
@@ -69,7 +70,7 @@ fn note_all(recs: &[u32], regs: &mut [u64], p: usize, uses: u32)
     let n = full(p);
     let mut s = 0usize;
     while s < 5 {
-        note(regs, write_at(recs, p, uses, s), n);
+        note(regs, write_at(recs, p, uses, s, regs.len()), n);
         s += 1;
     }
 }
@@ -84,7 +85,7 @@ fn note_record(t: &[u32; 202], recs: &[u32], regs: &mut [u64], p: usize)
         note_all(recs, regs, p, u);
         return;
     }
-    note(regs, write_at(recs, p, u, 0), full(p));
+    note(regs, write_at(recs, p, u, 0, regs.len()), full(p));
 }
 
 fn clear(regs: &mut [u64])

@@ -1,15 +1,24 @@
 -- `analyse::marks::mark` meets its contract. Assumes nothing.
-use mathlib.Core.Logic.{⊎-elim}
+use mathlib.Core.Path.{refl, ap, subst}
 use native.Mathlib.Omega.{arith}
-use borrow.Author.Tests.{ne-eqb}
-use Rattle.regfacts.specs.Written.{put-in}
+use Rattle.inst.specs.Index.{word-of, Among}
+use Rattle.regfacts.proofs.Writing.{put-at, put-none}
 use Rattle.analyse.specs.Step.{marked}
 use borrow.Author.Needs.{needs}
 use Rattle.analyse.proofs.marks.mark.Statement.{statement}
 use Rattle.analyse.proofs.marks.mark.Tie as tie
 
-wide-requires : tie.Need-wide-requires
-wide-requires c κs = search needs
+enum-known-r : tie.Need-enum-known-r
+enum-known-r c = search needs
+
+enum-told : tie.Need-enum-told
+enum-told c = search needs
+
+returns : tie.Need-returns
+returns c = put-none _ _ (ap word-of (c .enum-told .given .1))
+
+at-requires : tie.Need-at-requires
+at-requires c κs = search needs
 
 mul-regs : tie.Need-mul-regs
 mul-regs c = search needs
@@ -18,7 +27,7 @@ mul-regs-2 : tie.Need-mul-regs-2
 mul-regs-2 c = search needs
 
 slice-read-regs : tie.Need-slice-read-regs
-slice-read-regs c = ⊎-elim (λ e. absurd (c .before .before .if1 .taken e)) (λ h. omega (arith, c .before .wide .ensures)) (c .before .before .before .before .pre .1)
+slice-read-regs c = let m = subst (Among _) (c .before .before .before .r .given .1) (c .before .before .before .before .before .before .pre .1) in omega (arith, c .before .at .ensures, m .0)
 
 add-regs : tie.Need-add-regs
 add-regs c = search needs
@@ -27,24 +36,25 @@ mul-regs-3 : tie.Need-mul-regs-3
 mul-regs-3 c = search needs
 
 slice-write-regs : tie.Need-slice-write-regs
-slice-write-regs c = ⊎-elim (λ e. absurd (c .before .before .if1 .taken e)) (λ h. omega (arith, c .before .wide .ensures)) (c .before .before .before .before .pre .1)
+slice-write-regs c = let m = subst (Among _) (c .before .before .before .r .given .1) (c .before .before .before .before .before .before .pre .1) in omega (arith, c .before .at .ensures, m .0)
 
 same-length : tie.Need-same-length
 same-length c = search needs
 
-returns : tie.Need-returns
-unfolding put-in marked
-returns c = simp (ne-eqb _ _ (c .before .before .if1 .taken), c .before .wide .ensures)
-
 returns-2 : tie.Need-returns-2
-unfolding put-in
-returns-2 c = simp (c .if1 .left)
+unfolding marked
+returns-2 c =
+    let is = c .before .before .before .r .given .1 in
+    put-at (marked _) _ (ap word-of is) (subst (Among _) is (c .before .before .before .before .before .before .pre .1) .1) (c .before .at .ensures) refl
 
 pub mark-spec : {M : Type 1} → statement M
 mark-spec =
     tie.close
     (tie.spec
-    wide-requires
+    enum-known-r
+    enum-told
+    returns
+    at-requires
     mul-regs
     mul-regs-2
     slice-read-regs
@@ -52,5 +62,4 @@ mark-spec =
     mul-regs-3
     slice-write-regs
     same-length
-    returns
     returns-2)

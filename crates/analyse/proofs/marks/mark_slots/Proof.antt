@@ -2,7 +2,7 @@
 use Prim.Native.Nat.{_-_}
 use Rattle.analyse.specs.Step.{marked}
 use Rattle.analyse.proofs.Marking.{marked-twice}
-use Rattle.regfacts.proofs.Writing.{Writing, writing-none, writing-more, writing-end}
+use Rattle.regfacts.proofs.Writing.{slot-made, Writing, writing-none, writing-more, writing-end}
 use borrow.Author.Needs.{needs}
 use Rattle.analyse.proofs.marks.mark_slots.Statement.{statement}
 use Rattle.analyse.proofs.marks.mark_slots.Tie as tie
@@ -20,7 +20,9 @@ write-at-requires : tie.Need-write-at-requires Inv-loop μ-loop
 write-at-requires c κs = (c .before .before .before .before .before .pre .0, c .before .loop-test .taken)
 
 mark-requires : tie.Need-mark-requires Inv-loop μ-loop
-mark-requires c κs = (c .before .before .before .before .before .before .pre .1, rw (c .write-at .ensures, c .before .before .before .loop .inv .size) (c .before .before .before .before .before .before .pre .2 .slot _ (c .before .before .loop-test .taken)))
+mark-requires c κs =
+    let at-entry = c .before .before .before .before .before .before in
+    (at-entry .pre .1, slot-made (at-entry .pre .2) (c .before .before .loop-test .taken) (c .before .before .before .loop .inv .size) (c .write-at .ensures) .0)
 
 add-s : tie.Need-add-s Inv-loop μ-loop
 add-s c = search needs
@@ -29,7 +31,12 @@ loop-less : tie.Need-loop-less Inv-loop μ-loop
 loop-less c = search needs
 
 loop-again : tie.Need-loop-again Inv-loop μ-loop
-loop-again c = writing-more _ (marked-twice _) _ _ _ _ _ (c .before .before .before .before .before .loop-test .taken) (c .before .before .before .before .before .before .before .before .before .pre .2) (c .before .before .before .before .before .before .loop .inv) _ (c .before .before .before .write-at .ensures) (c .before .before .mark .ensures)
+loop-again c =
+    let at-entry = c .before .before .before .before .before .before .before .before .before in
+    let more = c .before .before .before .before .before .loop-test .taken in
+    let so-far = c .before .before .before .before .before .before .loop .inv in
+    let made = slot-made (at-entry .pre .2) more (so-far .size) (c .before .before .before .write-at .ensures) in
+    writing-more _ (marked-twice _) _ _ _ _ _ more (at-entry .pre .2) so-far _ (made .1) (c .before .before .mark .ensures)
 
 same-length : tie.Need-same-length Inv-loop μ-loop
 same-length c = c .before .loop .inv .size

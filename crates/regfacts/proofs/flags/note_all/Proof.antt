@@ -4,7 +4,7 @@ use native.Mathlib.Omega.{arith}
 use Prim.Native.Nat.{_-_}
 use Rattle.regfacts.specs.Flags.{noted}
 use Rattle.regfacts.proofs.Soles.{noted-twice}
-use Rattle.regfacts.proofs.Writing.{Writing, writing-none, writing-more, writing-end}
+use Rattle.regfacts.proofs.Writing.{slot-made, Writing, writing-none, writing-more, writing-end}
 use Rattle.regfacts.proofs.flags.note_all.Statement.{statement}
 use Rattle.regfacts.proofs.flags.note_all.Tie as tie
 
@@ -24,7 +24,10 @@ write-at-requires : tie.Need-write-at-requires Inv-loop μ-loop
 write-at-requires c κs = (c .before .before .before .before .before .before .pre .0, c .before .loop-test .taken)
 
 note-requires : tie.Need-note-requires Inv-loop μ-loop
-note-requires c κs = (omega (arith, c .before .before .before .before .full .ensures, c .before .before .before .before .before .before .before .pre .1), rw (c .write-at .ensures, c .before .before .before .loop .inv .size) (c .before .before .before .before .before .before .before .pre .2 .slot _ (c .before .before .loop-test .taken)))
+note-requires c κs =
+    let at-entry = c .before .before .before .before .before .before .before in
+    let made = slot-made (at-entry .pre .2) (c .before .before .loop-test .taken) (c .before .before .before .loop .inv .size) (c .write-at .ensures) in
+    (omega (arith, c .before .before .before .before .full .ensures, at-entry .pre .1), made .0)
 
 add-s : tie.Need-add-s Inv-loop μ-loop
 add-s c = search needs
@@ -33,7 +36,13 @@ loop-less : tie.Need-loop-less Inv-loop μ-loop
 loop-less c = search needs
 
 loop-again : tie.Need-loop-again Inv-loop μ-loop
-loop-again c = writing-more _ (λ v. noted-twice _ v (c .before .before .before .before .before .before .before .before .before .before .pre .1)) _ _ _ _ _ (c .before .before .before .before .before .loop-test .taken) (c .before .before .before .before .before .before .before .before .before .before .pre .2) (c .before .before .before .before .before .before .loop .inv) _ (c .before .before .before .write-at .ensures) (rw (c .before .before .before .before .before .before .before .full .ensures) at (c .before .before .note .ensures))
+loop-again c =
+    let at-entry = c .before .before .before .before .before .before .before .before .before .before in
+    let more = c .before .before .before .before .before .loop-test .taken in
+    let so-far = c .before .before .before .before .before .before .loop .inv in
+    let made = slot-made (at-entry .pre .2) more (so-far .size) (c .before .before .before .write-at .ensures) in
+    writing-more _ (λ v. noted-twice _ v (at-entry .pre .1)) _ _ _ _ _
+    more (at-entry .pre .2) so-far _ (made .1) (rw (c .before .before .before .before .before .before .before .full .ensures) at (c .before .before .note .ensures))
 
 same-length : tie.Need-same-length Inv-loop μ-loop
 same-length c = c .before .loop .inv .size

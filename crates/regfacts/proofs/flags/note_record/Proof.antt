@@ -1,10 +1,10 @@
 -- `regfacts::flags::note_record` meets its contract. Assumes nothing.
 use borrow.Author.Needs.{needs}
 use native.Mathlib.Omega.{arith}
-use mathlib.Core.Path.{sym, _∙_}
+use mathlib.Core.Path.{refl, sym, _∙_}
 use Rattle.inst.proofs.Firsts.{one-write}
 use Rattle.regfacts.proofs.Soles.{noted-twice}
-use Rattle.regfacts.proofs.Writing.{writing-one}
+use Rattle.regfacts.proofs.Writing.{slot-made, writing-one}
 use Rattle.regfacts.proofs.flags.note_record.Statement.{statement}
 use Rattle.regfacts.proofs.flags.note_record.Tie as tie
 
@@ -30,17 +30,22 @@ full-requires : tie.Need-full-requires
 full-requires c κs = search needs
 
 note-requires : tie.Need-note-requires
-note-requires c κs = (omega (arith, c .full .ensures, c .before .before .before .before .before .before .before .before .pre .1), rw (c .before .write-at .ensures) (c .before .before .before .before .before .before .before .before .pre .2 .slot 0 (omega arith)))
+note-requires c κs =
+    let at-entry = c .before .before .before .before .before .before .before .before in
+    (omega (arith, c .full .ensures, at-entry .pre .1), slot-made (at-entry .pre .2) (omega arith) refl (c .before .write-at .ensures) .0)
 
 same-length-2 : tie.Need-same-length-2
 same-length-2 c = c .before .before .note .kept .0
 
 returns-2 : tie.Need-returns-2
 returns-2 c =
-    writing-one _ (λ v. noted-twice _ v (c .before .before .before .before .before .before .before .before .before .before .before .pre .1)) _ _
-    (one-write _ _ _ (record { within = c .before .before .before .before .before .before .before .before .before .before .before .pre .2 .whole .within; uses = c .before .before .before .before .before .before .before .before .uses .ensures }) (sym (c .before .before .before .before .before .before .before .later .ensures) ∙ c .before .before .before .before .before .before .if1 .left) _ (c .before .before .before .before .write-at .ensures))
-    (rw (c .before .before .before .before .write-at .ensures) (c .before .before .before .before .before .before .before .before .before .before .before .pre .2 .slot 0 (omega arith)))
-    (c .before .before .before .before .before .before .before .before .before .before .before .pre .2 .room)
+    let at-entry = c .before .before .before .before .before .before .before .before .before .before .before in
+    let fits = at-entry .pre .2 in
+    let made = slot-made fits (omega arith) refl (c .before .before .before .before .write-at .ensures) in
+    writing-one _ (λ v. noted-twice _ v (at-entry .pre .1)) _ _
+    (one-write _ _ _ (record { within = fits .whole .within; uses = c .before .before .before .before .before .before .before .before .uses .ensures }) (sym (c .before .before .before .before .before .before .before .later .ensures) ∙ c .before .before .before .before .before .before .if1 .left) _ (made .1))
+    (rw (made .1) (fits .slot 0 (omega arith)))
+    (fits .room)
     (rw (c .before .before .before .full .ensures) at (c .before .before .note .ensures))
 
 pub note-record-spec : {M : Type 1} → statement M
