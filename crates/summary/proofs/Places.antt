@@ -12,7 +12,10 @@ use Rattle.words.specs.Lists.{In, upto, all, any, mem, concat}
 use Rattle.words.proofs.Bools.{T-true, true-T, bool-ext, or-of, or-rest, eq?}
 use Rattle.words.proofs.Members.{in-left, in-right, in-split, in-concat, concat-in, in-map, map-in, in-range, range-in, in-getD, in-index, all-in, all-of, any-in, any-of, mem-in, in-mem}
 use Rattle.model.specs.Picture.{inst, absent, reads, writes, list-of}
+use Rattle.inst.specs.Index.{reg-of, word-of, Among}
+use Rattle.inst.specs.declared.index.MaybeReg.{MaybeReg}
 use Rattle.inst.specs.Record.{Within, read-at, write-at, present}
+use Rattle.inst.proofs.Indices.{reg-made}
 use Rattle.inst.proofs.Rest.{reads-by-place, writes-by-place}
 use Rattle.legalset.specs.Chain.{Good, Fits}
 use Rattle.summary.specs.Passes.{read-place}
@@ -106,10 +109,24 @@ module _ (recs ops : List ℕ) (R g : ℕ) (h : Good recs ops R g) where
         (in-split r (concat (map (λ s. present (read-at (inst recs g) s)) (upto 5))) (list-of ops (inst recs g)) i);
   })
 
--- the register at hand is one of the words st
-pub slot-low : {recs : List ℕ} {R g s r : ℕ} (st : List ℕ) → Fits recs R g → length st ≡ R → s < 5 → r ≡ write-at (inst recs g) s → (r ≡ absent) ⊎ (r < length st)
-slot-low {recs} {R} {g} {s} {r} st f e h q = subst (λ (x : ℕ). (x ≡ absent) ⊎ (x < length st)) (sym q) (subst (λ (n : ℕ). (write-at (inst recs g) s ≡ absent) ⊎ (write-at (inst recs g) s < n)) (sym e) (f .slot s h))
+-- ---- a place made a register
 
-pub place-low : {recs ops : List ℕ} {R g n k r : ℕ} (st : List ℕ) → Good recs ops R g → length st ≡ R → n ≡ 5 + length (list-of ops (inst recs g)) → k < n → r ≡ read-place ops (inst recs g) k → (r ≡ absent) ⊎ (r < length st)
-place-low {recs} {ops} {R} {g} {n} {k} {r} st f e m h q =
-    subst (λ (x : ℕ). (x ≡ absent) ⊎ (x < length st)) (sym q) (subst (λ (y : ℕ). (read-place ops (inst recs g) k ≡ absent) ⊎ (read-place ops (inst recs g) k < y)) (sym e) (read-low recs ops R g f k (subst (λ (x : ℕ). k < x) m h)))
+-- m is the register n of count, or none
+pub record AsReg (count n : ℕ) (m : MaybeReg) : Type 0 where
+  pub among : Among count m
+  pub word : word-of m ≡ n
+  pub low : (word-of m ≡ absent) ⊎ (word-of m < count)
+
+-- R registers, as many as the list at hand has
+pub as-reg : {R count n : ℕ} → R ≤ 65536 → count ≡ R → (n ≡ absent) ⊎ (n < R) → {m : MaybeReg} → m ≡ reg-of n count → AsReg count n m
+as-reg {R} {count} {n} few e l q =
+    let low : (n ≡ absent) ⊎ (n < count) = subst (λ (x : ℕ). (n ≡ absent) ⊎ (n < x)) (sym e) l in
+    let made = reg-made n count (omega (arith, few, e)) low q in
+    record { among = made .0; word = made .1; low = subst (λ (x : ℕ). (x ≡ absent) ⊎ (x < count)) (sym (made .1)) low }
+
+pub slot-made : {recs : List ℕ} {R g s count : ℕ} → Fits recs R g → count ≡ R → s < 5 → {m : MaybeReg} → m ≡ reg-of (write-at (inst recs g) s) count → AsReg count (write-at (inst recs g) s) m
+slot-made {s = s} f e h q = as-reg (f .few) e (f .slot s h) q
+
+pub place-made : {recs ops : List ℕ} {R g n k count : ℕ} → Good recs ops R g → count ≡ R → n ≡ 5 + length (list-of ops (inst recs g)) → k < n → {m : MaybeReg} → m ≡ reg-of (read-place ops (inst recs g) k) count
+    → AsReg count (read-place ops (inst recs g) k) m
+place-made {recs} {ops} {R} {g} {n} {k} f e m h q = as-reg (f .fits .few) e (read-low recs ops R g f k (subst (λ (x : ℕ). k < x) m h)) q

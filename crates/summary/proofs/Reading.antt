@@ -12,9 +12,9 @@ use Rattle.inst.specs.Record.{read-at}
 use Rattle.summary.specs.Passes.{read-place}
 
 module _ (ops : List ℕ) (i : Inst) (k : ℕ) where
-  pub place-slot : {r : ℕ} → k < 5 → r ≡ read-at i k → r ≡ read-place ops i k
+  pub place-slot : k < 5 → read-at i k ≡ read-place ops i k
   unfolding read-place
-  place-slot h e = e ∙ sym (ap (λ (b : Bool). cond b (read-at i k) (getD (list-of ops i) (k - 5) absent)) (lt-ltb k 5 h))
+  place-slot h = sym (ap (λ (b : Bool). cond b (read-at i k) (getD (list-of ops i) (k - 5) absent)) (lt-ltb k 5 h))
 
   pub place-list-in : {xs : List ℕ} → 5 ≤ k → xs ≡ list-of ops i → k < 5 + length (list-of ops i) → k - 5 < length xs
   place-list-in h e l = let n = ap length e in omega arith

@@ -57,11 +57,6 @@ pub put-there : (keep lo v r : ℕ) (st : List ℕ) → (r ≡ absent → ⊥) �
 unfolding put-in
 put-there keep lo v r st e = ap (λ (b : Bool). cond b st (set st r (over keep lo v (getD st r 0)))) (ne-eqb r absent e)
 
--- the one place of `put`
-pub put-room : {r k : ℕ} (st : List ℕ) → (r ≡ absent) ⊎ (r < length st) → (r ≡ absent → ⊥) → k ≡ r → k < length st
-put-room st (inl e) n q = absurd (n e)
-put-room {r} {k} st (inr l) n q = subst (λ (x : ℕ). x < length st) (sym q) l
-
 pub over-fits : {keep lo v : ℕ} → Beside keep lo v → (x : ℕ) → x % keep + v < 18446744073709551616
 over-fits {keep} {lo} {v} b x = let h = native.Mathlib.Nat.mod-lt x (b .some) in let s = b .small in omega arith
 
@@ -73,8 +68,9 @@ pub over-high : (keep lo v x : ℕ) → lo ≤ x % keep → x % keep + v ≡ ove
 unfolding over
 over-high keep lo v x h = omega arith
 
-pub put-back : (keep lo v : ℕ) (st : List ℕ) {k y : ℕ} (r : ℕ) → (r ≡ absent → ⊥) → k ≡ r → y ≡ over keep lo v (getD st k 0) → set st k y ≡ put-in keep lo v r st
-put-back keep lo v st {k} r n q e = ap (set st k) e ∙ ap (λ (x : ℕ). set st x (over keep lo v (getD st x 0))) q ∙ sym (put-there keep lo v r st n)
+pub put-back : (keep lo v : ℕ) (st : List ℕ) {k y n r : ℕ} → r ≡ n → n < absent → k ≡ n → y ≡ over keep lo v (getD st k 0) → set st k y ≡ put-in keep lo v r st
+put-back keep lo v st {k} {y} {n} {r} is low q e =
+    ap (set st k) e ∙ ap (λ (x : ℕ). set st x (over keep lo v (getD st x 0))) (q ∙ sym is) ∙ sym (put-there keep lo v r st (λ u. omega (arith, u, is, low)))
 
 stamp-again : (keep lo v : ℕ) → Beside keep lo v → (b : Bool) (x : ℕ) → over keep lo v (stamp keep lo v b x) ≡ stamp keep lo v (b || true) x
 unfolding stamp

@@ -10,11 +10,13 @@ use lib.Dec.{eqb}
 use lib.ListN.{length}
 use Rattle.words.specs.Lists.{In, all}
 use Rattle.model.specs.Picture.{inst, absent, reads, writes}
+use Rattle.inst.specs.Index.{reg-of, word-of}
+use Rattle.inst.specs.declared.index.MaybeReg.{MaybeReg}
 use Rattle.inst.specs.Record.{Known, Used, uses-of, present}
 use Rattle.facts.specs.declared.Fact.{Fact}
 use Rattle.legalset.specs.Chain.{Fits, Good, Safe, Brief}
 use Rattle.summary.specs.Passes.{put-in, Stamped, Beside, Written, Readable, Small, Shows}
-use Rattle.summary.proofs.Places.{Placed, all-placed, made}
+use Rattle.summary.proofs.Places.{Placed, all-placed, made, AsReg, as-reg}
 use Rattle.summary.proofs.Stamping.{Stamping, stamping-none, stamping-more, stamping-end}
 use Rattle.summary.proofs.Summing.{used-at}
 use Rattle.summary.proofs.Backing.{writes-low}
@@ -69,17 +71,20 @@ module _ {recs : List ℕ} {R n d : ℕ} {more : Bool} (a : Written recs R n d m
     word-placed : Placed (writes (inst recs n)) (λ k. d) 1
     word-placed = subst (λ (l : List ℕ). Placed l (λ k. d) 1) (append-nil (present d) ∙ sym (a .brief (not-true more t))) (made (λ k. d) 1)
 
-    pub word-low : (d ≡ absent) ⊎ (d < R)
+    word-low : (d ≡ absent) ⊎ (d < R)
     word-low = low-at {k = 0} word-placed (writes-low recs R n (a .fits)) (omega arith) refl
 
     pub word-tested : (h : ℕ → Bool) {b : Bool} → b ≡ (eqb d absent || h d) → b ≡ all h (writes (inst recs n))
     word-tested h k = k ∙ sym (and-true (eqb d absent || h d)) ∙ sym (all-placed word-placed h)
 
-    pub word-stamped : {keep lo v : ℕ} (st : List ℕ) {st′ : List ℕ} → Beside keep lo v → length st ≡ R → st′ ≡ put-in keep lo v d st → Stamped (writes (inst recs n)) keep lo v st st′
-    word-stamped {keep} {lo} {v} st b s k =
+    pub word-made : {count : ℕ} → count ≡ R → {m : MaybeReg} → m ≡ reg-of d count → AsReg count d m
+    word-made e q = as-reg (a .fits .few) e word-low q
+
+    pub word-stamped : {keep lo v : ℕ} (st : List ℕ) {st′ : List ℕ} → Beside keep lo v → length st ≡ R → {m : MaybeReg} → m ≡ reg-of d (length st) → st′ ≡ put-in keep lo v (word-of m) st → Stamped (writes (inst recs n)) keep lo v st st′
+    word-stamped {keep} {lo} {v} st b s q k =
         let few = subst (λ (m : ℕ). m ≤ 65536) (sym s) (a .fits .few) in
-        let low = subst (λ (m : ℕ). (d ≡ absent) ⊎ (d < m)) (sym s) word-low in
-        stamping-end (stamping-more (stamping-none (λ k. d) keep lo v st) b few refl low k) b few word-placed (omega arith) (omega arith)
+        let made = word-made s q in
+        stamping-end (stamping-more (stamping-none (λ k. d) keep lo v st) b few (made .word) (made .low) k) b few word-placed (omega arith) (omega arith)
 
 -- ---- what the position of fact d reads
 
@@ -106,8 +111,11 @@ module _ {recs ops : List ℕ} {R : ℕ} {d : Fact} (a : Readable recs ops R d) 
     words-placed = subst (λ (l : List ℕ). Placed l two 2)
         (ap (λ (l : List ℕ). present (d .use0) ++ l) (append-nil (present (d .use1))) ∙ sym (a .brief (not-true (d .more) t))) (made two 2)
 
-    pub words-low : (k : ℕ) → k < 2 → (two k ≡ absent) ⊎ (two k < R)
+    words-low : (k : ℕ) → k < 2 → (two k ≡ absent) ⊎ (two k < R)
     words-low k h = low-at {k = k} words-placed (reads-low recs ops R (d .rec) (a .good)) h refl
+
+    pub words-made : (k : ℕ) → k < 2 → {count : ℕ} → count ≡ R → {m : MaybeReg} → m ≡ reg-of (two k) count → AsReg count (two k) m
+    words-made k h e q = as-reg (a .good .fits .few) e (words-low k h) q
 
     pub words-tested : (h : ℕ → Bool) {b c : Bool} → b ≡ (eqb (d .use0) absent || h (d .use0)) → c ≡ (eqb (d .use1) absent || h (d .use1)) → (b && c) ≡ all h (reads ops (inst recs (d .rec)))
     words-tested h k l =
@@ -118,15 +126,14 @@ module _ {recs ops : List ℕ} {R : ℕ} {d : Fact} (a : Readable recs ops R d) 
       few : length st ≤ 65536
       few = subst (λ (m : ℕ). m ≤ 65536) (sym s) (a .good .fits .few)
 
-      one-put : {mid : List ℕ} → mid ≡ put-in keep lo v (d .use0) st → Stamping two keep lo v 1 st mid
-      one-put k = stamping-more (stamping-none two keep lo v st) b few refl (subst (λ (m : ℕ). (d .use0 ≡ absent) ⊎ (d .use0 < m)) (sym s) (words-low 0 (omega arith))) k
+      module _ {m₀ : MaybeReg} (q₀ : m₀ ≡ reg-of (d .use0) (length st)) {mid : List ℕ} (k : mid ≡ put-in keep lo v (word-of m₀) st) where
+        one-put : Stamping two keep lo v 1 st mid
+        one-put = let made = words-made 0 (omega arith) s q₀ in stamping-more (stamping-none two keep lo v st) b few (made .word) (made .low) k
 
-      words-size : {mid : List ℕ} → mid ≡ put-in keep lo v (d .use0) st → length mid ≡ R
-      words-size k = one-put k .size ∙ s
+        pub words-made-on : {m : MaybeReg} → m ≡ reg-of (d .use1) (length mid) → AsReg (length mid) (d .use1) m
+        words-made-on q = words-made 1 (omega arith) (one-put .size ∙ s) q
 
-      pub words-low-on : {mid : List ℕ} → mid ≡ put-in keep lo v (d .use0) st → (d .use1 ≡ absent) ⊎ (d .use1 < length mid)
-      words-low-on k = subst (λ (m : ℕ). (d .use1 ≡ absent) ⊎ (d .use1 < m)) (sym (words-size k)) (words-low 1 (omega arith))
-
-      pub words-stamped : {mid st′ : List ℕ} → mid ≡ put-in keep lo v (d .use0) st → st′ ≡ put-in keep lo v (d .use1) mid → Stamped (reads ops (inst recs (d .rec))) keep lo v st st′
-      words-stamped k l =
-          stamping-end (stamping-more (one-put k) b few refl (words-low-on k) l) b few words-placed (omega arith) (omega arith)
+        pub words-stamped : {m : MaybeReg} → m ≡ reg-of (d .use1) (length mid) → {st′ : List ℕ} → st′ ≡ put-in keep lo v (word-of m) mid → Stamped (reads ops (inst recs (d .rec))) keep lo v st st′
+        words-stamped q l =
+            let made = words-made-on q in
+            stamping-end (stamping-more one-put b few (made .word) (made .low) l) b few words-placed (omega arith) (omega arith)

@@ -1,10 +1,10 @@
 -- `summary::chain::read_place` meets its contract. Assumes nothing.
-use mathlib.Core.Path.{sym, ap, _∙_}
-use mathlib.Core.Bool.{Bool, cond}
+use mathlib.Core.Path.{ap, _∙_}
+use Prim.Native.Nat.{ℕ}
 use native.Mathlib.Omega.{arith}
-use Rattle.summary.specs.Passes.{read-place}
-use Rattle.summary.proofs.Reading.{place-slot, place-list, place-list-in, list-short}
 use Rattle.model.specs.Picture.{inst}
+use Rattle.inst.specs.Index.{reg-of}
+use Rattle.summary.proofs.Reading.{place-slot, place-list, place-list-in, list-short}
 use borrow.Author.Needs.{needs}
 use Rattle.summary.proofs.chain.read_place.Statement.{statement}
 use Rattle.summary.proofs.chain.read_place.Tie as tie
@@ -13,21 +13,43 @@ read-at-requires : tie.Need-read-at-requires
 read-at-requires c κs = search needs
 
 returns : tie.Need-returns
-returns c = place-slot _ _ _ (c .before .if1 .taken) (c .read-at .ensures)
+returns c =
+    let a = c .before .before .before .before .args in
+    c .read-at .ensures ∙ ap (λ (n : ℕ). reg-of n (a .count)) (place-slot (a .ops .now) (inst (a .recs .now) (a .g)) (a .k) (c .before .if1 .taken))
 
 list-requires : tie.Need-list-requires
 list-requires c κs = search needs
 
-mul-result : tie.Need-mul-result
-mul-result c = omega (arith, c .before .before .before .before .pre .2, list-short (c .before .before .before .before .args .ops .now) (inst (c .before .before .before .before .args .recs .now) (c .before .before .before .before .args .g)) (c .before .before .before .before .args .k))
+mul-new : tie.Need-mul-new
+mul-new c =
+    let at-entry = c .before .before .before .before in
+    let a = at-entry .args in
+    omega (arith, at-entry .pre .2, list-short (a .ops .now) (inst (a .recs .now) (a .g)) (a .k))
 
-shared-slice-read-result : tie.Need-shared-slice-read-result
-shared-slice-read-result c = place-list-in (c .before .before .before .before .before .args .ops .now) (inst (c .before .before .before .before .before .args .recs .now) (c .before .before .before .before .before .args .g)) _ (c .before .before .if1 .left) (c .before .list .ensures) (c .before .before .before .before .before .pre .2)
+shared-slice-read-new : tie.Need-shared-slice-read-new
+shared-slice-read-new c =
+    let at-entry = c .before .before .before .before .before in
+    let a = at-entry .args in
+    place-list-in (a .ops .now) (inst (a .recs .now) (a .g)) _ (c .before .before .if1 .left) (c .before .list .ensures) (at-entry .pre .2)
+
+new-requires : tie.Need-new-requires
+new-requires c κs = search needs
 
 returns-2 : tie.Need-returns-2
-returns-2 c = place-list _ _ _ (c .before .before .if1 .left) (c .before .list .ensures) (c .before .before .before .before .before .pre .2)
+returns-2 c =
+    let at-entry = c .before .before .before .before .before .before in
+    let a = at-entry .args in
+    c .new .ensures
+    ∙ ap (λ (n : ℕ). reg-of n (a .count)) (place-list (a .ops .now) (inst (a .recs .now) (a .g)) (a .k) (c .before .before .before .if1 .left) (c .before .before .list .ensures) (at-entry .pre .2))
 
 pub read-place-spec : {M : Type 1} → statement M
 read-place-spec =
     tie.close
-    (tie.spec read-at-requires returns list-requires mul-result shared-slice-read-result returns-2)
+    (tie.spec
+    read-at-requires
+    returns
+    list-requires
+    mul-new
+    shared-slice-read-new
+    new-requires
+    returns-2)

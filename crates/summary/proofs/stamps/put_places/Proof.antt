@@ -1,21 +1,19 @@
 -- `summary::stamps::put_places` meets its contract. Assumes nothing.
-use borrow.Author.Needs.{needs}
-use mathlib.Core.Path.{_≡_, sym, _∙_}
-use Prim.Native.Nat.{_≤_, _-_, _+_}
-use lib.ListN.{length}
+use Prim.Native.Nat.{_≤_, _-_}
 use native.Mathlib.Omega.{arith}
-use Rattle.model.specs.Picture.{inst, list-of}
+use Rattle.model.specs.Picture.{inst}
 use Rattle.summary.specs.Passes.{read-place}
-use Rattle.summary.proofs.Places.{reads-placed, Placed, place-low}
+use Rattle.summary.proofs.Places.{reads-placed, place-made}
 use Rattle.summary.proofs.Stamping.{Stamping, stamping-none, stamping-more, stamping-end}
+use borrow.Author.Needs.{needs}
 use Rattle.summary.proofs.stamps.put_places.Statement.{statement}
 use Rattle.summary.proofs.stamps.put_places.Tie as tie
 
 abbrev Inv-loop : tie.InvT-loop
-Inv-loop ops recs g uses st₀ keep lo v n k₀ st k = (k ≤ n) × Stamping (read-place ops (inst recs g)) keep lo v k st₀ st
+Inv-loop ops recs g uses st₀ d n k₀ st k = (k ≤ n) × Stamping (read-place ops (inst recs g)) (d .keep) (d .lo) (d .v) k st₀ st
 
 abbrev μ-loop : tie.MeasureT-loop
-μ-loop ops recs g uses st₀ keep lo v n k₀ st k = n - k
+μ-loop ops recs g uses st₀ d n k₀ st k = n - k
 
 places-requires : tie.Need-places-requires Inv-loop μ-loop
 places-requires c κs = search needs
@@ -24,10 +22,14 @@ loop-holds : tie.Need-loop-holds Inv-loop μ-loop
 loop-holds c = (omega arith, stamping-none _ _ _ _ _)
 
 read-place-requires : tie.Need-read-place-requires Inv-loop μ-loop
-read-place-requires c κs = (c .before .before .before .before .before .before .pre .0, c .before .before .before .before .before .before .pre .1 .listed, omega (arith, c .before .before .places .ensures))
+read-place-requires c κs =
+    let at-entry = c .before .before .before .before .before .before .before in
+    (at-entry .pre .0, at-entry .pre .1 .listed, omega (arith, c .before .before .before .places .ensures, c .before .loop-test .taken))
 
 put-requires : tie.Need-put-requires Inv-loop μ-loop
-put-requires c κs = (place-low (c .before .before .before .loop .st) (c .before .before .before .before .before .before .before .before .pre .1) (c .before .before .before .loop .inv .1 .size) (c .before .before .before .before .places .ensures) (c .before .before .loop-test .taken) (c .before .read-place .ensures), c .before .before .before .before .before .before .before .before .pre .2)
+put-requires c κs =
+    let at-entry = c .before .before .before .before .before .before .before .before in
+    (place-made (at-entry .pre .1) (c .before .before .before .loop .inv .1 .size) (c .before .before .before .before .places .ensures) (c .before .before .loop-test .taken) (c .read-place .ensures) .among, at-entry .pre .2)
 
 add-k : tie.Need-add-k Inv-loop μ-loop
 add-k c = search needs
@@ -36,13 +38,21 @@ loop-less : tie.Need-loop-less Inv-loop μ-loop
 loop-less c = search needs
 
 loop-again : tie.Need-loop-again Inv-loop μ-loop
-loop-again c = (omega arith, stamping-more (c .before .before .before .before .before .before .loop .inv .1) (c .before .before .before .before .before .before .before .before .before .before .before .pre .2) (c .before .before .before .before .before .before .before .before .before .before .before .pre .1 .fits .few) (c .before .before .before .before .read-place .ensures) (place-low (c .before .before .before .before .before .before .loop .st) (c .before .before .before .before .before .before .before .before .before .before .before .pre .1) (c .before .before .before .before .before .before .loop .inv .1 .size) (c .before .before .before .before .before .before .before .places .ensures) (c .before .before .before .before .before .loop-test .taken) (c .before .before .before .before .read-place .ensures)) (c .before .before .put .ensures))
+loop-again c =
+    let at-entry = c .before .before .before .before .before .before .before .before .before .before .before in
+    let so-far = c .before .before .before .before .before .before .loop .inv .1 in
+    let made = place-made (at-entry .pre .1) (so-far .size) (c .before .before .before .before .before .before .before .places .ensures) (c .before .before .before .before .before .loop-test .taken) (c .before .before .before .read-place .ensures) in
+    (omega arith, stamping-more so-far (at-entry .pre .2) (at-entry .pre .1 .fits .few) (made .word) (made .low) (c .before .before .put .ensures))
 
 same-length : tie.Need-same-length Inv-loop μ-loop
 same-length c = c .before .loop .inv .1 .size
 
 returns : tie.Need-returns Inv-loop μ-loop
-returns c = stamping-end (c .before .loop .inv .1) (c .before .before .before .before .before .before .pre .2) (c .before .before .before .before .before .before .pre .1 .fits .few) (reads-placed _ _ _ _ (c .before .before .before .before .before .before .pre .1)) (omega (arith, c .before .before .places .ensures, c .before .loop .inv .0)) (omega (arith, c .before .before .places .ensures, c .loop-test .left))
+returns c =
+    let at-entry = c .before .before .before .before .before .before in
+    let all = c .before .loop .inv in
+    let n = c .before .before .places .ensures in
+    stamping-end (all .1) (at-entry .pre .2) (at-entry .pre .1 .fits .few) (reads-placed _ _ _ _ (at-entry .pre .1)) (omega (arith, n, all .0)) (omega (arith, n, c .loop-test .left))
 
 pub put-places-spec : {M : Type 1} → statement M
 put-places-spec =

@@ -1,28 +1,38 @@
 -- `summary::stamps::put_reads` meets its contract. Assumes nothing.
 use native.Mathlib.Omega.{arith}
 use mathlib.Core.Path.{refl}
-use Rattle.summary.proofs.Wording.{good-at, places-at, places-stamped, words-low, words-low-on, words-stamped}
+use Rattle.summary.proofs.Wording.{good-at, places-at, places-stamped, words-made, words-made-on, words-stamped}
 use borrow.Author.Needs.{needs}
 use Rattle.summary.proofs.stamps.put_reads.Statement.{statement}
 use Rattle.summary.proofs.stamps.put_reads.Tie as tie
-use Rattle.summary.proofs.stamps.put_reads.Reads as reads
-use Rattle.summary.proofs.stamps.put_reads.Lts as lts
-use Rattle.inst.proofs.access.uses.Reads as uses-reads
-use Rattle.words.proofs.numbers.wide.Reads as wide-reads
-use Rattle.summary.proofs.stamps.put.Reads as put-reads
-use Rattle.summary.proofs.stamps.put_places.Reads as put-places-reads
+
+new-requires : tie.Need-new-requires
+new-requires c κs = search needs
 
 put-requires : tie.Need-put-requires
-put-requires c κs = (words-low (c .before .before .before .before .before .before .pre .1) (c .before .if1 .taken) 0 (omega arith), c .before .before .before .before .before .before .pre .2)
+put-requires c κs =
+    let at-entry = c .before .before .before .before .before .before .before in
+    (words-made (at-entry .pre .1) (c .before .before .if1 .taken) 0 (omega arith) refl (c .new .ensures) .among, at-entry .pre .2)
+
+new-requires-2 : tie.Need-new-requires-2
+new-requires-2 c κs = search needs
 
 put-requires-2 : tie.Need-put-requires-2
-put-requires-2 c κs = (words-low-on (c .before .before .before .before .before .before .before .before .before .before .pre .1) (c .before .before .before .before .before .if1 .taken) (c .before .before .before .before .before .before .before .before .before .before .args .st .now) (c .before .before .before .before .before .before .before .before .before .before .pre .2) refl (c .before .before .before .put .ensures), c .before .before .before .before .before .before .before .before .before .before .pre .2)
+put-requires-2 c κs =
+    let at-entry = c .before .before .before .before .before .before .before .before .before .before .before .before in
+    let more = c .before .before .before .before .before .before .before .if1 .taken in
+    let made = words-made-on (at-entry .pre .1) more (at-entry .args .st .now) (at-entry .pre .2) refl (c .before .before .before .before .before .new .ensures) (c .before .before .before .before .put .ensures) (c .new2 .ensures) in
+    (made .among, at-entry .pre .2)
 
 same-length : tie.Need-same-length
 same-length c = search needs
 
 returns : tie.Need-returns
-returns c = words-stamped (c .before .before .before .before .before .before .before .before .before .before .before .before .before .pre .1) (c .before .before .before .before .before .before .before .before .if1 .taken) (c .before .before .before .before .before .before .before .before .before .before .before .before .before .args .st .now) (c .before .before .before .before .before .before .before .before .before .before .before .before .before .pre .2) refl (c .before .before .before .before .before .before .put .ensures) (c .before .before .put2 .ensures)
+returns c =
+    let at-entry = c .before .before .before .before .before .before .before .before .before .before .before .before .before .before .before in
+    let more = c .before .before .before .before .before .before .before .before .before .before .if1 .taken in
+    words-stamped (at-entry .pre .1) more (at-entry .args .st .now) (at-entry .pre .2) refl
+    (c .before .before .before .before .before .before .before .before .new .ensures) (c .before .before .before .before .before .before .before .put .ensures) (c .before .before .before .new2 .ensures) (c .before .before .put2 .ensures)
 
 wide-requires : tie.Need-wide-requires
 wide-requires c κs = search needs
@@ -31,7 +41,10 @@ uses-requires : tie.Need-uses-requires
 uses-requires c κs = (c .before .before .before .before .before .before .pre .0, good-at (c .before .before .before .before .before .before .pre .1) (c .wide .ensures) .known)
 
 put-places-requires : tie.Need-put-places-requires
-put-places-requires c κs = let k = places-at (c .before .before .before .before .before .before .before .before .pre .1) (c .before .before .wide .ensures) (c .before .uses .ensures) in (k .0, k .1, c .before .before .before .before .before .before .before .before .pre .2)
+put-places-requires c κs =
+    let at-entry = c .before .before .before .before .before .before .before .before in
+    let k = places-at (at-entry .pre .1) (c .before .before .wide .ensures) (c .before .uses .ensures) in
+    (k .0, k .1, at-entry .pre .2)
 
 same-length-2 : tie.Need-same-length-2
 same-length-2 c = search needs
@@ -43,7 +56,9 @@ pub put-reads-spec : {M : Type 1} → statement M
 put-reads-spec =
     tie.close
     (tie.spec
+    new-requires
     put-requires
+    new-requires-2
     put-requires-2
     same-length
     returns
