@@ -14,7 +14,10 @@ use Rattle.words.specs.Lists.{lookup}
 use Rattle.words.proofs.Bools.{lt?}
 use mathlib.Core.Logic.{⊎-elim}
 use Rattle.model.specs.Picture.{absent}
+use Rattle.inst.specs.Index.{reg-of, word-of, Among}
+use Rattle.inst.specs.declared.index.MaybeReg.{MaybeReg}
 use Rattle.model.specs.Move.{Pool, release, gives}
+use Rattle.pool.proofs.Registers.{among-made, word-made}
 use Rattle.pool.specs.Pool.{Is, Turn, Ready, Positioned, Allotted, Allots, mark-at, last-at, wrote-at, new-at, after, typed, start, reg-or, regs-of, grow-if, piled}
 
 -- ---- one position
@@ -30,17 +33,28 @@ position-none z = record {
   marked = λ f. absurd (f z);
 }
 
-pub position-some : {p p′ nh nf next reg nh′ nf′ next′ : ℕ} {types w xs ys : List ℕ} → (mark-at w p ≡ 0 → ⊥) → p′ ≡ p
-    → Turn 800 p′ (last-at w p) (wrote-at w p) nh nf next types xs ys reg nh′ nf′ next′ → Positioned p nh nf next types w (set w (10 * p + 9) reg) xs ys nh′ nf′ next′
-position-some {p} {p′} {nh} {nf} {next} {reg} {nh′} {nf′} {next′} {types} {w} {xs} {ys} nz e t = record {
+pub position-some : {p p′ d nh nf next reg nh′ nf′ next′ : ℕ} {types w xs ys : List ℕ} → (mark-at w p ≡ 0 → ⊥) → p′ ≡ p → d ≡ wrote-at w p
+    → Turn 800 p′ (last-at w p) d nh nf next types xs ys reg nh′ nf′ next′ → Positioned p nh nf next types w (set w (10 * p + 9) reg) xs ys nh′ nf′ next′
+position-some {p} {p′} {d} {nh} {nf} {next} {reg} {nh′} {nf′} {next′} {types} {w} {xs} {ys} nz e ed t = record {
   pool-size = t .size;
   reg = reg;
   stored = refl;
   room = t .room;
   small = t .small;
   unmarked = λ z. absurd (nz z);
-  marked = λ f. subst (λ (k : ℕ). Turn 800 k (last-at w p) (wrote-at w p) nh nf next types xs ys reg nh′ nf′ next′) e t;
+  marked = λ f. subst (λ (k : ℕ). Turn 800 p (last-at w p) k nh nf next types xs ys reg nh′ nf′ next′) ed
+      (subst (λ (k : ℕ). Turn 800 k (last-at w p) d nh nf next types xs ys reg nh′ nf′ next′) e t);
 }
+
+-- the register that a position writes
+module _ {R m p c : ℕ} {types w : List ℕ} {d : MaybeReg} (r : Ready R m types w) (lt : p < m) (made : d ≡ reg-of (wrote-at w p) c) (is : c ≡ R) where
+  pub wrote-word : word-of d ≡ wrote-at w p
+  wrote-word = word-made (wrote-at w p) R made is (r .wrote-ok p lt)
+
+  pub wrote-asks : Among (length types) d × ((word-of d ≡ absent → ⊥) → getD types (word-of d) 0 < 8)
+  wrote-asks =
+      let few = r .few-regs in
+      (among-made (wrote-at w p) R made is (length types) (omega arith) (r .regs), λ nt. subst (λ (k : ℕ). getD types k 0 < 8) (sym wrote-word) (r .types-ok _ (r .wrote-ok p lt (λ z. nt (wrote-word ∙ z)))))
 
 -- ---- the words of the others
 

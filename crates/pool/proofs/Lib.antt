@@ -1,3 +1,4 @@
+pub mod Registers
 pub mod Releases
 pub mod Founds
 pub mod Lows

@@ -48,7 +48,7 @@ released-is {R} {m} {p} {nh} {nf} {next} {g} {types} {xs} {ys} {s} i r =
       low = low-release p s (i .low);
     }
 
-pub turn-none : {m p until d nh nf next g : ℕ} {types xs ys : List ℕ} → Released p m nf xs ys nh g → d ≡ absent → next < 131000 → Turn m p until d nh nf next types xs ys d (nh - g) (nf + g) next
+pub turn-none : {m p until d nh nf next g : ℕ} {types xs ys : List ℕ} → Released p m nf xs ys nh g → d ≡ absent → next < 131000 → Turn m p until d nh nf next types xs ys absent (nh - g) (nf + g) next
 turn-none {m} {p} {until} {d} {nh} {nf} {next} {g} {types} {xs} {ys} r e few =
     let t : eqb d absent ≡ true = eq-eqb d absent e in
     let small = r .small in
@@ -56,14 +56,14 @@ turn-none {m} {p} {until} {d} {nh} {nf} {next} {g} {types} {xs} {ys} r e few =
       size = r .size;
       room = omega arith;
       small = omega arith;
-      none-is = λ q. q;
+      none-is = λ q. refl;
       some-is = λ q. absurd (q e);
       step = λ R s i within.
-          subst (Turned R m types ys (nh - g) (nf + g) next p d d s) (sym (ap (λ (b : Bool). gives p until (release p s) (cond b [] (d ∷ []))) t))
+          subst (Turned R m types ys (nh - g) (nf + g) next p d absent s) (sym (ap (λ (b : Bool). gives p until (release p s) (cond b [] (d ∷ []))) t))
           (record {
             is = released-is i r;
-            given-is = sym (ap (λ (b : Bool). cond b (s .given) ((p, d) ∷ s .given)) t);
-            types-is = sym (ap (λ (b : Bool). grow-if b (s .types) (getD types d 0)) (ne-eqb d (length (s .types)) (λ q. omega (arith, i .next-is))));
+            given-is = sym (ap (λ (b : Bool). cond b (s .given) ((p, absent) ∷ s .given)) t);
+            types-is = sym (ap (λ (b : Bool). grow-if b (s .types) (getD types d 0)) (ne-eqb absent (length (s .types)) (λ q. omega (arith, i .next-is))));
           });
     }
 

@@ -10,6 +10,10 @@ use borrow.Author.Tests.{eq-eqb, ne-eqb, eqb-true}
 use lib.Dec.{eqb}
 use lib.ListN.{length, take, drop, getD, set, length-set, length-append, length-drop, take-append-drop, List·getD-append}
 use lib.Seq.{drop-cons, set-append-seam, append-snoc, getD-take, length-take-le}
+use Rattle.model.specs.Picture.{absent}
+use Rattle.inst.specs.Index.{reg-of, word-of, Among}
+use Rattle.inst.specs.declared.index.MaybeReg.{MaybeReg}
+use Rattle.pool.proofs.Registers.{among-made, word-made}
 use Rattle.pool.specs.Pool.{grow-if, typed, width, one-if, new-at, wrote-at}
 use Rattle.pool.specs.Types.{over, TypeAdded, TypesFit}
 use Rattle.pool.proofs.Lows.{grown-length}
@@ -148,8 +152,8 @@ module _ {R m n p : ℕ} {T w xs : List ℕ} (f : TypesFit R m T w) (t : Typing 
   in-use : reg ≡ n → d < R
   in-use e = f .wrote-ok p lt (let a = fits in let b = next-grows T w (take R T) p in let c = t .count in let q = f .small in omega arith)
 
-  pub typing-ok : reg ≡ n → (d < length xs) × (n + width (getD xs d 0) ≤ length xs)
-  typing-ok e =
+  room-for : reg ≡ n → n + width (getD xs d 0) ≤ length xs
+  room-for e =
       let h = in-use e in
       let r = f .regs in
       let s = t .size in
@@ -159,12 +163,28 @@ module _ {R m n p : ℕ} {T w xs : List ℕ} (f : TypesFit R m T w) (t : Typing 
       ∙ grown-length now-types (getD T d 0) ∙ ap (λ (k : ℕ). k + width (getD T d 0)) c in
       let q : width (getD xs d 0) ≡ width (getD T d 0) = ap width (type-same h) in
       let z = fits in
-      (omega arith, omega arith)
+      omega arith
 
-  pub typing-more : {ys : List ℕ} {r : ℕ} → TypeAdded n d reg xs ys r → Typing R m T w ys r (p + 1)
-  typing-more {ys} {r} a =
+  -- the register that the position writes, by its range test
+  word-there : {k : MaybeReg} → k ≡ reg-of d R → reg ≡ n → word-of k ≡ d
+  word-there made e = word-made d R made refl (λ nt. in-use e)
+
+  pub typing-ok : {k : MaybeReg} → k ≡ reg-of d R → Among (length xs) k × (reg ≡ n → (word-of k ≡ absent → ⊥) × (n + width (getD xs (word-of k) 0) ≤ length xs))
+  typing-ok {k} made =
+      let r = f .regs in
+      let s = t .size in
+      let few = f .small in (
+        among-made d R made refl (length xs) (omega arith) (omega arith),
+        λ e.
+            let h = in-use e in
+            let q = word-there made e in
+            (λ z. omega arith, subst (λ (j : ℕ). n + width (getD xs j 0) ≤ length xs) (sym q) (room-for e)),
+      )
+
+  pub typing-more : {k : MaybeReg} {ys : List ℕ} {r : ℕ} → k ≡ reg-of d R → TypeAdded n (word-of k) reg xs ys r → Typing R m T w ys r (p + 1)
+  typing-more {k} {ys} {r} made a =
       let s = a .step now-types T (t .is) (t .count) in
-      let same : grow-if (eqb reg n) now-types (getD xs d 0) ≡ typed T w (suc p) (take R T) =
+      let same : grow-if (eqb reg n) now-types (getD xs (word-of k) 0) ≡ typed T w (suc p) (take R T) =
       go (eqb reg n) refl ∙ ap (λ (k : ℕ). grow-if (eqb reg k) now-types (getD T d 0)) (sym (t .count)) ∙ sym (typed-next T w (take R T) p) in
       subst (Typing R m T w ys r) (sym (add-one p)) (record {
         high = lt;
@@ -173,9 +193,11 @@ module _ {R m n p : ℕ} {T w xs : List ℕ} (f : TypesFit R m T w) (t : Typing 
         size = a .size ∙ t .size;
       })
     where
-      go : (b : Bool) → eqb reg n ≡ b → grow-if (eqb reg n) now-types (getD xs d 0) ≡ grow-if (eqb reg n) now-types (getD T d 0)
-      go true e = ap (grow-if (eqb reg n) now-types) (type-same (in-use (eqb-true reg n e)))
-      go false e = ap (λ (c : Bool). grow-if c now-types (getD xs d 0)) e ∙ sym (ap (λ (c : Bool). grow-if c now-types (getD T d 0)) e)
+      go : (b : Bool) → eqb reg n ≡ b → grow-if (eqb reg n) now-types (getD xs (word-of k) 0) ≡ grow-if (eqb reg n) now-types (getD T d 0)
+      go true e =
+          let is = eqb-true reg n e in
+          ap (grow-if (eqb reg n) now-types) (ap (λ (j : ℕ). getD xs j 0) (word-there made is) ∙ type-same (in-use is))
+      go false e = ap (λ (c : Bool). grow-if c now-types (getD xs (word-of k) 0)) e ∙ sym (ap (λ (c : Bool). grow-if c now-types (getD T d 0)) e)
 
 pub typing-end : {R m n p : ℕ} {T w xs : List ℕ} → Typing R m T w xs n p → m ≤ p → (xs ≡ over (typed T w m (take R T)) T) × (n ≡ length (typed T w m (take R T)))
 typing-end {R} {m} {n} {p} {T} {w} {xs} t l =

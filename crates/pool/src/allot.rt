@@ -1,9 +1,18 @@
-// Every member's turn, in order (01, "The move"). Position p of the chain has ten work words from 10 p on: word 6 its mark, word
-// 7 its last use, word 8 the register it writes or absent, and word 9, which is written here, its new register or absent.
+// Every member's turn, in order (01, "The move"). Of the work words of a position its mark, its last use and the register that it
+// writes are read, and its new register is written.
+use crate::held::POOL;
 use crate::turn::Count;
+use crate::turn::Member;
 use crate::turn::turn;
+use inst::index::Reg;
 use model::ABSENT;
+use position::DEF;
+use position::LAST;
+use position::MARK;
+use position::NEW;
+use position::PLACE;
 use words::numbers::narrow;
+use words::numbers::wide;
 ghost use mathlib.Core.Path.{_≡_};
 ghost use Prim.Native.Nat.{_+_, _*_, _≤_, _<_};
 ghost use lib.ListN.{length};
@@ -22,13 +31,17 @@ fn position(
     requires { ⌜ Ready r m (now types) (now w) × (p < m) × (n .nh + n .nf ≤ p) × (n .next ≤ r + 2 * p) × (1600 ≤ length (now pool)) ⌝ }
     ensures { λ k. ⌜ Positioned p (n .nh) (n .nf) (n .next) (now (types .entry)) (now (w .entry)) (now (w .exit)) (now (pool .entry)) (now (pool .exit)) (k .nh) (k .nf) (k .next) ⌝ }
 {
-    let b = 10 * p;
-    if w[b + 6] == 0 {
-        w[b + 9] = ABSENT;
+    let b = PLACE * p;
+    if w[b + MARK] == 0 {
+        w[b + NEW] = ABSENT;
         return n;
     }
-    let g = turn(pool, n, narrow(p), w[b + 7], w[b + 8], types);
-    w[b + 9] = g.reg;
+    let m = Member {
+        at: narrow(p),
+        until: w[b + LAST],
+    };
+    let g = turn(pool, n, m, Reg::new(w[b + DEF], wide(r)), types);
+    w[b + NEW] = g.reg;
     g.n
 }
 
@@ -37,7 +50,7 @@ pub fn allot(w: &mut [u32], m: usize, r: u32, types: &[u32]) -> u32
     requires { ⌜ Ready r m (now types) (now w) ⌝ }
     ensures { λ k. ⌜ Allots r m (now (types .entry)) (now (w .entry)) (now (w .exit)) k ⌝ }
 {
-    let mut pool = [0u32; 1600];
+    let mut pool = [0u32; POOL];
     let mut n = Count {
         nh: 0,
         nf: 0,

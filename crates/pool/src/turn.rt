@@ -5,11 +5,12 @@ use crate::free::remove;
 use crate::held::FREE;
 use crate::held::UNTIL;
 use crate::held::release;
+use inst::index::MaybeReg;
 use model::ABSENT;
-use words::numbers::wide;
 ghost use mathlib.Core.Path.{_≡_};
 ghost use Prim.Native.Nat.{_+_, _≤_, _<_};
 ghost use lib.ListN.{length, getD};
+ghost use Rattle.inst.specs.Index.{word-of, Among};
 ghost use Rattle.pool.specs.Pool.{Gave, Turn, width};
 
 // How many registers are held, and free, and which is the next.
@@ -19,7 +20,14 @@ pub struct Count {
     pub next: u32,
 }
 
-// A register that was given, or absent, and the counts then.
+// A member's position, and its last use.
+pub struct Member {
+    pub at: u32,
+    pub until: u32,
+}
+
+// A register that was given, or absent, and the counts then. It is a word and no `Reg`: a new one is not below the count in use, and
+// until its type is written nothing goes by it.
 pub struct Given {
     pub reg: u32,
     pub n: Count,
@@ -68,35 +76,25 @@ fn give(pool: &mut [u32], n: Count, until: u32, ty: u32) -> Given
     }
 }
 
-// Member p's turn: registers whose last reader is before it become free; then its own, for the register d that it writes, if any.
-pub fn turn(pool: &mut [u32], n: Count, p: u32, until: u32, d: u32, types: &[u32]) -> Given
-    requires { ⌜ (n .nh + n .nf < 800) × (until < 4096) × (n .next < 131000) × (1600 ≤ length (now pool)) ⌝ }
-    requires { ⌜ ((d ≡ 4294967295 → ⊥) → (d < length (now types)) × (getD (now types) d 0 < 8)) ⌝ }
-    ensures { λ r. ⌜ Turn 800 p until d (n .nh) (n .nf) (n .next) (now (types .entry)) (now (pool .entry)) (now (pool .exit)) (r .reg) (r .n .nh) (r .n .nf) (r .n .next) ⌝ }
+// The turn of member m: registers whose last reader is before it become free; then its own, for the register d that it writes, if any.
+pub fn turn(pool: &mut [u32], n: Count, m: Member, d: MaybeReg, types: &[u32]) -> Given
+    requires { ⌜ (n .nh + n .nf < 800) × (m .until < 4096) × (n .next < 131000) × (1600 ≤ length (now pool)) ⌝ }
+    requires { ⌜ Among (length (now types)) d × ((word-of d ≡ 4294967295 → ⊥) → getD (now types) (word-of d) 0 < 8) ⌝ }
+    ensures { λ r. ⌜ Turn 800 (m .at) (m .until) (word-of d) (n .nh) (n .nf) (n .next) (now (types .entry)) (now (pool .entry)) (now (pool .exit)) (r .reg) (r .n .nh) (r .n .nf) (r .n .next) ⌝ }
 {
     let nh = n.nh;
     let nf = n.nf;
-    let next = n.next;
-    let g = release(pool, nh, nf, p);
-    if d == ABSENT {
+    let g = release(pool, nh, nf, m.at);
+    let rest = Count {
+        nh: nh - g,
+        nf: nf + g,
+        next: n.next,
+    };
+    let MaybeReg::Is(k) = d else {
         return Given {
-            reg: d,
-            n: Count {
-                nh: nh - g,
-                nf: nf + g,
-                next: next,
-            },
+            reg: ABSENT,
+            n: rest,
         };
-    }
-    let ty = types[wide(d)];
-    give(
-        pool,
-        Count {
-            nh: nh - g,
-            nf: nf + g,
-            next: next,
-        },
-        until,
-        ty,
-    )
+    };
+    give(pool, rest, m.until, types[k.at()])
 }

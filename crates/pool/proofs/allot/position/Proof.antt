@@ -1,6 +1,6 @@
 -- `pool::allot::position` meets its contract. Assumes nothing.
 use native.Mathlib.Omega.{arith}
-use Rattle.pool.proofs.Allots.{position-none, position-some}
+use Rattle.pool.proofs.Allots.{position-none, position-some, wrote-word, wrote-asks}
 use borrow.Author.Needs.{needs}
 use Rattle.pool.proofs.allot.position.Statement.{statement}
 use Rattle.pool.proofs.allot.position.Tie as tie
@@ -35,27 +35,36 @@ returns c = position-none (c .if1 .taken)
 narrow-requires : tie.Need-narrow-requires
 narrow-requires c κs = search needs
 
-add-turn : tie.Need-add-turn
-add-turn c = search needs
+add-t11 : tie.Need-add-t11
+add-t11 c = search needs
 
-mul-turn : tie.Need-mul-turn
-mul-turn c = search needs
+mul-t12 : tie.Need-mul-t12
+mul-t12 c = search needs
 
-slice-read-turn : tie.Need-slice-read-turn
-slice-read-turn c = search needs
+slice-read-t20 : tie.Need-slice-read-t20
+slice-read-t20 c = search needs
 
-add-turn-2 : tie.Need-add-turn-2
-add-turn-2 c = search needs
+add-new : tie.Need-add-new
+add-new c = search needs
 
-mul-turn-2 : tie.Need-mul-turn-2
-mul-turn-2 c = search needs
+mul-new : tie.Need-mul-new
+mul-new c = search needs
 
-slice-read-turn-2 : tie.Need-slice-read-turn-2
-slice-read-turn-2 c = search needs
+slice-read-new : tie.Need-slice-read-new
+slice-read-new c = search needs
+
+wide-requires : tie.Need-wide-requires
+wide-requires c κs = search needs
+
+new-requires : tie.Need-new-requires
+new-requires c κs = search needs
 
 turn-requires : tie.Need-turn-requires
-turn-requires c κs = let q = c .before .before .before .before .before .before .before .before .before .pre in let r = q .0 in let p = c .before .before .before .before .before .before .before .before .before .args .p in
-    ((omega (arith, r .few), r .until-ok p (q .1), omega (arith, r .few, r .few-regs), q .4), λ nt. (omega (arith, r .wrote-ok p (q .1) nt, r .regs), r .types-ok _ (r .wrote-ok p (q .1) nt)))
+turn-requires c κs =
+    let q = c .before .before .before .before .before .before .before .before .before .before .before .pre in
+    let r = q .0 in
+    let p = c .before .before .before .before .before .before .before .before .before .before .before .args .p in
+    ((omega (arith, r .few), r .until-ok p (q .1), omega (arith, r .few, r .few-regs), q .4), wrote-asks r (q .1) (c .new .ensures) (c .before .wide .ensures))
 
 add-w-2 : tie.Need-add-w-2
 add-w-2 c = search needs
@@ -73,7 +82,10 @@ same-length-3 : tie.Need-same-length-3
 same-length-3 c = search needs
 
 returns-2 : tie.Need-returns-2
-returns-2 c = position-some (c .before .before .before .before .before .before .before .before .if1 .left) (c .before .before .before .before .before .before .narrow .ensures) (c .before .before .before .turn .ensures)
+returns-2 c =
+    let q = c .before .before .before .before .before .before .before .before .before .before .before .before .before .before .before .pre in
+    let word = wrote-word (q .0) (q .1) (c .before .before .before .before .new .ensures) (c .before .before .before .before .before .wide .ensures) in
+    position-some (c .before .before .before .before .before .before .before .before .before .before .if1 .left) (c .before .before .before .before .before .before .before .before .before .narrow .ensures) word (c .before .before .before .turn .ensures)
 
 pub position-spec : {M : Type 1} → statement M
 position-spec =
@@ -89,12 +101,14 @@ position-spec =
     same-length
     returns
     narrow-requires
-    add-turn
-    mul-turn
-    slice-read-turn
-    add-turn-2
-    mul-turn-2
-    slice-read-turn-2
+    add-t11
+    mul-t12
+    slice-read-t20
+    add-new
+    mul-new
+    slice-read-new
+    wide-requires
+    new-requires
     turn-requires
     add-w-2
     mul-w-2

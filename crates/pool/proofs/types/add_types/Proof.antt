@@ -1,7 +1,7 @@
 -- `pool::types::add_types` meets its contract. Assumes nothing.
-use borrow.Author.Needs.{needs}
 use Prim.Native.Nat.{_-_}
 use Rattle.pool.proofs.Typing.{Typing, typing-none, typing-ok, typing-more, typing-end}
+use borrow.Author.Needs.{needs}
 use Rattle.pool.proofs.types.add_types.Statement.{statement}
 use Rattle.pool.proofs.types.add_types.Tie as tie
 
@@ -14,32 +14,32 @@ abbrev μ-loop : tie.MeasureT-loop
 loop-holds : tie.Need-loop-holds Inv-loop μ-loop
 loop-holds c = typing-none (c .before .before .pre)
 
-mul-add-type : tie.Need-mul-add-type Inv-loop μ-loop
-mul-add-type c = search needs
+mul-b : tie.Need-mul-b Inv-loop μ-loop
+mul-b c = search needs
+
+add-new : tie.Need-add-new Inv-loop μ-loop
+add-new c = search needs
+
+mul-new : tie.Need-mul-new Inv-loop μ-loop
+mul-new c = search needs
+
+shared-slice-read-new : tie.Need-shared-slice-read-new Inv-loop μ-loop
+shared-slice-read-new c = search needs
+
+new-requires : tie.Need-new-requires Inv-loop μ-loop
+new-requires c κs = search needs
 
 add-add-type : tie.Need-add-add-type Inv-loop μ-loop
 add-add-type c = search needs
 
-mul-add-type-2 : tie.Need-mul-add-type-2 Inv-loop μ-loop
-mul-add-type-2 c = search needs
+mul-add-type : tie.Need-mul-add-type Inv-loop μ-loop
+mul-add-type c = search needs
 
 shared-slice-read-add-type : tie.Need-shared-slice-read-add-type Inv-loop μ-loop
 shared-slice-read-add-type c = search needs
 
-mul-add-type-3 : tie.Need-mul-add-type-3 Inv-loop μ-loop
-mul-add-type-3 c = search needs
-
-add-add-type-2 : tie.Need-add-add-type-2 Inv-loop μ-loop
-add-add-type-2 c = search needs
-
-mul-add-type-4 : tie.Need-mul-add-type-4 Inv-loop μ-loop
-mul-add-type-4 c = search needs
-
-shared-slice-read-add-type-2 : tie.Need-shared-slice-read-add-type-2 Inv-loop μ-loop
-shared-slice-read-add-type-2 c = search needs
-
 add-type-requires : tie.Need-add-type-requires Inv-loop μ-loop
-add-type-requires c κs = typing-ok (c .before .before .before .before .before .before .before .pre) (c .before .before .before .before .loop .inv) (c .before .before .before .loop-test .taken)
+add-type-requires c κs = typing-ok (c .before .before .before .before .before .before .before .before .pre) (c .before .before .before .before .before .loop .inv) (c .before .before .before .before .loop-test .taken) (c .before .new .ensures)
 
 add-p : tie.Need-add-p Inv-loop μ-loop
 add-p c = search needs
@@ -48,7 +48,7 @@ loop-less : tie.Need-loop-less Inv-loop μ-loop
 loop-less c = search needs
 
 loop-again : tie.Need-loop-again Inv-loop μ-loop
-loop-again c = typing-more (c .before .before .before .before .before .before .before .before .before .before .pre) (c .before .before .before .before .before .before .before .loop .inv) (c .before .before .before .before .before .before .loop-test .taken) (c .before .before .add-type .ensures)
+loop-again c = typing-more (c .before .before .before .before .before .before .before .before .before .before .before .pre) (c .before .before .before .before .before .before .before .before .loop .inv) (c .before .before .before .before .before .before .before .loop-test .taken) (c .before .before .before .before .new .ensures) (c .before .before .add-type .ensures)
 
 same-length : tie.Need-same-length Inv-loop μ-loop
 same-length c = c .before .loop .inv .size
@@ -63,14 +63,14 @@ add-types-spec =
     Inv-loop
     μ-loop
     loop-holds
-    mul-add-type
+    mul-b
+    add-new
+    mul-new
+    shared-slice-read-new
+    new-requires
     add-add-type
-    mul-add-type-2
+    mul-add-type
     shared-slice-read-add-type
-    mul-add-type-3
-    add-add-type-2
-    mul-add-type-4
-    shared-slice-read-add-type-2
     add-type-requires
     add-p
     loop-less
