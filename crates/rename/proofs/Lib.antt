@@ -10,3 +10,4 @@ pub mod Passing
 pub mod Owning
 pub mod Counting
 pub mod Whole
+pub mod Positions

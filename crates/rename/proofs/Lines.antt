@@ -29,6 +29,7 @@ used-is l e = record { within = l .known .within; uses = e }
 pub line-fit : {q u o mark d nw does : ℕ} {ws xs ops : List ℕ} → Pass q u o ws mark d nw xs ops → (mark ≡ 0 → ⊥) → does ≡ uses-of (inst xs q) → Fit q does u o ws nw xs ops
 line-fit p f e = record {
   known = used-is (p .line) e;
+  few-regs = p .line .few-regs;
   slots-ok = p .line .slots-ok;
   list-ok = p .line .list-ok;
   used = p .used;
@@ -58,6 +59,7 @@ module _ {R R′ u q : ℕ} {xs : List ℕ} (ys : List ℕ) (size : length ys �
   pub line-still : Line R′ u ys q
   line-still = record {
     known = record { within = record { whole = let a = l .known .within .whole in omega arith }; kind = subst (λ (i : Inst). getD i 0 0 < 101) (sym still) (l .known .kind) };
+    few-regs = subst (λ (z : ℕ). z ≤ absent) (sym e) (l .few-regs);
     slots-ok = λ s h.
         let same : getD ys (16 * q + 2 + s) 0 ≡ getD xs (16 * q + 2 + s) 0 =
         ap (λ (x : ℕ). getD ys x 0) {x = 16 * q + 2 + s} {y = 16 * q + (2 + s)} (omega arith) ∙ word (2 + s) (omega arith) ∙ ap (λ (x : ℕ). getD xs x 0) {x = 16 * q + (2 + s)} {y = 16 * q + 2 + s} (omega arith) in

@@ -11,6 +11,11 @@ use Rattle.model.specs.Move.{Job, made, changes, more-of}
 use Rattle.inst.specs.Table.{two-bits}
 use Rattle.inst.specs.Record.{Used, write-at, present}
 
+-- what is asked for some number of operands that were in use at first
+pub record Some (P : ℕ → Type 0) : Type 0 where
+  pub u : ℕ
+  pub is : P u
+
 -- ---- names
 
 abbrev pub reg-or : ℕ → ℕ → ℕ
@@ -74,6 +79,7 @@ job i ws nw = record { old = i; rd = named ws; wr = reg-or nw }
 -- what is asked of record p: u operands were in use at first, o are now
 pub record Fit (p uses u o : ℕ) (ws : List ℕ) (nw : ℕ) (recs ops : List ℕ) : Type 0 where
   pub known : Used recs p uses
+  pub few-regs : length ws ≤ absent
   pub slots-ok : (s : ℕ) → s < 5 → (getD recs (16 * p + 2 + s) 0 ≡ absent → ⊥) → getD recs (16 * p + 2 + s) 0 < length ws
   pub list-ok : getD recs (16 * p + 7) 0 + getD recs (16 * p + 8) 0 ≤ u
   pub used : u ≤ o

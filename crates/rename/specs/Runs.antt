@@ -9,6 +9,8 @@ use Rattle.words.specs.Lists.{mem, range, upto, filter}
 use Rattle.model.specs.Picture.{inst, absent, writes}
 use Rattle.model.specs.Move.{Job, made-all, appended, changes, own-jobs}
 use Rattle.inst.specs.Record.{Known}
+use Rattle.inst.specs.Index.{reg-of}
+use Rattle.inst.specs.declared.index.MaybeReg.{MaybeReg}
 use Rattle.pool.specs.Pool.{mark-at, wrote-at, new-at}
 use Rattle.rename.specs.Names.{part, named, reg-or, pick, job, Remade}
 
@@ -16,6 +18,7 @@ use Rattle.rename.specs.Names.{part, named, reg-or, pick, job, Remade}
 
 pub record Line (R u : ℕ) (xs : List ℕ) (q : ℕ) : Type 0 where
   pub known : Known xs q
+  pub few-regs : R ≤ absent
   pub slots-ok : (s : ℕ) → s < 5 → (getD xs (16 * q + 2 + s) 0 ≡ absent → ⊥) → getD xs (16 * q + 2 + s) 0 < R
   pub list-ok : getD xs (16 * q + 7) 0 + getD xs (16 * q + 8) 0 ≤ u
 
@@ -71,6 +74,12 @@ abbrev pub gone-jobs : (ℕ → ℕ) → List ℕ → List ℕ → ℕ → ℕ �
 gone-jobs rd w xs lo p = map (gone-job rd w xs lo) (filter (goes w) (upto p))
 
 -- ---- one position
+
+-- what its words say, of count registers
+pub record Parted (w : List ℕ) (p count : ℕ) (mark : ℕ) (def : MaybeReg) (new : ℕ) : Type 0 where
+  pub mark-is : mark ≡ mark-at w p
+  pub def-is : def ≡ reg-of (wrote-at w p) count
+  pub new-is : new ≡ new-at w p
 
 pub record Pass (q u o : ℕ) (ws : List ℕ) (mark d nw : ℕ) (xs ops : List ℕ) : Type 0 where
   pub line : Line (length ws) u xs q

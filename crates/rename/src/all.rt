@@ -2,6 +2,8 @@
 use crate::count::count_target;
 use crate::count::count_x;
 use crate::names::clear;
+use crate::parts::Head;
+use crate::parts::Span;
 use crate::walk::own_all;
 use crate::walk::pass_all;
 use crate::walk::skip_all;
@@ -10,53 +12,56 @@ ghost use Prim.Native.Nat.{_+_, _*_, _≤_};
 ghost use lib.ListN.{length};
 ghost use Rattle.model.specs.Move.{appended};
 ghost use Rattle.inst.specs.Table.{rows};
+ghost use Rattle.rename.specs.Names.{Some};
 ghost use Rattle.rename.specs.Runs.{Run};
 ghost use Rattle.rename.specs.All.{AskAll, all-places, all-jobs};
 
-// How many operands the move would append. The chain has n positions, the first m of them in x, whose records start at lo; the
-// target's records are a to e; u operands are in use.
+// How many operands the move would append. The chain has n positions, the first ones those of x; the target's records are s.
 pub fn count_all(
     t: &[u32; 202],
     recs: &[u32],
-    lo: usize,
-    m: usize,
+    x: Head,
     n: usize,
-    a: usize,
-    e: usize,
+    s: Span,
     ops: &[u32],
-    u: usize,
     names: &mut [u64],
     w: &[u32],
 ) -> usize
-    requires { ⌜ (now t ≡ rows) × AskAll u lo m n a e (length (now names)) (now recs) (now ops) (now w) ⌝ }
-    ensures { λ r. ⌜ (r ≡ length (appended (now (ops .entry)) (all-jobs (now (w .entry)) (now (recs .entry)) lo m n a e))) × (r ≤ 4294967295 * 131072) ⌝ }
+    requires { ⌜ (now t ≡ rows) × Some (λ u. AskAll u (x .from) (x .count) n (s .from) (s .past) (length (now names)) (now recs) (now ops) (now w)) ⌝ }
+    ensures { λ r. ⌜ (r ≡ length (appended (now (ops .entry)) (all-jobs (now (w .entry)) (now (recs .entry)) (x .from) (x .count) n (s .from) (s .past)))) × (r ≤ 4294967295 * 131072) ⌝ }
 {
     clear(names);
-    let k = count_x(t, recs, lo, m, ops, u, names, w);
-    skip_all(t, recs, w, m, n, names, u);
-    count_target(t, recs, a, e, ops, u, names, k)
+    let k = count_x(t, recs, x, ops, names, w);
+    let rest = Span {
+        from: x.count,
+        past: n,
+    };
+    skip_all(t, recs, w, rest, names);
+    count_target(t, recs, s, ops, names, k)
 }
 
-// The members and the target's own records made anew where they lie. Returns the operands in use then.
+// The members and the target's own records made anew where they lie, where u operands are in use. Returns how many are then.
 pub fn rename_all(
     t: &[u32; 202],
     recs: &mut [u32],
-    lo: usize,
-    m: usize,
+    x: Head,
     n: usize,
-    a: usize,
-    e: usize,
+    s: Span,
     ops: &mut [u32],
     u: usize,
     names: &mut [u64],
     w: &[u32],
 ) -> usize
-    requires { ⌜ (now t ≡ rows) × AskAll u lo m n a e (length (now names)) (now recs) (now ops) (now w) ⌝ }
-    requires { ⌜ u + length (appended (now ops) (all-jobs (now w) (now recs) lo m n a e)) ≤ length (now ops) ⌝ }
-    ensures { λ r. ⌜ Run u (all-places (now (w .entry)) lo m a e) (all-jobs (now (w .entry)) (now (recs .entry)) lo m n a e) (now (recs .entry)) (now (recs .exit)) (now (ops .entry)) (now (ops .exit)) r ⌝ }
+    requires { ⌜ (now t ≡ rows) × AskAll u (x .from) (x .count) n (s .from) (s .past) (length (now names)) (now recs) (now ops) (now w) ⌝ }
+    requires { ⌜ u + length (appended (now ops) (all-jobs (now w) (now recs) (x .from) (x .count) n (s .from) (s .past))) ≤ length (now ops) ⌝ }
+    ensures { λ r. ⌜ Run u (all-places (now (w .entry)) (x .from) (x .count) (s .from) (s .past)) (all-jobs (now (w .entry)) (now (recs .entry)) (x .from) (x .count) n (s .from) (s .past)) (now (recs .entry)) (now (recs .exit)) (now (ops .entry)) (now (ops .exit)) r ⌝ }
 {
     clear(names);
-    let o = pass_all(t, recs, lo, m, ops, u, names, w);
-    skip_all(t, recs, w, m, n, names, u);
-    own_all(t, recs, a, e, ops, u, o, names)
+    let o = pass_all(t, recs, x, ops, u, names, w);
+    let rest = Span {
+        from: x.count,
+        past: n,
+    };
+    skip_all(t, recs, w, rest, names);
+    own_all(t, recs, s, ops, o, names)
 }

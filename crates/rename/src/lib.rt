@@ -5,6 +5,7 @@ pub mod all;
 pub mod count;
 pub mod lists;
 pub mod names;
+pub mod parts;
 pub mod remake;
 pub mod slots;
 pub mod walk;

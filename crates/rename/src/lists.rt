@@ -1,9 +1,23 @@
 // A record's list under new names (01, "The move": "Changed lists are appended to the operands").
 use crate::names::name;
+use inst::index::MaybeReg;
+use inst::index::Reg;
 ghost use mathlib.Core.Path.{_≡_};
 ghost use Prim.Native.Nat.{ℕ, _+_, _≤_, _<_};
 ghost use lib.ListN.{length, getD};
-ghost use Rattle.rename.specs.Names.{list-changes, Appended};
+ghost use Rattle.rename.specs.Names.{named, list-changes, Appended};
+
+// The new name of operand k, which is a register.
+fn place(ops: &[u32], k: usize, names: &[u64]) -> u32
+    requires { ⌜ (k < length (now ops)) × (getD (now ops) k 0 < length (now names)) ⌝ }
+    ensures { λ v. ⌜ v ≡ named (now (names .entry)) (getD (now (ops .entry)) k 0) ⌝ }
+{
+    let w = ops[k];
+    let MaybeReg::Is(r) = Reg::new(w, names.len()) else {
+        return w;
+    };
+    name(names, r)
+}
 
 // Does the list of n operands from s on change?
 pub fn changes(ops: &[u32], s: usize, n: usize, names: &[u64]) -> bool
@@ -14,9 +28,8 @@ pub fn changes(ops: &[u32], s: usize, n: usize, names: &[u64]) -> bool
     let mut same = true;
     let mut k = 0;
     while k < n {
-        let w = ops[s + k];
-        let v = name(names, w);
-        same = same & (v == w);
+        let v = place(ops, s + k, names);
+        same = same & (v == ops[s + k]);
         k += 1;
     }
     !same
@@ -30,7 +43,7 @@ pub fn append(ops: &mut [u32], s: usize, n: usize, o: usize, names: &[u64])
 {
     let mut k = 0;
     while k < n {
-        ops[o + k] = name(names, ops[s + k]);
+        ops[o + k] = place(ops, s + k, names);
         k += 1;
     }
 }

@@ -1,12 +1,14 @@
 // A word for each register, its new name or absent (01, "The move").
 use inst::access::write_at;
+use inst::index::MaybeReg;
+use inst::index::Reg;
 use model::ABSENT;
 use words::numbers::long;
-use words::numbers::wide;
 ghost use mathlib.Core.Path.{_≡_};
-ghost use Prim.Native.Nat.{ℕ, _%_, _<_};
+ghost use Prim.Native.Nat.{ℕ, _%_, _≤_, _<_};
 ghost use lib.ListN.{length, replicate};
 ghost use Rattle.model.specs.Picture.{inst};
+ghost use Rattle.inst.specs.Index.{word-of, Among};
 ghost use Rattle.inst.specs.Record.{Used, write-at};
 ghost use Rattle.rename.specs.Names.{reg-or, named, put-name, Forgot};
 
@@ -33,22 +35,22 @@ pub fn or(w: u32, x: u32) -> u32
 }
 
 // The new name of r.
-pub fn name(names: &[u64], r: u32) -> u32
-    requires { ⌜ r < length (now names) ⌝ }
-    ensures { λ k. ⌜ k ≡ named (now (names .entry)) r ⌝ }
+pub fn name(names: &[u64], r: Reg) -> u32
+    requires { ⌜ r .0 < length (now names) ⌝ }
+    ensures { λ k. ⌜ k ≡ named (now (names .entry)) (r .0) ⌝ }
 {
-    or(low(names[wide(r)]), r)
+    or(low(names[r.at()]), r.number())
 }
 
-// Register w, if it is one, has the name nw.
-pub fn put(names: &mut [u64], w: u32, nw: u32)
-    requires { ⌜ ((w ≡ 4294967295 → ⊥) → w < length (now names)) ⌝ }
-    ensures { λ _. ⌜ now (names .exit) ≡ put-name (now (names .entry)) w nw ⌝ }
+// Register r, if it is one, has the name nw.
+pub fn put(names: &mut [u64], r: MaybeReg, nw: u32)
+    requires { ⌜ Among (length (now names)) r ⌝ }
+    ensures { λ _. ⌜ now (names .exit) ≡ put-name (now (names .entry)) (word-of r) nw ⌝ }
 {
-    if w == ABSENT {
+    let MaybeReg::Is(k) = r else {
         return;
-    }
-    names[wide(w)] = long(nw);
+    };
+    names[k.at()] = long(nw);
 }
 
 // No register has a new name.
@@ -64,13 +66,13 @@ pub fn clear(names: &mut [u64])
 
 // The registers that record p writes keep their names from now on.
 pub fn forget(recs: &[u32], p: usize, uses: u32, names: &mut [u64])
-    requires { ⌜ Used (now recs) p uses ⌝ }
+    requires { ⌜ Used (now recs) p uses × (length (now names) ≤ 4294967295) ⌝ }
     requires { ⌜ ((s : ℕ) → s < 5 → (write-at (inst (now recs) p) s ≡ 4294967295 → ⊥) → write-at (inst (now recs) p) s < length (now names)) ⌝ }
     ensures { λ _. ⌜ Forgot (inst (now (recs .entry)) p) (now (names .entry)) (now (names .exit)) 5 ⌝ }
 {
     let mut s = 0usize;
     while s < 5 {
-        put(names, write_at(recs, p, uses, s), ABSENT);
+        put(names, write_at(recs, p, uses, s, names.len()), ABSENT);
         s += 1;
     }
 }

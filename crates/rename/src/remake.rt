@@ -8,20 +8,19 @@ use inst::record::list_start;
 use words::numbers::narrow;
 ghost use mathlib.Core.Path.{_≡_};
 ghost use Prim.Native.Nat.{_<_};
-ghost use Rattle.rename.specs.Names.{Fit, Remade};
+ghost use Rattle.rename.specs.Names.{Some, Fit, Remade};
 
-// Record p, where u operands were in use at first and o are now. Returns how many are in use then.
+// Record p, where o operands are in use. Returns how many are in use then.
 pub fn remake(
     recs: &mut [u32],
     p: usize,
     uses: u32,
     ops: &mut [u32],
-    u: usize,
     o: usize,
     names: &[u64],
     nw: u32,
 ) -> usize
-    requires { ⌜ Fit p uses u o (now names) nw (now recs) (now ops) ⌝ }
+    requires { ⌜ Some (λ u. Fit p uses u o (now names) nw (now recs) (now ops)) ⌝ }
     ensures { λ r. ⌜ Remade p o (now (names .entry)) nw (now (recs .entry)) (now (recs .exit)) (now (ops .entry)) (now (ops .exit)) r ⌝ }
 {
     let s = list_start(recs, p);

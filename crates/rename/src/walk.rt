@@ -2,94 +2,81 @@
 // are all kept, and through the target, whose reads are renamed until it writes the register itself.
 use crate::names::forget;
 use crate::names::put;
+use crate::parts::Head;
+use crate::parts::Part;
+use crate::parts::Span;
+use crate::parts::part_at;
 use crate::remake::remake;
 use inst::access::uses;
 use model::ABSENT;
+use position::PLACE;
 use words::numbers::wide;
 ghost use mathlib.Core.Path.{_≡_};
 ghost use Prim.Native.Nat.{_-_};
+ghost use lib.ListN.{length};
+ghost use Rattle.inst.specs.Index.{word-of, Among};
 ghost use Rattle.inst.specs.Table.{rows};
 ghost use Rattle.model.specs.Picture.{absent};
 ghost use Rattle.words.specs.Lists.{range};
-ghost use Rattle.rename.specs.Names.{Fit, named};
-ghost use Rattle.rename.specs.Runs.{Run, Pass, Passed, AskX, PassedX, AskRest, PassedRest, Owned, AskOwn, target-jobs, Line};
+ghost use Rattle.rename.specs.Names.{Some, named};
+ghost use Rattle.rename.specs.Runs.{Run, Pass, Passed, AskX, PassedX, AskRest, PassedRest, Owned, AskOwn, target-jobs};
 
-// Record q of x: a kept one's writes keep their names; a member is made anew, and the register d that it wrote is named nw.
+// Record q of x, which is position k: a kept one's writes keep their names; a member is made anew, and the register that it wrote has
+// a new name.
 fn pass(
     t: &[u32; 202],
     recs: &mut [u32],
     q: usize,
     ops: &mut [u32],
-    u: usize,
     o: usize,
     names: &mut [u64],
-    mark: u32,
-    d: u32,
-    nw: u32,
+    k: Part,
 ) -> usize
-    requires { ⌜ (now t ≡ rows) × Pass q u o (now names) mark d nw (now recs) (now ops) ⌝ }
-    ensures { λ r. ⌜ Passed q o mark d nw (now (names .entry)) (now (names .exit)) (now (recs .entry)) (now (recs .exit)) (now (ops .entry)) (now (ops .exit)) r ⌝ }
+    requires { ⌜ (now t ≡ rows) × Some (λ u. Pass q u o (now names) (k .mark) (word-of (k .def)) (k .new) (now recs) (now ops)) × Among (length (now names)) (k .def) ⌝ }
+    ensures { λ r. ⌜ Passed q o (k .mark) (word-of (k .def)) (k .new) (now (names .entry)) (now (names .exit)) (now (recs .entry)) (now (recs .exit)) (now (ops .entry)) (now (ops .exit)) r ⌝ }
 {
     let does = uses(t, recs, q);
-    if mark == 0 {
+    if k.mark == 0 {
         forget(recs, q, does, names);
         return o;
     }
-    let r = remake(recs, q, does, ops, u, o, names, nw);
-    put(names, d, nw);
+    let r = remake(recs, q, does, ops, o, names, k.new);
+    let def = k.def;
+    put(names, def, k.new);
     r
 }
 
-// The m positions of x, whose records start at lo, where u operands are in use. Returns how many are then.
+// The positions of x, where u operands are in use. Returns how many are then.
 pub fn pass_all(
     t: &[u32; 202],
     recs: &mut [u32],
-    lo: usize,
-    m: usize,
+    x: Head,
     ops: &mut [u32],
     u: usize,
     names: &mut [u64],
     w: &[u32],
 ) -> usize
-    requires { ⌜ (now t ≡ rows) × AskX u lo m (now names) (now recs) (now ops) (now w) ⌝ }
-    ensures { λ r. ⌜ PassedX u lo m (now (names .entry)) (now (names .exit)) (now (recs .entry)) (now (recs .exit)) (now (ops .entry)) (now (ops .exit)) (now (w .entry)) r ⌝ }
+    requires { ⌜ (now t ≡ rows) × AskX u (x .from) (x .count) (now names) (now recs) (now ops) (now w) ⌝ }
+    ensures { λ r. ⌜ PassedX u (x .from) (x .count) (now (names .entry)) (now (names .exit)) (now (recs .entry)) (now (recs .exit)) (now (ops .entry)) (now (ops .exit)) (now (w .entry)) r ⌝ }
 {
     let mut n = u;
     let mut p = 0;
-    while p < m {
-        n = pass(
-            t,
-            recs,
-            lo + p,
-            ops,
-            u,
-            n,
-            names,
-            w[10 * p + 6],
-            w[10 * p + 8],
-            w[10 * p + 9],
-        );
+    while p < x.count {
+        let k = part_at(w, p, names.len());
+        n = pass(t, recs, x.from + p, ops, n, names, k);
         p += 1;
     }
     n
 }
 
-// Positions a to e of the chain, all kept.
-pub fn skip_all(
-    t: &[u32; 202],
-    recs: &[u32],
-    w: &[u32],
-    a: usize,
-    e: usize,
-    names: &mut [u64],
-    u: usize,
-)
-    requires { ⌜ (now t ≡ rows) × AskRest u a e (now names) (now recs) (now w) ⌝ }
-    ensures { λ _. ⌜ PassedRest a (e - a) (now (names .entry)) (now (names .exit)) (now (recs .entry)) (now (w .entry)) ⌝ }
+// The positions s of the chain, all kept.
+pub fn skip_all(t: &[u32; 202], recs: &[u32], w: &[u32], s: Span, names: &mut [u64])
+    requires { ⌜ (now t ≡ rows) × Some (λ u. AskRest u (s .from) (s .past) (now names) (now recs) (now w)) ⌝ }
+    ensures { λ _. ⌜ PassedRest (s .from) (s .past - s .from) (now (names .entry)) (now (names .exit)) (now (recs .entry)) (now (w .entry)) ⌝ }
 {
-    let mut p = a;
-    while p < e {
-        let q = wide(w[10 * p]);
+    let mut p = s.from;
+    while p < s.past {
+        let q = wide(w[PLACE * p]);
         forget(recs, q, uses(t, recs, q), names);
         p += 1;
     }
@@ -101,37 +88,34 @@ fn own(
     recs: &mut [u32],
     q: usize,
     ops: &mut [u32],
-    u: usize,
     o: usize,
     names: &mut [u64],
 ) -> usize
-    requires { ⌜ (now t ≡ rows) × Pass q u o (now names) 1 absent absent (now recs) (now ops) ⌝ }
+    requires { ⌜ (now t ≡ rows) × Some (λ u. Pass q u o (now names) 1 absent absent (now recs) (now ops)) ⌝ }
     ensures { λ r. ⌜ Owned q o (now (names .entry)) (now (names .exit)) (now (recs .entry)) (now (recs .exit)) (now (ops .entry)) (now (ops .exit)) r ⌝ }
 {
     let does = uses(t, recs, q);
-    let r = remake(recs, q, does, ops, u, o, names, ABSENT);
+    let r = remake(recs, q, does, ops, o, names, ABSENT);
     forget(recs, q, does, names);
     r
 }
 
-// The target's records a to e, where o operands are in use. Returns how many are then.
+// The target's records s, where o operands are in use. Returns how many are then.
 pub fn own_all(
     t: &[u32; 202],
     recs: &mut [u32],
-    a: usize,
-    e: usize,
+    s: Span,
     ops: &mut [u32],
-    u: usize,
     o: usize,
     names: &mut [u64],
 ) -> usize
-    requires { ⌜ (now t ≡ rows) × AskOwn u o a e (now names) (now recs) (now ops) ⌝ }
-    ensures { λ r. ⌜ Run o (range a (e - a)) (target-jobs (named (now (names .entry))) (now (recs .entry)) a e) (now (recs .entry)) (now (recs .exit)) (now (ops .entry)) (now (ops .exit)) r ⌝ }
+    requires { ⌜ (now t ≡ rows) × Some (λ u. AskOwn u o (s .from) (s .past) (now names) (now recs) (now ops)) ⌝ }
+    ensures { λ r. ⌜ Run o (range (s .from) (s .past - s .from)) (target-jobs (named (now (names .entry))) (now (recs .entry)) (s .from) (s .past)) (now (recs .entry)) (now (recs .exit)) (now (ops .entry)) (now (ops .exit)) r ⌝ }
 {
     let mut n = o;
-    let mut q = a;
-    while q < e {
-        n = own(t, recs, q, ops, u, n, names);
+    let mut q = s.from;
+    while q < s.past {
+        n = own(t, recs, q, ops, n, names);
         q += 1;
     }
     n

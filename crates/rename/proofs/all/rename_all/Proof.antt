@@ -8,13 +8,20 @@ clear-requires : tie.Need-clear-requires
 clear-requires c κs = search needs
 
 pass-all-requires : tie.Need-pass-all-requires
-pass-all-requires c κs = (c .before .before .before .before .before .before .before .before .before .before .before .pre .0 .0, pass-ask (c .before .before .before .before .before .before .before .before .before .before .before .pre .0 .1) (c .before .before .before .before .before .clear .ensures) (c .before .before .before .before .before .before .before .before .before .before .before .pre .1))
+pass-all-requires c κs =
+    let q = c .before .before .before .before .before .before .before .before .before .before .before .pre in
+    (q .0 .0, pass-ask (q .0 .1) (c .before .before .before .before .before .clear .ensures) (q .1))
 
 skip-all-requires : tie.Need-skip-all-requires
-skip-all-requires c κs = (c .before .before .before .before .before .before .before .before .before .before .before .before .before .before .before .before .before .before .before .before .pre .0 .0, rest-ask (c .before .before .before .before .before .before .before .before .before .before .before .before .before .before .before .before .before .before .before .before .pre .0 .1) (c .before .before .before .before .before .before .before .before .before .before .before .before .before .before .clear .ensures) (c .before .before .before .before .before .before .before .before .before .before .before .before .before .before .before .before .before .before .before .before .pre .1) _ _ _ (c .before .before .before .before .before .before .before .before .pass-all .ensures))
+skip-all-requires c κs =
+    let q = c .before .before .before .before .before .before .before .before .before .before .before .before .before .before .before .before .before .before .before .before .pre in
+    (q .0 .0, record { u = c .before .before .before .before .before .before .before .before .before .before .before .before .before .before .before .before .before .before .before .before .args .u; is = rest-ask (q .0 .1) (c .before .before .before .before .before .before .before .before .before .before .before .before .before .before .clear .ensures) (q .1) _ _ _ (c .before .before .before .before .before .before .before .before .pass-all .ensures) })
 
 own-all-requires : tie.Need-own-all-requires
-own-all-requires c κs = (c .before .before .before .before .before .before .before .before .before .before .before .before .before .before .before .before .before .before .before .before .before .before .before .before .before .before .pre .0 .0, own-ask (c .before .before .before .before .before .before .before .before .before .before .before .before .before .before .before .before .before .before .before .before .before .before .before .before .before .before .pre .0 .1) (c .before .before .before .before .before .before .before .before .before .before .before .before .before .before .before .before .before .before .before .before .clear .ensures) (c .before .before .before .before .before .before .before .before .before .before .before .before .before .before .before .before .before .before .before .before .before .before .before .before .before .before .pre .1) _ _ _ (c .before .before .before .before .before .before .before .before .before .before .before .before .before .before .pass-all .ensures) _ (c .before .before .before .before .before .skip-all .ensures))
+own-all-requires c κs =
+    let q = c .before .before .before .before .before .before .before .before .before .before .before .before .before .before .before .before .before .before .before .before .before .before .before .before .before .before .pre in
+    let asked = own-ask (q .0 .1) (c .before .before .before .before .before .before .before .before .before .before .before .before .before .before .before .before .before .before .before .before .clear .ensures) (q .1) _ _ _ (c .before .before .before .before .before .before .before .before .before .before .before .before .before .before .pass-all .ensures) _ (c .before .before .before .before .before .skip-all .ensures) in
+    (q .0 .0, record { u = c .before .before .before .before .before .before .before .before .before .before .before .before .before .before .before .before .before .before .before .before .before .before .before .before .before .before .args .u; is = asked })
 
 same-length : tie.Need-same-length
 same-length c = search needs
@@ -26,7 +33,9 @@ same-length-3 : tie.Need-same-length-3
 same-length-3 c = search needs
 
 returns : tie.Need-returns
-returns c = rename-law (c .before .before .before .before .before .before .before .before .before .before .before .before .before .before .before .before .before .before .before .before .before .before .before .before .before .before .before .before .before .before .before .before .before .pre .0 .1) (c .before .before .before .before .before .before .before .before .before .before .before .before .before .before .before .before .before .before .before .before .before .before .before .before .before .before .before .clear .ensures) (c .before .before .before .before .before .before .before .before .before .before .before .before .before .before .before .before .before .before .before .before .before .before .before .before .before .before .before .before .before .before .before .before .before .pre .1) _ _ _ (c .before .before .before .before .before .before .before .before .before .before .before .before .before .before .before .before .before .before .before .before .before .pass-all .ensures) _ (c .before .before .before .before .before .before .before .before .before .before .before .before .skip-all .ensures) (c .before .before .before .before .before .before .own-all .ensures)
+returns c =
+    let q = c .before .before .before .before .before .before .before .before .before .before .before .before .before .before .before .before .before .before .before .before .before .before .before .before .before .before .before .before .before .before .before .before .before .pre in
+    rename-law (q .0 .1) (c .before .before .before .before .before .before .before .before .before .before .before .before .before .before .before .before .before .before .before .before .before .before .before .before .before .before .before .clear .ensures) (q .1) _ _ _ (c .before .before .before .before .before .before .before .before .before .before .before .before .before .before .before .before .before .before .before .before .before .pass-all .ensures) _ (c .before .before .before .before .before .before .before .before .before .before .before .before .skip-all .ensures) (c .before .before .before .before .before .before .own-all .ensures)
 
 pub rename-all-spec : {M : Type 1} → statement M
 rename-all-spec =

@@ -13,13 +13,24 @@ list-len-requires : tie.Need-list-len-requires
 list-len-requires c κs = search needs
 
 changes-requires : tie.Need-changes-requires
-changes-requires c κs = let k = c .before .before .before .before .before .pre in let w = list-in k (c .before .list-start .ensures) (c .list-len .ensures) in (omega (arith, w, k .operands .lent), λ i l. k .operands .each i (omega (arith, w)))
+changes-requires c κs =
+    let k = c .before .before .before .before .before .pre .is in
+    let w = list-in k (c .before .list-start .ensures) (c .list-len .ensures) in
+    (omega (arith, w, k .operands .lent), λ i l. k .operands .each i (omega (arith, w)))
 
 returns : tie.Need-returns
-returns c = let k = c .before .before .before .before .before .before .before .pre in let es = c .before .before .before .list-start .ensures in let en = c .before .before .list-len .ensures in (list-changed k es en (sym (c .before .changes .ensures) ∙ c .if1 .taken), omega (arith, list-in k es en, k .operands .lent, k .operands .few))
+returns c =
+    let k = c .before .before .before .before .before .before .before .pre .is in
+    let es = c .before .before .before .list-start .ensures in
+    let en = c .before .before .list-len .ensures in
+    (list-changed k es en (sym (c .before .changes .ensures) ∙ c .if1 .taken), omega (arith, list-in k es en, k .operands .lent, k .operands .few))
 
 returns-2 : tie.Need-returns-2
-returns-2 c = let k = c .before .before .before .before .before .before .before .pre in let es = c .before .before .before .list-start .ensures in let en = c .before .before .list-len .ensures in (list-same k es en (sym (c .before .changes .ensures) ∙ c .if1 .left), omega arith)
+returns-2 c =
+    let k = c .before .before .before .before .before .before .before .pre .is in
+    let es = c .before .before .before .list-start .ensures in
+    let en = c .before .before .list-len .ensures in
+    (list-same k es en (sym (c .before .changes .ensures) ∙ c .if1 .left), omega arith)
 
 pub count-list-spec : {M : Type 1} → statement M
 count-list-spec =

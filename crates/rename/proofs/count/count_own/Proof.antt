@@ -12,13 +12,13 @@ count-list-requires : tie.Need-count-list-requires
 count-list-requires c κs = search needs
 
 forget-requires : tie.Need-forget-requires
-forget-requires c κs = let k = c .before .before .before .before .before .before .before .pre .1 in (used-is (k .line) (c .before .before .before .uses .ensures), written-ok (k .line))
+forget-requires c κs = let l = c .before .before .before .before .before .before .before .pre .1 .is .line in ((used-is l (c .before .before .before .uses .ensures), l .few-regs), written-ok l)
 
 same-length : tie.Need-same-length
 same-length c = search needs
 
 returns : tie.Need-returns
-returns c = counted-own (c .before .before .before .before .before .before .before .before .before .before .pre .1) (c .before .before .before .before .count-list .ensures) (c .before .before .forget .ensures)
+returns c = counted-own (c .before .before .before .before .before .before .before .before .before .before .pre .1 .is) (c .before .before .before .before .count-list .ensures) (c .before .before .forget .ensures)
 
 pub count-own-spec : {M : Type 1} → statement M
 count-own-spec =

@@ -1,11 +1,12 @@
 -- `rename::lists::append` meets its contract. Assumes nothing.
-use borrow.Author.Needs.{needs}
 use native.Mathlib.Omega.{arith}
 use mathlib.Core.Path.{sym, subst}
-use Prim.Native.Nat.{ℕ, _≤_, _-_, _<_}
+use Prim.Native.Nat.{ℕ, _+_, _≤_, _-_, _<_}
 use lib.ListN.{length}
 use Rattle.rename.specs.Names.{Appended}
 use Rattle.rename.proofs.Operands.{appended-none, appended-front, appended-more, appended-end}
+use Prim.Native.Nat.{ℕ, _≤_, _-_, _<_}
+use borrow.Author.Needs.{needs}
 use Rattle.rename.proofs.lists.append.Statement.{statement}
 use Rattle.rename.proofs.lists.append.Tie as tie
 
@@ -18,17 +19,16 @@ abbrev μ-loop : tie.MeasureT-loop
 loop-holds : tie.Need-loop-holds Inv-loop μ-loop
 loop-holds c = (omega arith, appended-none _ _ _ _)
 
-add-name : tie.Need-add-name Inv-loop μ-loop
-add-name c = search needs
+add-place : tie.Need-add-place Inv-loop μ-loop
+add-place c = search needs
 
-mul-name : tie.Need-mul-name Inv-loop μ-loop
-mul-name c = search needs
-
-slice-read-name : tie.Need-slice-read-name Inv-loop μ-loop
-slice-read-name c = omega (arith, c .before .loop-test .taken, c .before .before .loop .inv .1 .size, c .before .before .before .before .before .pre .0 .0, c .before .before .before .before .before .pre .0 .1)
-
-name-requires : tie.Need-name-requires Inv-loop μ-loop
-name-requires c κs = subst (λ (w : ℕ). w < length (c .before .before .before .before .before .args .names .now)) (sym (appended-front (c .before .before .loop .inv .1) _ (omega (arith, c .before .loop-test .taken, c .before .before .before .before .before .pre .0)))) (c .before .before .before .before .before .pre .1 _ (omega (arith, c .before .loop-test .taken)))
+place-requires : tie.Need-place-requires Inv-loop μ-loop
+place-requires c κs =
+    let taken = c .before .loop-test .taken in
+    let i = c .before .before .loop .inv .1 in
+    let q = c .before .before .before .before .before .pre in
+    let same = appended-front i (c .before .before .before .before .before .args .s + c .before .before .loop .k) (omega (arith, taken, q .0)) in
+    (omega (arith, taken, i .size, q .0 .0, q .0 .1), subst (λ (w : ℕ). w < length (c .before .before .before .before .before .args .names .now)) (sym same) (q .1 _ (omega (arith, taken))))
 
 add-ops : tie.Need-add-ops Inv-loop μ-loop
 add-ops c = search needs
@@ -46,7 +46,9 @@ loop-less : tie.Need-loop-less Inv-loop μ-loop
 loop-less c = search needs
 
 loop-again : tie.Need-loop-again Inv-loop μ-loop
-loop-again c = (omega (arith, c .before .before .loop-test .taken), appended-more (c .before .before .before .loop .inv .1) (c .before .before .loop-test .taken) (c .before .before .before .before .before .before .pre .0 .0) (c .before .before .before .before .before .before .pre .0 .1) (c .name .ensures))
+loop-again c =
+    let q = c .before .before .before .before .before .before .pre .0 in
+    (omega (arith, c .before .before .loop-test .taken), appended-more (c .before .before .before .loop .inv .1) (c .before .before .loop-test .taken) (q .0) (q .1) (c .place .ensures))
 
 same-length : tie.Need-same-length Inv-loop μ-loop
 same-length c = c .before .loop .inv .1 .size
@@ -61,10 +63,8 @@ append-spec =
     Inv-loop
     μ-loop
     loop-holds
-    add-name
-    mul-name
-    slice-read-name
-    name-requires
+    add-place
+    place-requires
     add-ops
     mul-ops
     slice-write-ops

@@ -1,5 +1,4 @@
 -- `rename::lists::changes` meets its contract. Assumes nothing.
-use borrow.Author.Needs.{needs}
 use native.Mathlib.Omega.{arith}
 use mathlib.Core.Path.{_≡_, refl}
 use mathlib.Core.List.{map}
@@ -7,6 +6,7 @@ use Prim.Native.Nat.{_≤_, _-_}
 use Rattle.words.specs.Lists as L
 use Rattle.rename.specs.Names.{named, part}
 use Rattle.rename.proofs.Operands.{keeps-more, keeps-end}
+use borrow.Author.Needs.{needs}
 use Rattle.rename.proofs.lists.changes.Statement.{statement}
 use Rattle.rename.proofs.lists.changes.Tie as tie
 
@@ -19,17 +19,20 @@ abbrev μ-loop : tie.MeasureT-loop
 loop-holds : tie.Need-loop-holds Inv-loop μ-loop
 loop-holds c = (omega arith, refl)
 
-add-w : tie.Need-add-w Inv-loop μ-loop
-add-w c = search needs
+add-place : tie.Need-add-place Inv-loop μ-loop
+add-place c = search needs
 
-mul-w : tie.Need-mul-w Inv-loop μ-loop
-mul-w c = search needs
+place-requires : tie.Need-place-requires Inv-loop μ-loop
+place-requires c κs = (omega (arith, c .loop-test .taken, c .before .before .before .before .pre .0), c .before .before .before .before .pre .1 _ (omega (arith, c .loop-test .taken)))
 
-shared-slice-read-w : tie.Need-shared-slice-read-w Inv-loop μ-loop
-shared-slice-read-w c = search needs
+add-same : tie.Need-add-same Inv-loop μ-loop
+add-same c = search needs
 
-name-requires : tie.Need-name-requires Inv-loop μ-loop
-name-requires c κs = c .before .before .before .before .before .pre .1 _ (omega (arith, c .before .loop-test .taken))
+mul-same : tie.Need-mul-same Inv-loop μ-loop
+mul-same c = search needs
+
+shared-slice-read-same : tie.Need-shared-slice-read-same Inv-loop μ-loop
+shared-slice-read-same c = search needs
 
 add-k : tie.Need-add-k Inv-loop μ-loop
 add-k c = search needs
@@ -38,10 +41,18 @@ loop-less : tie.Need-loop-less Inv-loop μ-loop
 loop-less c = search needs
 
 loop-again : tie.Need-loop-again Inv-loop μ-loop
-loop-again c = let a = c .before .before .before .before .before .before .args in (omega (arith, c .before .before .loop-test .taken), keeps-more (a .names .now) (a .ops .now) (a .s) (c .before .before .before .loop .k) (c .name .result) (c .before .before .before .loop .same) (omega (arith, c .before .before .loop-test .taken, c .before .before .before .before .before .before .pre .0)) (c .before .before .before .loop .inv .1) (c .name .ensures))
+loop-again c =
+    let a = c .before .before .before .before .before .before .args in
+    let i = c .before .before .before .loop in
+    let taken = c .before .before .loop-test .taken in
+    let v = c .before .place in
+    (omega (arith, taken), keeps-more (a .names .now) (a .ops .now) (a .s) (i .k) (v .result) (i .same) (omega (arith, taken, c .before .before .before .before .before .before .pre .0)) (i .inv .1) (v .ensures))
 
 returns : tie.Need-returns Inv-loop μ-loop
-returns c = let a = c .before .before .before .before .args in keeps-end (a .names .now) (a .ops .now) (a .s) (c .before .loop .k) (a .n) (c .before .loop .same) (c .before .loop .inv .1) (c .before .loop .inv .0) (c .loop-test .left)
+returns c =
+    let a = c .before .before .before .before .args in
+    let i = c .before .loop in
+    keeps-end (a .names .now) (a .ops .now) (a .s) (i .k) (a .n) (i .same) (i .inv .1) (i .inv .0) (c .loop-test .left)
 
 pub changes-spec : {M : Type 1} → statement M
 changes-spec =
@@ -50,10 +61,11 @@ changes-spec =
     Inv-loop
     μ-loop
     loop-holds
-    add-w
-    mul-w
-    shared-slice-read-w
-    name-requires
+    add-place
+    place-requires
+    add-same
+    mul-same
+    shared-slice-read-same
     add-k
     loop-less
     loop-again

@@ -1,12 +1,16 @@
 -- `rename::names::forget` meets its contract. Assumes nothing.
-use borrow.Author.Needs.{needs}
 use native.Mathlib.Omega.{arith}
-use mathlib.Core.Path.{_≡_, subst}
-use Prim.Native.Nat.{ℕ, _≤_, _-_}
+use mathlib.Core.Path.{_≡_, refl}
+use Prim.Native.Nat.{_≤_, _-_, _<_}
+use lib.ListN.{length}
 use Rattle.model.specs.Picture.{inst, absent}
-use Rattle.rename.specs.Names.{Forgot}
 use Rattle.inst.specs.Record.{write-at}
+use Rattle.pool.proofs.Registers.{among-made, word-made}
+use Rattle.rename.specs.Names.{Forgot}
 use Rattle.rename.proofs.Naming.{forgot-none, forgot-more, forgot-end}
+use Prim.Native.Nat.{_≤_, _-_}
+use Rattle.model.specs.Picture.{inst}
+use borrow.Author.Needs.{needs}
 use Rattle.rename.proofs.names.forget.Statement.{statement}
 use Rattle.rename.proofs.names.forget.Tie as tie
 
@@ -23,7 +27,7 @@ write-at-requires : tie.Need-write-at-requires Inv-loop μ-loop
 write-at-requires c κs = search needs
 
 put-requires : tie.Need-put-requires Inv-loop μ-loop
-put-requires c κs = let i = c .before .before .before .loop .inv in λ f. omega (arith, c .write-at .ensures, i .1 .size, c .before .before .before .before .before .before .pre .1 (c .before .before .before .loop .s) (c .before .before .loop-test .taken) (subst (λ (k : ℕ). k ≡ absent → ⊥) (c .write-at .ensures) f))
+put-requires c κs = among-made _ _ (c .write-at .ensures) refl _ (omega (arith, c .before .before .before .loop .inv .1 .size, c .before .before .before .before .before .before .pre .0 .1)) (omega arith)
 
 add-s : tie.Need-add-s Inv-loop μ-loop
 add-s c = search needs
@@ -32,7 +36,13 @@ loop-less : tie.Need-loop-less Inv-loop μ-loop
 loop-less c = search needs
 
 loop-again : tie.Need-loop-again Inv-loop μ-loop
-loop-again c = let i = c .before .before .before .before .before .before .loop .inv in (omega arith, forgot-more (i .1) (λ f. omega (arith, i .1 .size, c .before .before .before .before .before .before .before .before .before .pre .1 (c .before .before .before .before .before .before .loop .s) (c .before .before .before .before .before .loop-test .taken) f)) (c .before .before .before .write-at .ensures) (c .before .before .put .ensures))
+loop-again c =
+    let i = c .before .before .before .before .before .before .loop in
+    let a = c .before .before .before .before .before .before .before .before .before .args in
+    let q = c .before .before .before .before .before .before .before .before .before .pre in
+    let ok : (write-at (inst (a .recs .now) (a .p)) (i .s) ≡ absent → ⊥) → write-at (inst (a .recs .now) (a .p)) (i .s) < length (i .names) =
+    λ f. omega (arith, i .inv .1 .size, q .1 (i .s) (c .before .before .before .before .before .loop-test .taken) f) in
+    (omega arith, forgot-more (i .inv .1) ok (word-made _ _ (c .before .before .before .write-at .ensures) refl ok) (c .before .before .put .ensures))
 
 same-length : tie.Need-same-length Inv-loop μ-loop
 same-length c = c .before .loop .inv .1 .size

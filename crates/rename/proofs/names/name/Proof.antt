@@ -1,5 +1,5 @@
 -- `rename::names::name` meets its contract. Assumes nothing.
-use mathlib.Core.Path.{ap, _∙_}
+use mathlib.Core.Path.{ap, ap₂, _∙_}
 use Prim.Native.Nat.{ℕ, _%_}
 use lib.ListN.{getD}
 use Rattle.model.specs.Picture.{absent}
@@ -9,8 +9,8 @@ use borrow.Author.Needs.{needs}
 use Rattle.rename.proofs.names.name.Statement.{statement}
 use Rattle.rename.proofs.names.name.Tie as tie
 
-wide-requires : tie.Need-wide-requires
-wide-requires c κs = search needs
+at-requires : tie.Need-at-requires
+at-requires c κs = search needs
 
 mul-low : tie.Need-mul-low
 mul-low c = search needs
@@ -21,13 +21,27 @@ shared-slice-read-low c = search needs
 low-requires : tie.Need-low-requires
 low-requires c κs = search needs
 
+number-requires : tie.Need-number-requires
+number-requires c κs = search needs
+
 or-requires : tie.Need-or-requires
 or-requires c κs = search needs
 
 returns : tie.Need-returns
-returns c = let a = c .before .before .before .before .before .args in c .or .ensures ∙ ap (λ (k : ℕ). reg-or k (a .r)) (c .before .low .ensures ∙ ap (λ (k : ℕ). getD (a .names .now) k 0 % 4294967296) (c .before .before .before .wide .ensures) ∙ ap (λ (k : ℕ). k % 4294967296) (getD-any (a .names .now) (a .r) 0 absent (c .before .before .before .before .before .pre)))
+returns c =
+    let a = c .before .before .before .before .before .before .args in
+    let at = ap (λ (k : ℕ). getD (a .names .now) k 0 % 4294967296) (c .before .before .before .before .at .ensures) in
+    let any = ap (λ (k : ℕ). k % 4294967296) (getD-any (a .names .now) (a .r .0) 0 absent (c .before .before .before .before .before .before .pre)) in
+    c .or .ensures ∙ ap₂ reg-or (c .before .before .low .ensures ∙ at ∙ any) (c .before .number .ensures)
 
 pub name-spec : {M : Type 1} → statement M
 name-spec =
     tie.close
-    (tie.spec wide-requires mul-low shared-slice-read-low low-requires or-requires returns)
+    (tie.spec
+    at-requires
+    mul-low
+    shared-slice-read-low
+    low-requires
+    number-requires
+    or-requires
+    returns)

@@ -5,38 +5,56 @@ use mathlib.Core.Bool.{Bool, cond}
 use Prim.Native.Nat.{ℕ}
 use lib.ListN.{set}
 use borrow.Author.Tests.{eq-eqb, ne-eqb}
+use Rattle.inst.specs.Index.{word-of}
+use Rattle.pool.proofs.Registers.{below, there}
 use borrow.Author.Needs.{needs}
 use Rattle.rename.proofs.names.put.Statement.{statement}
 use Rattle.rename.proofs.names.put.Tie as tie
 
+enum-known-r : tie.Need-enum-known-r
+enum-known-r c = search needs
+
+enum-told : tie.Need-enum-told
+enum-told c = search needs
+
 returns : tie.Need-returns
-returns c = let a = c .before .before .args in sym (ap (λ (t : Bool). cond t (a .names .now) (set (a .names .now) (a .w) (a .nw))) (eq-eqb _ _ (c .if1 .taken)))
+returns c =
+    let a = c .before .before .before .args in
+    let none = eq-eqb _ _ (ap word-of (c .enum-told .given .1)) in
+    sym (ap (λ (t : Bool). cond t (a .names .now) (set (a .names .now) (word-of (a .r)) (a .nw))) none)
 
 long-requires : tie.Need-long-requires
 long-requires c κs = search needs
 
-wide-requires : tie.Need-wide-requires
-wide-requires c κs = search needs
+at-requires : tie.Need-at-requires
+at-requires c κs = search needs
 
 mul-names : tie.Need-mul-names
 mul-names c = search needs
 
 slice-write-names : tie.Need-slice-write-names
-slice-write-names c = omega (arith, c .wide .ensures, c .before .before .before .before .pre (c .before .before .if1 .left))
+slice-write-names c = omega (arith, c .at .ensures, below _ (c .before .before .before .before .before .before .pre) (c .before .before .before .r .given .1))
 
 same-length : tie.Need-same-length
 same-length c = search needs
 
 returns-2 : tie.Need-returns-2
-returns-2 c = let a = c .before .before .before .before .args in ap₂ (λ (k v : ℕ). set (a .names .now) k v) (c .wide .ensures) (c .before .long .ensures) ∙ sym (ap (λ (t : Bool). cond t (a .names .now) (set (a .names .now) (a .w) (a .nw))) (ne-eqb _ _ (c .before .before .if1 .left)))
+returns-2 c =
+    let a = c .before .before .before .before .before .before .args in
+    let is = c .before .before .before .r .given .1 in
+    let some = ne-eqb _ _ (there _ (c .before .before .before .before .before .before .pre) is) in
+    ap₂ (λ (k v : ℕ). set (a .names .now) k v) (c .at .ensures ∙ sym (ap word-of is)) (c .before .long .ensures)
+    ∙ sym (ap (λ (t : Bool). cond t (a .names .now) (set (a .names .now) (word-of (a .r)) (a .nw))) some)
 
 pub put-spec : {M : Type 1} → statement M
 put-spec =
     tie.close
     (tie.spec
+    enum-known-r
+    enum-told
     returns
     long-requires
-    wide-requires
+    at-requires
     mul-names
     slice-write-names
     same-length

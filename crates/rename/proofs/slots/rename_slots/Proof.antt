@@ -1,11 +1,13 @@
 -- `rename::slots::rename_slots` meets its contract. Assumes nothing.
-use borrow.Author.Needs.{needs}
 use native.Mathlib.Omega.{arith}
-use mathlib.Core.Path.{_≡_, sym, subst}
-use Prim.Native.Nat.{ℕ, _≤_, _-_, _<_}
+use mathlib.Core.Path.{_≡_, refl, sym, ap, _∙_, subst}
+use Prim.Native.Nat.{ℕ, _+_, _*_, _≤_, _-_, _<_}
 use lib.ListN.{length}
-use Rattle.rename.specs.Names.{Slotted}
+use Rattle.pool.proofs.Registers.{among-made, word-made}
+use Rattle.rename.specs.Names.{slotted, Slotted}
 use Rattle.rename.proofs.Slotting.{slotted-none, slotted-more, slotted-end}
+use Prim.Native.Nat.{ℕ, _≤_, _-_, _<_}
+use borrow.Author.Needs.{needs}
 use Rattle.rename.proofs.slots.rename_slots.Statement.{statement}
 use Rattle.rename.proofs.slots.rename_slots.Tie as tie
 
@@ -16,7 +18,7 @@ abbrev μ-loop : tie.MeasureT-loop
 μ-loop recs₀ p uses names nw b s₀ recs s = 5 - s
 
 mul-b : tie.Need-mul-b Inv-loop μ-loop
-mul-b c = omega (arith, c .before .before .pre .0 .within .whole)
+mul-b c = omega (arith, c .before .before .pre .0 .0 .within .whole)
 
 loop-holds : tie.Need-loop-holds Inv-loop μ-loop
 loop-holds c = (omega arith, slotted-none _ _ _ _ _)
@@ -27,20 +29,23 @@ cast-two-bits c = search needs
 two-bits-requires : tie.Need-two-bits-requires Inv-loop μ-loop
 two-bits-requires c κs = search needs
 
-add-slot-word : tie.Need-add-slot-word Inv-loop μ-loop
-add-slot-word c = search needs
+add-new : tie.Need-add-new Inv-loop μ-loop
+add-new c = search needs
 
-add-slot-word-2 : tie.Need-add-slot-word-2 Inv-loop μ-loop
-add-slot-word-2 c = search needs
+add-new-2 : tie.Need-add-new-2 Inv-loop μ-loop
+add-new-2 c = search needs
 
-mul-slot-word : tie.Need-mul-slot-word Inv-loop μ-loop
-mul-slot-word c = search needs
+mul-new : tie.Need-mul-new Inv-loop μ-loop
+mul-new c = search needs
 
-slice-read-slot-word : tie.Need-slice-read-slot-word Inv-loop μ-loop
-slice-read-slot-word c = omega (arith, c .before .before .before .loop .inv .1 .size, c .before .before .before .before .before .before .pre .0 .within .whole)
+slice-read-new : tie.Need-slice-read-new Inv-loop μ-loop
+slice-read-new c = omega (arith, c .before .before .before .loop .inv .1 .size, c .before .before .before .before .before .before .pre .0 .0 .within .whole)
+
+new-requires : tie.Need-new-requires Inv-loop μ-loop
+new-requires c κs = search needs
 
 slot-word-requires : tie.Need-slot-word-requires Inv-loop μ-loop
-slot-word-requires c κs = subst (λ (k : ℕ). (k ≡ 4294967295 → ⊥) → k < length (c .before .before .before .before .before .before .args .names .now)) (sym (c .before .before .before .loop .inv .1 .later _ (omega arith))) (c .before .before .before .before .before .before .pre .1 (c .before .before .before .loop .s) (c .before .before .loop-test .taken))
+slot-word-requires c κs = among-made _ _ (c .new .ensures) refl _ (c .before .before .before .before .before .before .before .pre .0 .1) (omega arith)
 
 add-recs : tie.Need-add-recs Inv-loop μ-loop
 add-recs c = search needs
@@ -52,7 +57,7 @@ mul-recs : tie.Need-mul-recs Inv-loop μ-loop
 mul-recs c = search needs
 
 slice-write-recs : tie.Need-slice-write-recs Inv-loop μ-loop
-slice-write-recs c = omega (arith, c .before .before .before .before .loop .inv .1 .size, c .before .before .before .before .before .before .before .pre .0 .within .whole)
+slice-write-recs c = omega (arith, c .before .before .before .before .before .loop .inv .1 .size, c .before .before .before .before .before .before .before .before .pre .0 .0 .within .whole)
 
 add-s : tie.Need-add-s Inv-loop μ-loop
 add-s c = search needs
@@ -61,7 +66,16 @@ loop-less : tie.Need-loop-less Inv-loop μ-loop
 loop-less c = search needs
 
 loop-again : tie.Need-loop-again Inv-loop μ-loop
-loop-again c = (omega (arith, c .before .before .before .loop-test .taken), slotted-more (c .before .before .before .before .loop .inv .1) (c .before .before .before .loop-test .taken) (c .before .before .before .before .before .before .before .pre .0 .within .whole) (c .before .before .two-bits .ensures) (c .slot-word .ensures))
+loop-again c =
+    let a = c .before .before .before .before .before .before .before .before .args in
+    let q = c .before .before .before .before .before .before .before .before .pre in
+    let i = c .before .before .before .before .before .loop in
+    let taken = c .before .before .before .before .loop-test .taken in
+    let here = sym (i .inv .1 .later (16 * a .p + 2 + i .s) (omega arith)) in
+    let ok = subst (λ (k : ℕ). (k ≡ 4294967295 → ⊥) → k < length (a .names .now)) here (q .1 (i .s) taken) in
+    let word = word-made _ _ (c .before .new .ensures) refl ok in
+    let v = c .slot-word .ensures ∙ ap (λ (k : ℕ). slotted (c .before .before .before .two-bits .result) (a .names .now) (a .nw) k) word in
+    (omega (arith, taken), slotted-more (i .inv .1) taken (q .0 .0 .within .whole) (c .before .before .before .two-bits .ensures) v)
 
 same-length : tie.Need-same-length Inv-loop μ-loop
 same-length c = c .before .loop .inv .1 .size
@@ -79,10 +93,11 @@ rename-slots-spec =
     loop-holds
     cast-two-bits
     two-bits-requires
-    add-slot-word
-    add-slot-word-2
-    mul-slot-word
-    slice-read-slot-word
+    add-new
+    add-new-2
+    mul-new
+    slice-read-new
+    new-requires
     slot-word-requires
     add-recs
     add-recs-2

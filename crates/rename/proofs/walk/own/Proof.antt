@@ -9,10 +9,14 @@ uses-requires : tie.Need-uses-requires
 uses-requires c κs = search needs
 
 remake-requires : tie.Need-remake-requires
-remake-requires c κs = line-fit (c .before .before .before .before .before .before .before .before .pre .1) (λ z. omega arith) (c .before .before .before .uses .ensures)
+remake-requires c κs = let p = c .before .before .before .before .before .before .before .before .pre .1 in record { u = p .u; is = line-fit (p .is) (λ z. omega arith) (c .before .before .before .uses .ensures) }
 
 forget-requires : tie.Need-forget-requires
-forget-requires c κs = let l = c .before .before .before .before .before .before .before .before .before .before .before .before .before .before .before .pre .1 .line in (used-after l (c .before .before .before .before .before .before .before .before .before .before .uses .ensures) (c .before .before .before .before .before .before .remake .ensures), written-after l (c .before .before .before .before .before .before .before .before .before .before .uses .ensures) (c .before .before .before .before .before .before .remake .ensures))
+forget-requires c κs =
+    let l = c .before .before .before .before .before .before .before .before .before .before .before .before .before .before .before .pre .1 .is .line in
+    let e = c .before .before .before .before .before .before .before .before .before .before .uses .ensures in
+    let m = c .before .before .before .before .before .before .remake .ensures in
+    ((used-after l e m, l .few-regs), written-after l e m)
 
 same-length : tie.Need-same-length
 same-length c = search needs
@@ -24,7 +28,7 @@ same-length-3 : tie.Need-same-length-3
 same-length-3 c = search needs
 
 returns : tie.Need-returns
-returns c = own-law (c .before .before .before .before .before .before .before .before .before .before .before .before .before .before .before .before .before .before .pre .1 .line) (c .before .before .before .before .before .before .before .before .before .before .before .before .before .uses .ensures) (c .before .before .before .before .before .before .before .before .before .remake .ensures) (c .before .before .forget .ensures)
+returns c = own-law (c .before .before .before .before .before .before .before .before .before .before .before .before .before .before .before .before .before .before .pre .1 .is .line) (c .before .before .before .before .before .before .before .before .before .before .before .before .before .uses .ensures) (c .before .before .before .before .before .before .before .before .before .remake .ensures) (c .before .before .forget .ensures)
 
 pub own-spec : {M : Type 1} → statement M
 own-spec =
