@@ -1,10 +1,15 @@
-# `make run` runs the pass on a listing, FILE=.. or document 01's; `make test` is the gate; `make compare` holds the port against
-# the Rust at length; `make bench` writes docs/BENCH.md.
-.PHONY: run test compare bench
+# `make run` runs the pass on a listing, FILE=.. or document 01's; `make lib` makes the library for C and Rust; `make test` is the
+# gate; `make compare` holds the port against the Rust at length; `make bench` writes docs/BENCH.md.
+.PHONY: run lib test compare bench
 FILE = examples/listing.txt
+export FILE
 
 run:
-	@tools/run.sh $(FILE)
+	@tools/run.sh "$$FILE"
+
+lib:
+	@tools/lib.sh
+	@echo "target/lib has libvirdzeba.a and virdzeba.pc"
 
 test:
 	.ci/run

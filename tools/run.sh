@@ -1,35 +1,43 @@
 #!/bin/sh
 # Runs the pass on a listing (tools/listing.py says how one is written): what `sinkrounds` prints for it, then the listing after
-# the pass, through the host's entry.
+# the pass, through the host's entry. Ends with 0 where the listing was sunk, with 1 where it is none, is refused or is not read,
+# which it says in words, and with 2 where nothing could be run.
 #
 #   tools/run.sh [FILE]    examples/listing.txt where none is given
 set -eu
 root=$(cd "$(dirname "$0")/.." && pwd)
 file=${1:-$root/examples/listing.txt}
+if [ -d "$file" ] || ! [ -r "$file" ]; then
+    echo "There is no listing $file that can be read." >&2
+    exit 2
+fi
 made=$(mktemp -d)
 trap 'rm -r "$made"' EXIT
-"$root/tools/listing.py" pack "$file" >"$made/before"
+"$root/tools/listing.py" pack "$file" >"$made/before" || exit 1
 cd "$root"
 
-# What is not proved yet is proved first; what is said of that is shown only if it fails.
-proved() {
-    grep -q "^$2:" crates.txt || return 0
-    echo "rt $1 $2: what is not proved yet is proved first, which takes some minutes from nothing" >&2
-    rt "$1" "$2" >"$made/say" 2>&1 || { cat "$made/say" >&2; exit 1; }
-}
-proved check sinkrounds
-proved staticlib host
-if [ -x target/bin/sinkrounds ]; then
-    target/bin/sinkrounds <"$made/before"
-else
-    echo "The program sinkrounds is not there." >&2
+tools/prove.sh check sinkrounds || exit 2
+target/bin/sinkrounds <"$made/before" >"$made/text"
+cat "$made/text"
+answer=$(tail -n 1 "$made/text")
+case $answer in
+'refused '*)
+    cause=${answer#refused }
+    echo "The listing is refused, cause $cause: $(sed -n "s/^$cause //p" tools/causes.txt)." >&2
+    exit 1
+    ;;
+'unread '*)
+    echo "The listing is not read: it is larger than the program's sizes." >&2
+    exit 1
+    ;;
+esac
+
+if ! command -v cc >/dev/null 2>&1; then
+    echo "The listing after the pass needs a C compiler, cc." >&2
+    exit 0
 fi
-if [ -f target/staticlib/libhost.a ] && command -v cc >/dev/null 2>&1; then
-    cc -O2 -I include tests/c/example.c target/staticlib/libhost.a -o "$made/sink"
-    # Refused or unread: no listing follows.
-    "$made/sink" <"$made/before" >"$made/after" 2>"$made/answer" || exit 0
-    echo
-    "$root/tools/listing.py" show "$made/after"
-else
-    echo "The listing after the pass needs the host's entry and a C compiler." >&2
-fi
+tools/lib.sh --proved || exit 2
+cc -O2 -I include tests/c/example.c target/lib/libvirdzeba.a -o "$made/sink"
+"$made/sink" <"$made/before" >"$made/after" 2>"$made/answer"
+echo
+tools/listing.py show "$made/after"

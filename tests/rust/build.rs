@@ -1,7 +1,7 @@
 //! Finds the Rust of the pass (`sink.rs`, `inst.rs`) and copies it, unchanged, beside our `calls.rs`, which `sink.rs`
 //! declares as its child. The Rust is not part of this repository: `YAVS_SRC` names the folder that holds
-//! `crates/yavs-ir/src`, else `shared/docs/src` beside the repository is looked at. With the features `port` and `host` it
-//! also says where the port's archives are.
+//! `crates/yavs-ir/src`, else `shared/docs/src` beside the repository is looked at. With the feature `port` it also
+//! says where the archive of the port's layers is.
 
 use std::path::{Path, PathBuf};
 use std::{env, fs, process};
@@ -38,20 +38,18 @@ fn main() {
     };
     write(&out.join("inst_mod.rs"), &mods("inst", "inst.rs"));
     write(&out.join("sink_mod.rs"), &mods("sink", "sink.rs"));
-    for (feature, library) in [("CARGO_FEATURE_PORT", "probe"), ("CARGO_FEATURE_HOST", "host")] {
-        if env::var_os(feature).is_some() {
-            link_port(&here.join("../../target/staticlib"), library);
-        }
+    if env::var_os("CARGO_FEATURE_PORT").is_some() {
+        link_port(&here.join("../../target/staticlib"));
     }
 }
 
-/// A crate of the repository as an archive in `folder`; `src/port.rs` and `src/host.rs` name them.
-fn link_port(folder: &Path, library: &str) {
-    let archive = folder.join(format!("lib{library}.a"));
+/// Crate `probe` of the repository as an archive in `folder`; `src/port.rs` names it.
+fn link_port(folder: &Path) {
+    let archive = folder.join("libprobe.a");
     println!("cargo::rerun-if-changed={}", archive.display());
     if !archive.is_file() {
         eprintln!(
-            "The port was looked for at {} and is not there; `rt staticlib {library}`, at the root of the repository, writes it.",
+            "The port was looked for at {} and is not there; `rt staticlib probe`, at the root of the repository, writes it.",
             archive.display()
         );
         process::exit(1);

@@ -53,7 +53,9 @@ proved() {
     rm "$made/say"
 }
 proved staticlib probe
-proved staticlib host
+(cd ../.. && tools/lib.sh) || { echo "compare: failed: there is no library to compare." >&2; exit 1; }
+VIRDZEBA_LIB_DIR=$(cd ../../target/lib && pwd)
+export VIRDZEBA_LIB_DIR
 cargo build --release --offline --locked --quiet --features port,host
 if [ "${1:-}" = --bench ]; then
     $compare bench "${SEED:-1}"

@@ -15,8 +15,6 @@ pub mod facts;
 #[cfg(feature = "port")]
 pub mod flow;
 pub mod generate;
-#[cfg(feature = "host")]
-pub mod host;
 pub mod kinds;
 pub mod large;
 pub mod listing;

@@ -9,7 +9,7 @@ use compare::picture::Picture;
 #[cfg(feature = "port")]
 use compare::{bench, facts, flow, large, port, refusals};
 #[cfg(feature = "host")]
-use compare::{host, sink};
+use compare::sink;
 use compare::roles::roles;
 use compare::selfcheck::selfcheck;
 use compare::{program, vectors};
@@ -187,14 +187,14 @@ fn main() -> ExitCode {
         ["once", side, row] if bench::run_once(side, row) => ExitCode::SUCCESS,
         #[cfg(feature = "host")]
         ["sink", n, seed] => drawn(n, seed, |n, seed| {
-            let stats = sink::sink(n, seed, host::sink_into);
+            let stats = sink::sink(n, seed, virdzeba::entry);
             stats.print();
             keep(stats.smallest());
             stats.missing()
         }),
         #[cfg(not(feature = "host"))]
         ["sink", ..] => {
-            eprintln!("This was built without the host's entry: `rt staticlib host`, at the root of the repository, then `cargo build --features host`.");
+            eprintln!("This was built without the host's entry: `make lib`, at the root of the repository, then `cargo build --features host`.");
             ExitCode::from(2)
         }
         #[cfg(not(feature = "port"))]
