@@ -32,7 +32,7 @@ wants 0 "$sunk" make run FILE="$made/it's my \"file\".txt"
 
 printf 'registers 1\nblock 0\n  raw 101 0 0 0 0 0 0 0 0 0 0 0 0 0 0 0\n' >"$made/refused"
 wants 1 'refused 4
-The listing is refused, cause 4: an instruction has a kind or a form that there is not' tools/run.sh "$made/refused"
+The listing is refused, cause 4: a kind above 100, a form that its kind does not have' tools/run.sh "$made/refused"
 wants 2 'cause 4' make run FILE="$made/refused"
 {
     echo 'registers 1'

@@ -37,7 +37,8 @@ watch() {
         echo "rt $1 $2: $left of $crates crates are to be proved, which takes some minutes from nothing"
     fi
     while sleep 10 >/dev/null 2>&1; do
-        echo "  $(proved | wc -l) of $crates crates proved, the last $(proved | tail -n 1); $(seconds) s so far"
+        last=$(proved | tail -n 1)
+        echo "  $(proved | wc -l) of $crates crates proved${last:+ (last: $last)}, $(seconds) s so far"
     done
 }
 watch "$@" >&2 &

@@ -14,7 +14,7 @@
 //!
 //! The library is x86-64 Linux's, keeps no state and takes no memory but stack: threads may call it at once. **A call takes
 //! about 180 KB of stack**, which every thread that `std` starts has by default. Where the caller's stack may be smaller (a
-//! thread of C's, of musl's default of 128 KB, a coroutine), [`on_thread`] runs the call on a thread of [`STACK`] bytes.
+//! thread of C's, of musl's default of 128 KB, a coroutine), [`on_thread`] runs the call on a thread that has enough.
 
 mod picture;
 mod refusal;
@@ -27,8 +27,8 @@ pub use refusal::{Cause, Refusal};
 /// Bytes that a result has at least: those of the largest picture.
 pub const RESULT: usize = 53_024;
 
-/// Bytes of stack that are enough for a call.
-pub const STACK: usize = 256 * 1024;
+/// Bytes of stack that are enough for a thread that calls.
+pub const STACK: usize = 196_608;
 
 /// The registers and operands lent, those in use among them. A round that needs more is not done.
 #[derive(Clone, Copy, Debug, PartialEq, Eq)]
@@ -45,8 +45,9 @@ impl Room {
 /// How the call ended.
 #[derive(Clone, Copy, Debug, PartialEq, Eq)]
 pub enum Answer {
-    /// Fewer than eight rounds: no move is left, or a gate stopped the picture. After eight, moves may be left: call again with
-    /// the result.
+    /// Below eight rounds there was no further move, or a gate stopped the picture: it has no blocks, or no Cat of form 0. After
+    /// eight, moves may be left. A call with the result goes on, and may find moves even after fewer than eight: what is known
+    /// of registers is found once a call.
     Done { rounds: u32 },
     /// The next round needs more registers or operands than are lent; those before it are done.
     Short { rounds: u32 },
@@ -97,7 +98,8 @@ pub fn sink(picture: &[u8], room: Room) -> Result<(Answer, Vec<u8>), Refusal> {
     Ok((answer, result))
 }
 
-/// Runs something on a thread of its own with [`STACK`] bytes, and waits for it. The error is that no thread could be started.
+/// Runs something on a thread of its own, with [`STACK`] bytes for a call and 64 KB for what is around it, and waits for it. The
+/// error is that no thread could be started.
 ///
 /// ```
 /// # fn main() -> Result<(), Box<dyn std::error::Error>> {
@@ -111,7 +113,7 @@ pub fn sink(picture: &[u8], room: Room) -> Result<(Answer, Vec<u8>), Refusal> {
 /// ```
 pub fn on_thread<T: Send>(run: impl FnOnce() -> T + Send) -> io::Result<T> {
     thread::scope(|scope| {
-        let thread = thread::Builder::new().stack_size(STACK).spawn_scoped(scope, run)?;
+        let thread = thread::Builder::new().stack_size(STACK + 64 * 1024).spawn_scoped(scope, run)?;
         Ok(thread.join().unwrap_or_else(|panicked| panic::resume_unwind(panicked)))
     })
 }

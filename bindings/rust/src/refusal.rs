@@ -7,45 +7,34 @@ use std::fmt::{self, Display, Formatter};
 #[derive(Clone, Copy, Debug, PartialEq, Eq, PartialOrd, Ord, Hash)]
 #[repr(u32)]
 pub enum Cause {
-    /// More is in use than is lent, of registers or of operands.
-    TooLarge = 1,
-    /// The vias are neither none nor one for each instruction, or the words of case pairs are odd in number.
+    /// More registers or operands are in use than are lent.
+    Room = 1,
+    /// Via words are neither none nor one an instruction, or pair words are odd.
     Uneven = 2,
-    /// The blocks do not lie end to end over all instructions.
-    BlocksApart = 3,
-    /// A kind, or a form of a kind, that there is not; or scalars of a Cat above 65,535.
-    BadKind = 4,
-    /// A slot holds no register in use, or is absent or present where it may not be.
-    BadSlot = 5,
-    /// An operand list on a kind that has none, or past the operands in use; or an operand that is no register in use.
-    BadList = 6,
-    /// A branch or case target that is no block; or a case pair that is empty or past the targets.
-    BadTarget = 7,
-    /// A Cat with more than 33 operands.
-    LongCat = 8,
-    /// A type above 7.
-    BadType = 9,
-    /// Too little to work in. The library brings its own, so that it never answers this.
-    ShortWork = 10,
-    /// An instruction that could move writes two registers. No kind of today does.
-    TwoWrites = 11,
+    /// Blocks do not lie end to end over all instructions.
+    Blocks = 3,
+    /// A kind above 100, a form that its kind does not have, or word 9 of a Cat above 65,535.
+    Kind = 4,
+    /// A slot is no register in use, is absent where it must be there, or there where it must be absent; or a SigGather has
+    /// one of its last two registers without the other.
+    Slot = 5,
+    /// Words 7 and 8 are not 0 on a kind without a list, a list passes the operands in use, or an operand in use, listed or
+    /// not, is no register in use.
+    List = 6,
+    /// A Br or CondBr, wherever it stands, or a target word goes to no block; or a case table is empty or passes the target
+    /// words.
+    Branch = 7,
+    /// The list of a Cat has more than 33 registers.
+    Cat = 8,
+    /// A type in use is above 7.
+    Type = 9,
 }
 
 impl Cause {
-    /// All causes, by their numbers.
-    pub const ALL: [Cause; 11] = [
-        Cause::TooLarge,
-        Cause::Uneven,
-        Cause::BlocksApart,
-        Cause::BadKind,
-        Cause::BadSlot,
-        Cause::BadList,
-        Cause::BadTarget,
-        Cause::LongCat,
-        Cause::BadType,
-        Cause::ShortWork,
-        Cause::TwoWrites,
-    ];
+    /// All causes, by their numbers. There are two more, which this entry never gives: it brings what it works in (10), and no
+    /// kind that can move writes two registers (11).
+    pub const ALL: [Cause; 9] =
+        [Cause::Room, Cause::Uneven, Cause::Blocks, Cause::Kind, Cause::Slot, Cause::List, Cause::Branch, Cause::Cat, Cause::Type];
 
     /// The number, from 1 on.
     pub fn number(self) -> u32 {
@@ -60,17 +49,21 @@ impl Cause {
     /// The cause in words.
     pub fn words(self) -> &'static str {
         match self {
-            Cause::TooLarge => "more registers or operands are in use than are lent",
-            Cause::Uneven => "the vias are neither none nor one for each instruction, or the words of case pairs are odd in number",
-            Cause::BlocksApart => "the blocks do not lie end to end over all instructions",
-            Cause::BadKind => "an instruction has a kind or a form that there is not, or a Cat has scalars above 65535",
-            Cause::BadSlot => "a slot of an instruction holds no register in use, or is absent or present where it may not be",
-            Cause::BadList => "an operand list stands on a kind that has none or goes past the operands in use, or an operand is no register in use",
-            Cause::BadTarget => "a branch or case target is no block, or a case pair is empty or goes past the targets",
-            Cause::LongCat => "a Cat has more than 33 operands",
-            Cause::BadType => "a register has a type above 7",
-            Cause::ShortWork => "there is too little to work in",
-            Cause::TwoWrites => "an instruction that could move writes two registers",
+            Cause::Room => "more registers or operands are in use than are lent",
+            Cause::Uneven => "via words are neither none nor one an instruction, or pair words are odd",
+            Cause::Blocks => "blocks do not lie end to end over all instructions",
+            Cause::Kind => "a kind above 100, a form that its kind does not have, or word 9 of a Cat above 65,535",
+            Cause::Slot => {
+                "a slot is no register in use, is absent where it must be there, or there where it must be absent; or a SigGather has one of its last two registers without the other"
+            }
+            Cause::List => {
+                "words 7 and 8 are not 0 on a kind without a list, a list passes the operands in use, or an operand in use, listed or not, is no register in use"
+            }
+            Cause::Branch => {
+                "a Br or CondBr, wherever it stands, or a target word goes to no block; or a case table is empty or passes the target words"
+            }
+            Cause::Cat => "the list of a Cat has more than 33 registers",
+            Cause::Type => "a type in use is above 7",
         }
     }
 }

@@ -1,6 +1,8 @@
 //! Each answer that a call can give, what it writes, and what it leaves as it was.
 
-use virdzeba::{ABSENT, Answer, Cause, Picture, RECORD, RESULT, Refusal, Room, entry, length, on_thread, sink, sink_into};
+use std::thread;
+
+use virdzeba::{ABSENT, Answer, Cause, Picture, RECORD, RESULT, Refusal, Room, STACK, entry, length, on_thread, sink, sink_into};
 
 fn record(kind: u32, slots: &[u32], payload: &[u32]) -> [u32; RECORD] {
     let mut words = [0; RECORD];
@@ -56,13 +58,13 @@ fn refused_by_its_cause() {
     type Change = fn(&mut Picture);
     let changes: [(Cause, Change); 8] = [
         (Cause::Uneven, |p| p.vias = vec![0]),
-        (Cause::BlocksApart, |p| p.bounds[1] = 9),
-        (Cause::BadKind, |p| p.records[0] = 101),
-        (Cause::BadSlot, |p| p.records[2] = 9),
-        (Cause::BadList, |p| p.records[8] = 1),
-        (Cause::BadTarget, |p| p.records[9 * RECORD + 9] = 3),
-        (Cause::LongCat, |p| (p.records[8 * RECORD + 8], p.operands) = (34, vec![0; 34])),
-        (Cause::BadType, |p| p.types[0] = 8),
+        (Cause::Blocks, |p| p.bounds[1] = 9),
+        (Cause::Kind, |p| p.records[0] = 101),
+        (Cause::Slot, |p| p.records[2] = 9),
+        (Cause::List, |p| p.records[8] = 1),
+        (Cause::Branch, |p| p.records[9 * RECORD + 9] = 3),
+        (Cause::Cat, |p| (p.records[8 * RECORD + 8], p.operands) = (34, vec![0; 34])),
+        (Cause::Type, |p| p.types[0] = 8),
     ];
     for (cause, change) in changes {
         let mut picture = listing();
@@ -70,7 +72,7 @@ fn refused_by_its_cause() {
         assert_eq!(refused(&picture), Err(Refusal::Refused(cause)));
     }
     let few = Room { registers: 8, operands: 0 };
-    assert_eq!(sink(&listing().to_bytes(), few), Err(Refusal::Refused(Cause::TooLarge)));
+    assert_eq!(sink(&listing().to_bytes(), few), Err(Refusal::Refused(Cause::Room)));
 }
 
 #[test]
@@ -97,7 +99,7 @@ fn a_lent_buffer_keeps_what_is_not_written() {
 
     result.fill(0xA5);
     let few = Room { registers: 8, operands: 0 };
-    assert_eq!(sink_into(&before, &mut result, few), Err(Refusal::Refused(Cause::TooLarge)));
+    assert_eq!(sink_into(&before, &mut result, few), Err(Refusal::Refused(Cause::Room)));
     assert_eq!(sink_into(&before[1..], &mut result, Room::MOST), Err(Refusal::Unread));
     assert_eq!(sink_into(&before, &mut result[..RESULT - 1], Room::MOST), Err(Refusal::Unread));
     assert!(result.iter().all(|&byte| byte == 0xA5));
@@ -118,7 +120,7 @@ fn causes_have_numbers_and_words() {
         let shown = Refusal::Refused(cause).to_string();
         assert_eq!(shown, format!("refused: {} (cause {k})", cause.words()));
     }
-    assert_eq!([Cause::of_number(0), Cause::of_number(12)], [None, None]);
+    assert_eq!([Cause::of_number(0), Cause::of_number(10)], [None, None]);
     // The same words as `make run` has.
     let lines: Vec<_> = Cause::ALL.iter().map(|cause| format!("{} {}\n", cause.number(), cause.words())).collect();
     assert_eq!(lines.concat(), include_str!("../../../tools/causes.txt"));
@@ -135,8 +137,11 @@ fn bytes_and_lists() {
 }
 
 #[test]
-fn a_thread_with_enough_stack() {
+fn threads_with_enough_stack() {
     let before = listing().to_bytes();
     let called = on_thread(|| sink(&before, Room::MOST)).expect("a thread");
     assert_eq!(called, sink(&before, Room::MOST));
+    let bare = move || sink(&before, Room::MOST);
+    let thread = thread::Builder::new().stack_size(STACK).spawn(bare).expect("a thread");
+    assert_eq!(thread.join().expect("the stack is enough"), called);
 }
