@@ -30,14 +30,20 @@ wants 0 "$sunk" tools/run.sh
 cp examples/listing.txt "$made/it's my \"file\".txt"
 wants 0 "$sunk" make run FILE="$made/it's my \"file\".txt"
 
-printf 'registers 1\nblock 0\n  raw 101 0 0 0 0 0 0 0 0 0 0 0 0 0 0 0\n' >"$made/refused"
+# The same picture with a kind that there is not, and one of 65 blocks, as listings.
+tools/listing.py pack examples/listing.txt >"$made/bytes"
+python3 - "$made" <<'DAMAGE'
+import struct, sys
+data = bytearray(open(sys.argv[1] + '/bytes', 'rb').read())
+struct.pack_into('<I', data, 4 * (8 + 2 * 3), 101)
+open(sys.argv[1] + '/kind', 'wb').write(data)
+open(sys.argv[1] + '/blocks', 'wb').write(struct.pack('<138I', 65, *[0] * 137))
+DAMAGE
+tools/listing.py show "$made/kind" >"$made/refused"
+tools/listing.py show "$made/blocks" >"$made/unread"
 wants 1 'refused 4
 The listing is refused, cause 4: a kind above 100, a form that its kind does not have' tools/run.sh "$made/refused"
 wants 2 'cause 4' make run FILE="$made/refused"
-{
-    echo 'registers 1'
-    for block in $(seq 0 64); do printf 'block %d\n  Ret\n' "$block"; done
-} >"$made/unread"
 wants 1 "unread 0
 The listing is not read: it is larger than the program's sizes" tools/run.sh "$made/unread"
 printf 'registers 1\nblock 0\n  Nothing r0\n' >"$made/mistaken"

@@ -34,7 +34,7 @@ watch() {
     if [ "$left" -le 1 ]; then
         echo "rt $1 $2: this takes a minute or two"
     else
-        echo "rt $1 $2: $left of $crates crates are to be proved, which takes some minutes from nothing"
+        echo "rt $1 $2: $left of $crates crates are to be proved; all of them take some minutes"
     fi
     while sleep 10 >/dev/null 2>&1; do
         last=$(proved | tail -n 1)
