@@ -2,7 +2,7 @@
 //! this crate stands in. It is libvirdzeba.a, which `make lib` makes, or libhost.a, which `rt staticlib host` writes.
 
 use std::env;
-use std::path::{Path, PathBuf};
+use std::path::{Path, PathBuf, absolute};
 use std::process::exit;
 
 fn main() {
@@ -13,7 +13,7 @@ fn main() {
         fail(&format!("the library is for x86-64 Linux alone, and this build is for {} {}", target[0], target[1]));
     }
     let folders = match env::var_os("VIRDZEBA_LIB_DIR") {
-        Some(given) => vec![PathBuf::from(given)],
+        Some(given) => vec![absolute(&given).unwrap_or_else(|_| given.into())],
         None => beside(Path::new(&env::var_os("CARGO_MANIFEST_DIR").expect("cargo names the folder"))),
     };
     let Some((folder, name)) = found(&folders) else {
@@ -28,9 +28,9 @@ fn main() {
     println!("cargo::rustc-link-lib=static={name}");
 }
 
-/// The folders of the repository where the library is made.
+/// The folders where the repository makes the library, this crate being in its bindings/rust.
 fn beside(here: &Path) -> Vec<PathBuf> {
-    let target = here.join("../../target");
+    let target = here.ancestors().nth(2).unwrap_or(here).join("target");
     ["lib", "staticlib"].map(|folder| target.join(folder)).to_vec()
 }
 
@@ -41,6 +41,6 @@ fn found(folders: &[PathBuf]) -> Option<(&Path, &'static str)> {
 }
 
 fn fail(what: &str) -> ! {
-    println!("cargo::error=virdzeba: {what}.");
+    println!("cargo::error={what}.");
     exit(1)
 }

@@ -92,10 +92,7 @@ pub fn sink_into<'r>(picture: &[u8], result: &'r mut [u8], room: Room) -> Result
 pub fn sink(picture: &[u8], room: Room) -> Result<(Answer, Vec<u8>), Refusal> {
     let mut result = vec![0; RESULT];
     let (answer, after) = sink_into(picture, &mut result, room)?;
-    let len = after.len();
-    result.truncate(len);
-    result.shrink_to_fit();
-    Ok((answer, result))
+    Ok((answer, after.to_vec()))
 }
 
 /// Runs something on a thread of its own, with [`STACK`] bytes for a call and 64 KB for what is around it, and waits for it. The
