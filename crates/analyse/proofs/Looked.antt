@@ -11,7 +11,6 @@ use lib.ListN.{getD, length, List·getD-eq-default}
 use Rattle.model.specs.Picture.{absent}
 use Rattle.model.specs.Analyse.{Facts, Fact, Known, unknown, Org, Unknown, Ro, Frame, no-fact, last-writer, org-of, len-of, when-some, known-of, small, positive, Read}
 use Rattle.inst.specs.Index.{reg-of, word-of, Among}
-use Rattle.inst.specs.declared.index.Reg.{Reg}
 use Rattle.inst.specs.declared.index.MaybeReg.{MaybeReg}
 use Rattle.inst.specs.declared.index.MaybeReg.the-variants.{Is, Not}
 use Rattle.inst.proofs.Indices.{among-of, reg-made}
@@ -66,12 +65,6 @@ module _ (k : Known) (f : ℕ) (e : f % 16 ≡ flags-of k) where
     flags-none t = ap (λ (y : Bool). points false y) (sym (ne-eqb (f / 2 % 2) 1 t) ∙ frame-bit) ∙ ap (λ (x : Bool). points x (k .frame)) not-ro
 
 -- ---- a register
-
-pub a-reg : {R : ℕ} {m : MaybeReg} {k : Reg} → m ≡ Is k → Among R m → (word-of m < R) × (word-of m ≡ absent → ⊥)
-a-reg {R} {m} {k} e a =
-    let in-use : Among R (Is k) = subst (Among R) e a in
-    let w : word-of m ≡ k .0 = ap word-of e in
-    (omega (arith, in-use .0, w), λ (q : word-of m ≡ absent). omega (arith, in-use .1, w, q))
 
 among-more : {R K : ℕ} → R ≤ K → (m : MaybeReg) → Among R m → Among K m
 among-more h (Is k) a = (omega (arith, h, a .0), a .1)

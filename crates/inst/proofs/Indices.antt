@@ -38,6 +38,22 @@ module _ (n count : ℕ) where
 
   -- ---- a register's number
 
+  pub is-reg : (r : Reg) → reg-of n count ≡ R.Is r → (n ≡ r .0) × (n < count)
+  unfolding reg-of
+  is-reg r = go (ltb n count) refl
+    where
+      go : (b : Bool) → ltb n count ≡ b → pick-reg b (R.Is (record { 0 = n })) R.Not ≡ R.Is r → (n ≡ r .0) × (n < count)
+      go true e q = (ap word-of q, ltb-true n count e)
+      go false e q = let z : _≡_ {A = ℕ} 0 1 = cc in absurd (omega arith)
+
+  pub not-reg : reg-of n count ≡ R.Not → count ≤ n
+  unfolding reg-of
+  not-reg = go (ltb n count) refl
+    where
+      go : (b : Bool) → ltb n count ≡ b → pick-reg b (R.Is (record { 0 = n })) R.Not ≡ R.Not → count ≤ n
+      go true e q = let z : _≡_ {A = ℕ} 0 1 = cc in absurd (omega arith)
+      go false e q = ltb-false n count e
+
   pub among-of : count ≤ absent → Among count (reg-of n count)
   unfolding reg-of
   among-of h = go (ltb n count) refl
@@ -59,3 +75,10 @@ module _ (n count : ℕ) where
   -- what is made of such a word, by as many registers as a list can have
   pub reg-made : count ≤ absent → (n ≡ absent) ⊎ (n < count) → {m : MaybeReg} → m ≡ reg-of n count → Among count m × (word-of m ≡ n)
   reg-made few h e = (subst (Among count) (sym e) (among-of few), ap word-of e ∙ word-of-reg h)
+
+-- one of count registers, that there is
+pub a-reg : {count : ℕ} {m : MaybeReg} {r : Reg} → m ≡ R.Is r → Among count m → (word-of m < count) × (word-of m ≡ absent → ⊥)
+a-reg {count} {m} {r} e a =
+    let in-use : Among count (R.Is r) = subst (Among count) e a in
+    let w : word-of m ≡ r .0 = ap word-of e in
+    (omega (arith, in-use .0, w), λ (q : word-of m ≡ absent). omega (arith, in-use .1, w, q))

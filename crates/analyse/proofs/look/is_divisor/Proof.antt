@@ -5,7 +5,8 @@ use native.Mathlib.Omega.{arith}
 use lib.ListN.{getD}
 use denote.Ref.{now}
 use Rattle.inst.specs.Index.{word-of}
-use Rattle.analyse.proofs.Looked.{a-reg, divisor-none, divisor-some}
+use Rattle.inst.proofs.Indices.{a-reg}
+use Rattle.analyse.proofs.Looked.{divisor-none, divisor-some}
 use borrow.Author.Needs.{needs}
 use Rattle.analyse.proofs.look.is_divisor.Statement.{statement}
 use Rattle.analyse.proofs.look.is_divisor.Tie as tie

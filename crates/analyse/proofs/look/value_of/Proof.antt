@@ -5,7 +5,8 @@ use native.Mathlib.Omega.{arith}
 use lib.ListN.{getD}
 use denote.Ref.{now}
 use Rattle.inst.specs.Index.{word-of}
-use Rattle.analyse.proofs.Looked.{a-reg, valued-none, valued-flags, valued-left, a-writer, left-org}
+use Rattle.inst.proofs.Indices.{a-reg}
+use Rattle.analyse.proofs.Looked.{valued-none, valued-flags, valued-left, a-writer, left-org}
 use borrow.Author.Needs.{needs}
 use Rattle.analyse.proofs.look.value_of.Statement.{statement}
 use Rattle.analyse.proofs.look.value_of.Tie as tie
