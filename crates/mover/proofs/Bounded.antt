@@ -90,3 +90,24 @@ module _ (P : Picture) (n : ℕ) (laid : gaps 0 n (P .bounds) ≡ false) (x t c 
     enough = λ k h l. L.above P n laid x k c x-in enough h (let i = L.in-bounds P n laid t t-in in omega arith);
     small = λ k h l. let b = L.below P n laid k (let i = L.in-bounds P n laid x x-in in omega arith) in omega arith;
   }
+
+-- ---- by the places of the two blocks
+
+module _ (x t c a b : ℕ) {xs ys : List ℕ} (ea : a ≡ x) (eb : b ≡ t) where
+  pub shifted-down : a < b → Mapped (λ w. w - c) (2 * a + 1) xs ys (2 * b + 1) → Shifted x t c xs ys
+  shifted-down lt m = record {
+    size = m .size;
+    later = λ h.
+        subst (λ (z : ℕ). Mapped (λ w. w - c) (2 * x + 1) xs ys (2 * z + 1)) eb
+        (subst (λ (z : ℕ). Mapped (λ w. w - c) (2 * z + 1) xs ys (2 * b + 1)) ea m);
+    earlier = λ h. absurd (omega arith);
+  }
+
+  pub shifted-up : b ≤ a → Mapped (λ w. w + c) (2 * b + 1) xs ys (2 * a + 1) → Shifted x t c xs ys
+  shifted-up le m = record {
+    size = m .size;
+    later = λ h. absurd (omega arith);
+    earlier = λ h.
+        subst (λ (z : ℕ). Mapped (λ w. w + c) (2 * t + 1) xs ys (2 * z + 1)) ea
+        (subst (λ (z : ℕ). Mapped (λ w. w + c) (2 * z + 1) xs ys (2 * a + 1)) eb m);
+  }

@@ -1,5 +1,8 @@
 // Block bounds after c instructions went from one block to another (01, "The move"; blocks lie end to end): all words between
 // the one's end and the other's start, both included, shift by c, those of empty blocks too.
+use inst::index::BlockId;
+use position::MARK;
+use position::PLACE;
 use words::numbers::one;
 ghost use mathlib.Core.Path.{_≡_};
 ghost use Prim.Native.Nat.{ℕ, _+_, _-_, _*_, _≤_, _<_};
@@ -33,15 +36,17 @@ fn up(bounds: &mut [u32], lo: usize, hi: usize, c: u32)
 }
 
 // The bounds after c instructions went from block x to block t.
-pub fn move_bounds(bounds: &mut [u32], x: usize, t: usize, c: u32)
-    requires { ⌜ ShiftAsk x t c (now bounds) ⌝ }
-    ensures { λ _. ⌜ Shifted x t c (now (bounds .entry)) (now (bounds .exit)) ⌝ }
+pub fn move_bounds(bounds: &mut [u32], x: BlockId, t: BlockId, c: u32)
+    requires { ⌜ ShiftAsk (x .0) (t .0) c (now bounds) ⌝ }
+    ensures { λ _. ⌜ Shifted (x .0) (t .0) c (now (bounds .entry)) (now (bounds .exit)) ⌝ }
 {
-    if x < t {
-        down(bounds, 2 * x + 1, 2 * t + 1, c);
+    let a = x.at();
+    let b = t.at();
+    if a < b {
+        down(bounds, 2 * a + 1, 2 * b + 1, c);
         return;
     }
-    up(bounds, 2 * t + 1, 2 * x + 1, c);
+    up(bounds, 2 * b + 1, 2 * a + 1, c);
 }
 
 // How many of the first m positions of the chain are members.
@@ -52,7 +57,7 @@ pub fn count(chain: &[u32], m: usize) -> u32
     let mut n = 0u32;
     let mut p = 0usize;
     while p < m {
-        n = n + one(chain[10 * p + 6] != 0);
+        n = n + one(chain[PLACE * p + MARK] != 0);
         p += 1;
     }
     n

@@ -1,5 +1,7 @@
 // The members of the block that they leave are saved, in order, and the records that stay close up (01, "The move"). A record
-// has w words. Position p of that block is a member if word 6 of the ten work words from 10 p on is not 0.
+// has w words. A position of that block is a member if its mark is not 0.
+use position::MARK;
+use position::PLACE;
 use words::copy::copy;
 use words::copy::slide;
 ghost use mathlib.Core.Path.{_≡_};
@@ -37,7 +39,7 @@ pub fn gather(
     let mut e = w * lo;
     let mut s = 0;
     while p < m {
-        s = s + take_one(xs, saved, chain[10 * p + 6], e, s, w);
+        s = s + take_one(xs, saved, chain[PLACE * p + MARK], e, s, w);
         e = e + w;
         p += 1;
     }

@@ -1,6 +1,7 @@
 // A segment of the block that the members leave: at most 64 records, so that a few kilobytes are enough to save those of them
 // that go (01, "The move"). Places before and behind are counted in words here: a record has w of them.
 use crate::gather::gather;
+use position::PLACE;
 use words::copy::copy;
 use words::copy::lift;
 use words::copy::slide;
@@ -24,7 +25,7 @@ pub fn from(chain: &[u32], p: usize) -> &[u32]
     requires { ⌜ 10 * p ≤ length (now chain) ⌝ }
     ensures { λ r. ⌜ now r ≡ drop (10 * p) (now (chain .entry)) ⌝ }
 {
-    let a = 10 * p;
+    let a = PLACE * p;
     &chain[a..]
 }
 
