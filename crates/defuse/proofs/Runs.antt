@@ -7,6 +7,7 @@ use Prim.Native.Nat.{ℕ, suc, _+_, _-_, _*_, _≤_, _<_}
 use native.Mathlib.Nat.{le-antisymm}
 use native.Mathlib.Omega.{arith}
 use lib.Dec.{eqb, ltb}
+use lib.ListN.{length}
 use borrow.Author.Tests.{eq-eqb, ne-eqb, lt-ltb, ltb-true, ltb-false}
 use Rattle.words.specs.Bits.{set-bit, unset-bit}
 use Rattle.words.specs.Lists.{In, range, upto, concat}
@@ -20,7 +21,7 @@ use Rattle.inst.specs.declared.index.MaybeReg.{MaybeReg}
 use Rattle.inst.specs.declared.index.MaybeReg.the-variants as R
 use Rattle.inst.proofs.Firsts.{three-reads}
 use Rattle.inst.proofs.Rest.{reads-step, writes-step, reads-all, reads-by-place, writes-by-place}
-use Rattle.defuse.specs.Sets.{one, put, wrote, before, run, Low}
+use Rattle.defuse.specs.Sets.{one, put, wrote, before, run, Low, Code}
 use Rattle.words.specs.Steps.{steps}
 use Rattle.words.proofs.Steps.{steps-append}
 
@@ -76,10 +77,10 @@ module _ (g : ℕ → ℕ) (s : ℕ) (h : s < 5) where
 module _ (recs : List ℕ) (p : ℕ) {c s : ℕ} (w : Within recs p) (h : s < 5) {r : MaybeReg} where
   pub slot-read : Low c (rest-reads (inst recs p) 0) → r ≡ reg-of (read-at (inst recs p) s) c → one r ≡ present (read-at (inst recs p) s)
   unfolding rest-reads
-  slot-read l = one-of (read-at (inst recs p) s) c (l .few) (λ n. l .each _ (by-place (read-at (inst recs p)) s h _ (reads-by-place recs p w) n))
+  slot-read l = one-of (read-at (inst recs p) s) c (omega (arith, l .few)) (λ n. l .each _ (by-place (read-at (inst recs p)) s h _ (reads-by-place recs p w) n))
 
   pub slot-written : Low c (writes (inst recs p)) → r ≡ reg-of (write-at (inst recs p) s) c → one r ≡ present (write-at (inst recs p) s)
-  slot-written l = one-of (write-at (inst recs p) s) c (l .few) (λ n. l .each _ (by-place (write-at (inst recs p)) s h _ (writes-by-place recs p w) n))
+  slot-written l = one-of (write-at (inst recs p) s) c (omega (arith, l .few)) (λ n. l .each _ (by-place (write-at (inst recs p)) s h _ (writes-by-place recs p w) n))
 
   pub read-next : Low c (rest-reads (inst recs p) 0) → r ≡ reg-of (read-at (inst recs p) s) c → rest-reads (inst recs p) s ≡ one r ++ rest-reads (inst recs p) (s + 1)
   read-next l e = reads-step recs p w s h ∙ ap (λ (xs : List ℕ). xs ++ rest-reads (inst recs p) (s + 1)) (sym (slot-read l e))
@@ -110,6 +111,13 @@ pub all-before : (ops : List ℕ) (u d : ℕ) (i : Inst) (xs ys l₀ : List ℕ)
 unfolding before
 all-before ops u d i xs ys l₀ {l₁} e p q h =
     h ∙ ap (λ (t : List ℕ). steps (put u) t ys) q ∙ sym (steps-append (put u) l₁ xs ys) ∙ ap (steps (put u) l₁) e ∙ ap (λ (t : List ℕ). steps (put u) t (reads ops i)) p
+
+module _ {recs ops : List ℕ} {c : ℕ} (g : Code recs ops c) (p : ℕ) (h : 16 * p + 16 ≤ length recs) where
+  pub read-low : Low c (reads ops (inst recs p))
+  read-low = record { few = g .few; each = λ q. g .read p q h }
+
+  pub written-low : Low c (writes (inst recs p))
+  written-low = record { few = g .few; each = λ q. g .written p q h }
 
 -- ---- a run of them, from the last on
 

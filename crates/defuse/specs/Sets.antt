@@ -6,7 +6,7 @@ use lib.ListN.{length}
 use Rattle.words.specs.Bits.{set-bit, unset-bit}
 use Rattle.words.specs.Lists.{In}
 use Rattle.words.specs.Steps.{steps}
-use Rattle.model.specs.Picture.{Inst, inst, absent, reads, writes}
+use Rattle.model.specs.Picture.{Inst, inst, reads, writes}
 use Rattle.inst.specs.Record.{Known, Listed}
 use Rattle.inst.specs.declared.index.MaybeReg.{MaybeReg}
 use Rattle.inst.specs.declared.index.MaybeReg.the-variants as R
@@ -35,16 +35,17 @@ run ops u d ws (i ∷ is) = before ops u d (run ops u d ws is) i
 
 -- each of the list is one of R registers, and absent is none
 pub record Low (R : ℕ) (l : List ℕ) : Type 0 where
-  pub few : R ≤ absent
+  pub few : R ≤ 65536
   pub each : (q : ℕ) → In q l → q < R
 
--- what acceptance (01, "The call", causes 4 to 6) gives of the records: known kinds, lists within the operands, and each
+-- what acceptance (01, "The call", causes 1 and 4 to 6) gives of the records: known kinds, lists within the operands, and each
 -- register that is read or written is one of R
 pub record Code (recs ops : List ℕ) (R : ℕ) : Type 0 where
+  pub few : R ≤ 65536
   pub known : (p : ℕ) → 16 * p + 16 ≤ length recs → Known recs p
   pub listed : (p : ℕ) → 16 * p + 16 ≤ length recs → Listed recs ops p
-  pub read : (p : ℕ) → 16 * p + 16 ≤ length recs → Low R (reads ops (inst recs p))
-  pub written : (p : ℕ) → 16 * p + 16 ≤ length recs → Low R (writes (inst recs p))
+  pub read : (p q : ℕ) → 16 * p + 16 ≤ length recs → In q (reads ops (inst recs p)) → q < R
+  pub written : (p q : ℕ) → 16 * p + 16 ≤ length recs → In q (writes (inst recs p)) → q < R
 
 -- n blocks have their rows of live-in and of what they write, of w words each, in the slice
 pub record Room (n w : ℕ) (bits : List ℕ) : Type 0 where

@@ -2,7 +2,6 @@
 use mathlib.Core.Path.{subst}
 use mathlib.Core.List.{[]}
 use Prim.Native.Nat.{ℕ, _+_, _*_, _≤_, _<_}
-use native.Mathlib.Nat.{lt-of-lt-of-le}
 use native.Mathlib.Omega.{arith}
 use lib.ListN.{getD, length}
 use Rattle.words.specs.Lists.{In}
@@ -10,11 +9,11 @@ use Rattle.words.proofs.Members.{in-getD}
 use Rattle.model.specs.Picture.{Picture, inst, succs}
 use Rattle.laws.proofs.Accepted as laws
 use Rattle.laws.proofs.Admitted.{kind-low, writes-low, list-in, reads-low, succs-low, pair-fits}
-use Rattle.laws.proofs.Sizes.{few-blocks, opers-lent, recs-length, block-within}
+use Rattle.laws.proofs.Sizes.{few-blocks, few-types, regs-lent, opers-lent, recs-length, block-within}
 use Rattle.inst.specs.Record.{Known}
 use Rattle.cfg.specs.Drawn.{drawn}
 use Rattle.cfg.specs.Graph.{Tables, Blocks, Graph}
-use Rattle.defuse.specs.Sets.{Code, Below}
+use Rattle.defuse.specs.Sets.{Code}
 use Rattle.flow.proofs.Whole.{succs-whole}
 
 module _ (P : Picture) (ok : laws.Accepted P) where
@@ -46,15 +45,11 @@ module _ (P : Picture) (ok : laws.Accepted P) where
         (subst (In (getD (succs (drawn (P .bounds) (P .recs) [] (P .pairs) (P .targets)) b) j 0)) (succs-whole P [] b) (in-getD 0 (succs (drawn (P .bounds) (P .recs) [] (P .pairs) (P .targets)) b) j k));
   }
 
-  pub code-given : Code (P .recs) (P .ops)
+  pub code-given : Code (P .recs) (P .ops) (P .regs)
   code-given = record {
+    few = omega (arith, few-types P ok, regs-lent P ok);
     known = known;
     listed = λ p h. record { within = record { whole = h }; list = omega (arith, list-in P (inst (P .recs) p) (admitted p h), opers-lent P ok) };
-  }
-
-  -- R registers in use have their bits in w words
-  pub below-given : (w : ℕ) → P .regs ≤ 64 * w → Below (P .recs) (P .ops) (64 * w)
-  below-given w e = record {
-    read = λ p q h i. lt-of-lt-of-le (reads-low P ok (inst (P .recs) p) (admitted p h) q i) e;
-    written = λ p q h i. lt-of-lt-of-le (writes-low P (inst (P .recs) p) (admitted p h) q i) e;
+    read = λ p q h i. reads-low P ok (inst (P .recs) p) (admitted p h) q i;
+    written = λ p q h i. writes-low P (inst (P .recs) p) (admitted p h) q i;
   }

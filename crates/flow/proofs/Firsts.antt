@@ -4,6 +4,7 @@ use mathlib.Core.Logic.{inl, inr}
 use mathlib.Core.Bool.{Bool, true, false, not, _&&_, _||_, true≢false}
 use mathlib.Core.List.{List, [], _∷_}
 use Prim.Native.Nat.{ℕ, _+_, _-_, _*_, _/_, _≤_, _<_}
+use native.Mathlib.Nat.{lt-of-lt-of-le}
 use native.Mathlib.Omega.{arith}
 use lib.Dec.{eqb}
 use lib.ListN.{length, getD}
@@ -17,7 +18,7 @@ use Rattle.model.specs.Picture.{Inst, inst, reads, writes, code}
 use Rattle.model.specs.Live.{read-first, written}
 use Rattle.cfg.specs.Drawn.{drawn}
 use Rattle.cfg.specs.Graph.{Blocks}
-use Rattle.defuse.specs.Sets.{put, wrote, before, run, Below}
+use Rattle.defuse.specs.Sets.{put, wrote, before, run, Code}
 use Rattle.words.specs.Steps.{steps}
 
 -- number q of row y
@@ -172,13 +173,13 @@ module _ (ops : List ℕ) (w x z : ℕ) (apart : x ≡ z → ⊥) where
 -- ---- a block
 
 -- the registers of its instructions
-pub code-small : (bounds recs ops : List ℕ) (w : ℕ) → Blocks bounds recs → Below recs ops (64 * w) → (b : ℕ) → b < length bounds / 2
+pub code-small : (bounds recs ops : List ℕ) (w : ℕ) {R : ℕ} → Blocks bounds recs → Code recs ops R → R ≤ 64 * w → (b : ℕ) → b < length bounds / 2
     → (i : Inst) → In i (code (drawn bounds recs ops [] []) b) → Small ops w i
-code-small bounds recs ops w ok small b h i k =
+code-small bounds recs ops w ok small fit b h i k =
     let z = in-map (inst recs) i (range (getD bounds (2 * b) 0) (getD bounds (2 * b + 1) 0 - getD bounds (2 * b) 0)) k in
     let p : ℕ = z .0 in
     let y = range-in p (getD bounds (2 * b) 0) (getD bounds (2 * b + 1) 0 - getD bounds (2 * b) 0) (z .1) in
     let y1 = y .1 in
     let y0 = y .0 in
     let whole : 16 * p + 16 ≤ length recs = omega (arith, ok .inside b h) in
-    subst (λ (i : Inst). Small ops w i) (sym (z .2)) (record { read = λ q m. small .read p q whole m; written = λ q m. small .written p q whole m })
+    subst (λ (i : Inst). Small ops w i) (sym (z .2)) (record { read = λ q m. lt-of-lt-of-le (small .read p q whole m) fit; written = λ q m. lt-of-lt-of-le (small .written p q whole m) fit })

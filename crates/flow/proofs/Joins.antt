@@ -14,6 +14,7 @@ use lib.ListN.{length, getD, set, drop, length-set}
 use lib.Seq.{getD-drop, set-getD, getD-set-same, getD-set-other, drop-set-lt}
 use borrow.Author.Tests.{eqb-true, eqb-false, not-true, not-false}
 use Rattle.words.specs.Bits.{digit, room}
+use Rattle.words.proofs.Bools.{lt?}
 use Rattle.words.proofs.Digits.{digit-or, digit-and-not, le-or}
 use Rattle.words.proofs.Rows.{room-set}
 use Rattle.words.proofs.Parts.{row-fits, cell-inj, below-split}
@@ -160,13 +161,18 @@ module _ {n w : ℕ} {ds : List ℕ} where
 pub onto : {n w : ℕ} {ds l m : List ℕ} {D : ℕ → ℕ → ℕ → Type 0} {r : Bool} → drop (n * w) l ≡ ds → Progress n w (drop (n * w) l) D l m r → Progress n w ds D l m r
 onto {n} {w} {ds} {l} {m} {D} {r} e p = subst (λ (x : List ℕ). Progress n w x D l m r) e p
 
-module _ {n w : ℕ} {ds l m k : List ℕ} {b : ℕ} {r r′ : Bool} where
-  -- one more word of an edge
-  pub row-more : {s i : ℕ} → Progress n w ds (λ c x j. (c ≡ b) × (x ≡ s) × (j < i)) l m r → Progress n w ds (λ c x j. (c ≡ b) × (x ≡ s) × (j ≡ i)) m k r′
-      → Progress n w ds (λ c x j. (c ≡ b) × (x ≡ s) × (j < i + 1)) l k (r || r′)
-  row-more {s} {i} = after (λ c x j d. ⊎-elim (λ u. inl (d .0, d .1, u)) (λ u. inr (d .0, d .1, u)) (below-split j i (d .2)))
-      (λ c x j d. (d .0, d .1, let u = d .2 in omega arith)) (λ c x j d. (d .0, d .1, let u = d .2 in omega arith))
+-- rows of w words that begin at one word are one
+same-row : {a b w : ℕ} → 0 < w → a * w ≡ b * w → a ≡ b
+same-row {a} {b} {w} z e =
+    ⊎-elim (λ (h : a < b). absurd (omega (arith, row-fits w h))) (λ (h : b ≤ a). ⊎-elim (λ (g : b < a). absurd (omega (arith, row-fits w g))) (λ (g : a ≤ b). omega arith) (lt? b a)) (lt? a b)
 
+-- one more word of an edge, between the rows that begin at `to` and `from`
+pub row-more : {n w : ℕ} {ds l m k : List ℕ} {r r′ : Bool} {to from i : ℕ} → Progress n w ds (λ c x j. (c * w ≡ to) × (x * w ≡ from) × (j < i)) l m r → Progress n w ds (λ c x j. (c * w ≡ to) × (x * w ≡ from) × (j ≡ i)) m k r′
+    → Progress n w ds (λ c x j. (c * w ≡ to) × (x * w ≡ from) × (j < i + 1)) l k (r || r′)
+row-more {to = to} {from = from} {i = i} = after (λ c x j d. ⊎-elim (λ u. inl (d .0, d .1, u)) (λ u. inr (d .0, d .1, u)) (below-split j i (d .2)))
+    (λ c x j d. (d .0, d .1, let u = d .2 in omega arith)) (λ c x j d. (d .0, d .1, let u = d .2 in omega arith))
+
+module _ {n w : ℕ} {ds l m k : List ℕ} {b : ℕ} {r r′ : Bool} where
   -- one more successor of a block
   pub edge-more : (ss : List ℕ) {j s : ℕ} → s ≡ getD ss j 0 → Progress n w ds (λ c x i. (c ≡ b) × Among ss j x × (i < w)) l m r
       → Progress n w ds (λ c x i. (c ≡ b) × (x ≡ s) × (i < w)) m k r′ → Progress n w ds (λ c x i. (c ≡ b) × Among ss (j + 1) x × (i < w)) l k (r || r′)
@@ -176,13 +182,27 @@ module _ {n w : ℕ} {ds l m k : List ℕ} {b : ℕ} {r r′ : Bool} where
       (λ c x i d. (d .0, (j, omega arith, d .1 ∙ e), d .2))
 
 module _ {n w : ℕ} {ds l m : List ℕ} {b : ℕ} {r : Bool} where
+  -- one word, by the numbers of the blocks
+  pub row-word : {n′ s to from i : ℕ} → n′ ≡ n → b * w ≡ to → s * w ≡ from → i < w → Progress n′ w ds (λ c x j. (c ≡ b) × (x ≡ s) × (j ≡ i)) l m r
+      → Progress n w ds (λ c x j. (c * w ≡ to) × (x * w ≡ from) × (j ≡ i)) l m r
+  row-word {n′} {s} {to} {from} {i} en eb es h p =
+      let z : 0 < w = omega arith in
+      subst (λ (k : ℕ). Progress k w ds (λ c x j. (c * w ≡ to) × (x * w ≡ from) × (j ≡ i)) l m r) en
+      (recast (λ c x j d. (same-row z (d .0 ∙ sym eb), same-row z (d .1 ∙ sym es), d .2)) (λ c x j d. (ap (λ (k : ℕ). k * w) (d .0) ∙ eb, ap (λ (k : ℕ). k * w) (d .1) ∙ es, d .2)) p)
+
   -- all words, all successors
-  pub row-all : {s i : ℕ} → i ≤ w → w ≤ i → Progress n w ds (λ c x j. (c ≡ b) × (x ≡ s) × (j < i)) l m r → Progress n w ds (λ c x j. (c ≡ b) × (x ≡ s) × (j < w)) l m r
-  row-all {s} h g p = subst (λ (k : ℕ). Progress n w ds (λ c x j. (c ≡ b) × (x ≡ s) × (j < k)) l m r) (le-antisymm h g) p
+  pub row-all : {s to from i : ℕ} → b * w ≡ to → s * w ≡ from → i ≤ w → w ≤ i → Progress n w ds (λ c x j. (c * w ≡ to) × (x * w ≡ from) × (j < i)) l m r
+      → Progress n w ds (λ c x j. (c ≡ b) × (x ≡ s) × (j < w)) l m r
+  row-all {s} eb es h g = recast
+      (λ c x j d. (ap (λ (k : ℕ). k * w) (d .0) ∙ eb, ap (λ (k : ℕ). k * w) (d .1) ∙ es, let u = d .2 in omega arith))
+      (λ c x j d. let u = d .2 in let z : 0 < w = omega arith in (same-row z (d .0 ∙ sym eb), same-row z (d .1 ∙ sym es), omega arith))
 
   pub edge-all : (ss : List ℕ) {j : ℕ} → j ≤ length ss → length ss ≤ j → Progress n w ds (λ c x i. (c ≡ b) × Among ss j x × (i < w)) l m r
       → Progress n w ds (λ c x i. (c ≡ b) × Among ss (length ss) x × (i < w)) l m r
   edge-all ss h g p = subst (λ (k : ℕ). Progress n w ds (λ c x i. (c ≡ b) × Among ss k x × (i < w)) l m r) (le-antisymm h g) p
+
+pub room-of : {n n′ w : ℕ} {l : List ℕ} → n′ ≡ n → Room n w l → Room n′ w l
+room-of {w = w} {l = l} e r = subst (λ (k : ℕ). Room k w l) (sym e) r
 
 pub room-kept : {n w : ℕ} {l : List ℕ} (m : List ℕ) → length m ≡ length l → Room n w l → Room n w m
 room-kept m e r = record { fits = omega (arith, r .fits) }
@@ -211,15 +231,16 @@ block-more {b = b} P P′ succ ss e part in₁ in₂ = after
 abbrev pub From : ℕ → ℕ → ℕ → Type 0
 From b n c = (b ≤ c) × (c < n)
 
--- going down from n, and up from 0
-pub block-down : {n w b : ℕ} {ds l m k : List ℕ} {r r′ : Bool} (succ : ℕ → List ℕ) (ss : List ℕ) → ss ≡ succ (b - 1) → 0 < b → b ≤ n
-    → Progress n w ds (Blocks (From b n) w succ) l m r → Progress n w ds (λ c x i. (c ≡ b - 1) × Among ss (length ss) x × (i < w)) m k r′
+-- going down from n, and up from 0: x is the block's number
+pub block-down : {n w b x : ℕ} {ds l m k : List ℕ} {r r′ : Bool} (succ : ℕ → List ℕ) (ss : List ℕ) → b - 1 ≡ x → ss ≡ succ x → 0 < b → b ≤ n
+    → Progress n w ds (Blocks (From b n) w succ) l m r → Progress n w ds (λ c y i. (c ≡ x) × Among ss (length ss) y × (i < w)) m k r′
     → Progress n w ds (Blocks (From (b - 1) n) w succ) l k (r || r′)
-block-down {n} {b = b} succ ss e h hn = block-more (From b n) (From (b - 1) n) succ ss e
-    (λ c d. ⊎-elim (λ (u : b - 1 ≡ c). inr (sym u)) (λ (u : b - 1 < c). inl (omega arith, d .1)) (eq-or-lt-of-le (d .0)))
+block-down {n} {b = b} {x = x} succ ss q e h hn = block-more (From b n) (From (b - 1) n) succ ss e
+    (λ c d. ⊎-elim (λ (u : b - 1 ≡ c). inr (sym u ∙ q)) (λ (u : b - 1 < c). inl (omega arith, d .1)) (eq-or-lt-of-le (d .0)))
     (λ c d. let u = d .0 in (omega arith, d .1)) (λ c u. (omega arith, omega arith))
 
-pub block-up : {n w b : ℕ} {ds l m k : List ℕ} {r r′ : Bool} (succ : ℕ → List ℕ) (ss : List ℕ) → ss ≡ succ b
-    → Progress n w ds (Edges b w succ) l m r → Progress n w ds (λ c x i. (c ≡ b) × Among ss (length ss) x × (i < w)) m k r′
+pub block-up : {n w b x : ℕ} {ds l m k : List ℕ} {r r′ : Bool} (succ : ℕ → List ℕ) (ss : List ℕ) → b ≡ x → ss ≡ succ x
+    → Progress n w ds (Edges b w succ) l m r → Progress n w ds (λ c y i. (c ≡ x) × Among ss (length ss) y × (i < w)) m k r′
     → Progress n w ds (Edges (b + 1) w succ) l k (r || r′)
-block-up {b = b} succ ss e = block-more (λ c. c < b) (λ c. c < b + 1) succ ss e (λ c u. below-split c b u) (λ c u. omega arith) (λ c u. omega arith)
+block-up {b = b} {x = x} succ ss q e = block-more (λ c. c < b) (λ c. c < b + 1) succ ss e
+    (λ c u. ⊎-elim (λ (v : c < b). inl v) (λ (v : c ≡ b). inr (v ∙ q)) (below-split c b u)) (λ c u. omega arith) (λ c u. omega arith)

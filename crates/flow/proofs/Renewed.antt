@@ -1,6 +1,6 @@
 -- Making the rows of one block anew leaves them as its code is and all other words as they were; so does making all of them,
 -- block by block. Assumes nothing.
-use mathlib.Core.Path.{_≡_, refl, sym, ap, ap₂, _∙_}
+use mathlib.Core.Path.{_≡_, refl, sym, ap, ap₂, subst, _∙_}
 use mathlib.Core.Logic.{_⊎_, _≢_, inl, inr, ⊎-elim}
 use mathlib.Core.Bool.{false}
 use mathlib.Core.List.{List, [], _∷_, map}
@@ -16,7 +16,7 @@ use Rattle.words.proofs.Rows.{in-clear}
 use Rattle.model.specs.Picture.{Picture, Inst, inst, reads, writes, code}
 use Rattle.cfg.specs.Drawn.{drawn}
 use Rattle.cfg.specs.Graph.{Blocks}
-use Rattle.defuse.specs.Sets.{put, wrote, before, run, Below}
+use Rattle.defuse.specs.Sets.{put, wrote, before, run, Code}
 use Rattle.words.specs.Steps.{steps}
 use Rattle.flow.specs.Live.{RowRoom, Rows, OnlyRows}
 use Rattle.flow.proofs.Firsts.{at, Small, code-small, length-run, run-own, run-kill}
@@ -78,7 +78,7 @@ module _ (ops : List ℕ) (w x z i : ℕ) (ox : Outside w x i) (oz : Outside w z
 
 -- ---- one block
 
-module _ (bounds recs ops : List ℕ) (w b : ℕ) (l : List ℕ) (ok : Blocks bounds recs) (small : Below recs ops (64 * w))
+module _ (bounds recs ops : List ℕ) (w b : ℕ) (l : List ℕ) {R : ℕ} (ok : Blocks bounds recs) (small : Code recs ops R) (fit : R ≤ 64 * w)
     (room : RowRoom (length bounds / 2) w l) (h : b < length bounds / 2) where
   abbrev P : Picture
   P = drawn bounds recs ops [] []
@@ -121,15 +121,15 @@ module _ (bounds recs ops : List ℕ) (w b : ℕ) (l : List ℕ) (ok : Blocks bo
   rows-of-made : Rows P w b made
   unfolding made
   rows-of-made = record {
-    first = λ r j. run-own ops w x z apart l₂ (rw size₂ (first-fits room h)) (rw size₂ (wrote-fits room h)) r j (none-first r j) (code P b) (code-small bounds recs ops w ok small b h);
-    wrote = λ r j. run-kill ops w x z apart l₂ (rw size₂ (first-fits room h)) (rw size₂ (wrote-fits room h)) r j (none-wrote r j) (code P b) (code-small bounds recs ops w ok small b h);
+    first = λ r j. run-own ops w x z apart l₂ (rw size₂ (first-fits room h)) (rw size₂ (wrote-fits room h)) r j (none-first r j) (code P b) (code-small bounds recs ops w ok small fit b h);
+    wrote = λ r j. run-kill ops w x z apart l₂ (rw size₂ (first-fits room h)) (rw size₂ (wrote-fits room h)) r j (none-wrote r j) (code P b) (code-small bounds recs ops w ok small fit b h);
   }
 
   only-of-made : OnlyRows n w b l made
   unfolding l₁ l₂ made
   only-of-made = record {
     size = length-run ops w x z apart l₂ (code P b) ∙ size₂;
-    same = λ i oz ox. run-else ops w x z i ox oz l₂ (code P b) (code-small bounds recs ops w ok small b h) ∙ clear-else w z i l₁ oz ∙ clear-else w x i l ox;
+    same = λ i oz ox. run-else ops w x z i ox oz l₂ (code P b) (code-small bounds recs ops w ok small fit b h) ∙ clear-else w z i l₁ oz ∙ clear-else w x i l ox;
   }
 
   -- what block_rows leaves
@@ -141,11 +141,12 @@ module _ (bounds recs ops : List ℕ) (w b : ℕ) (l : List ℕ) (ok : Blocks bo
         e ∙ ap₂ (λ (y v : ℕ). run ops (x * w) (z * w) k₂ (map (inst recs) (range y (v - y)))) p q
         ∙ ap (λ (t : List ℕ). run ops (x * w) (z * w) t (code P b)) (e₂ ∙ ap (λ (t : List ℕ). sets t (z * w) (replicate w 0)) e₁)
 
-    pub rows-made : Rows P w b m
-    rows-made = rw is-made rows-of-made
+    -- w being the width v of a row, b the number c of the block
+    pub rows-made : {v c : ℕ} → w ≡ v → b ≡ c → Rows P v c m
+    rows-made {v} {c} ew eb = subst (λ (x : ℕ). Rows P x c m) ew (subst (λ (x : ℕ). Rows P w x m) eb (rw is-made rows-of-made))
 
-    pub only-made : OnlyRows n w b l m
-    only-made = rw is-made only-of-made
+    pub only-made : {v c : ℕ} → w ≡ v → b ≡ c → OnlyRows n v c l m
+    only-made {v} {c} ew eb = subst (λ (x : ℕ). OnlyRows n x c l m) ew (subst (λ (x : ℕ). OnlyRows n w x l m) eb (rw is-made only-of-made))
 
 -- ---- all blocks
 
@@ -159,13 +160,17 @@ module _ {bounds recs ops : List ℕ} {w : ℕ} {l : List ℕ} where
   pub made-none : Made bounds recs ops w 0 l l
   made-none = record { size = refl; each = λ c h. absurd (omega arith); behind = λ i h. refl }
 
-  pub made-more : {b : ℕ} {k m : List ℕ} → b < length bounds / 2 → Made bounds recs ops w b l k → Rows (drawn bounds recs ops [] []) w b m → OnlyRows (length bounds / 2) w b k m
+  one-more : {b : ℕ} {k m : List ℕ} → b < length bounds / 2 → Made bounds recs ops w b l k → Rows (drawn bounds recs ops [] []) w b m → OnlyRows (length bounds / 2) w b k m
       → Made bounds recs ops w (b + 1) l m
-  made-more {b} {k} {m} h s r o = record {
+  one-more {b} {k} {m} h s r o = record {
     size = o .size ∙ s .size;
     each = λ c j. ⊎-elim (λ (e : c < b). rows-else (drawn bounds recs ops [] []) w c k m b h (omega arith) (λ q. omega arith) o (s .each c e)) (λ (e : c ≡ b). rw e r) (below-split c b j);
     behind = λ i j. let y = within-rows (length bounds / 2) w b h in o .same i (inr (omega (arith, apart-rows (length bounds / 2) w b b h))) (inr (omega arith)) ∙ s .behind i j;
   }
+
+  pub made-more : {b c : ℕ} {k m : List ℕ} → b ≡ c → b < length bounds / 2 → Made bounds recs ops w b l k → Rows (drawn bounds recs ops [] []) w c m → OnlyRows (length bounds / 2) w c k m
+      → Made bounds recs ops w (b + 1) l m
+  made-more {b} {c} {k} {m} e h s r o = one-more h s (subst (λ (x : ℕ). Rows (drawn bounds recs ops [] []) w x m) (sym e) r) (subst (λ (x : ℕ). OnlyRows (length bounds / 2) w x k m) (sym e) o)
 
   pub room-made : {b : ℕ} {m : List ℕ} → Made bounds recs ops w b l m → RowRoom (length bounds / 2) w l → RowRoom (length bounds / 2) w m
   room-made s r = record { fits = rw (s .size) (r .fits) }

@@ -1,6 +1,6 @@
 -- The rows of what each block reads first and writes stand as long as their words do, and live-in is made from them.
 -- Assumes nothing.
-use mathlib.Core.Path.{_≡_, sym, ap, _∙_}
+use mathlib.Core.Path.{_≡_, sym, ap, subst, _∙_}
 use mathlib.Core.Logic.{_⊎_, inl, inr, ⊎-elim}
 use mathlib.Core.List.{List, []}
 use Prim.Native.Nat.{ℕ, _+_, _*_, _/_, _%_, _≤_, _<_}
@@ -38,6 +38,9 @@ module _ {n w b : ℕ} {l : List ℕ} (r : RowRoom n w l) (h : b < n) where
 
   pub wrote-fits : (n + b) * w + w ≤ length l
   wrote-fits = omega (arith, apart-rows n w b b h, first-fits)
+
+pub room-as : {n w v : ℕ} {l : List ℕ} → w ≡ v → RowRoom n v l → RowRoom n w l
+room-as {n} {l = l} e r = subst (λ (x : ℕ). RowRoom n x l) (sym e) r
 
 -- with those rows there is room for live-in
 pub live-room : {n w : ℕ} {l : List ℕ} (m : List ℕ) → length m ≡ length l → RowRoom n w l → Room n w m
@@ -109,11 +112,18 @@ module _ (bounds recs ops pairs targets : List ℕ) (w : ℕ) (l k m : List ℕ)
   stays i h = ap (λ (t : List ℕ). getD t i 0) e ∙ getD-sets-after l 0 (take (N * w) (drop from l)) i 0 (omega (arith, long))
 
   module _ (s : Solved N w (succs (drawn bounds recs [] pairs targets)) k m) where
-    pub live-from : ((b : ℕ) → b < N → Rows P w b l) → Live P w m
-    live-from each = live-rows bounds recs ops pairs targets w k m
+    from-rows : ((b : ℕ) → b < N → Rows P w b l) → Live P w m
+    from-rows each = live-rows bounds recs ops pairs targets w k m
         (λ b r h j. row-as w b (2 * N + 1 + b) l k (λ i g. copied b i h g) r j ∙ each b h .first r j)
         (λ b r h j. row-as w (N + b) (N + b) l k (λ i g. stays ((N + b) * w + i) (omega (arith, after-live N w b))) r j ∙ each b h .wrote r j)
         s
 
-    pub live-behind : drop (N * w) m ≡ drop (N * w) l
-    live-behind = s .rest ∙ ap (drop (N * w)) e ∙ drop-sets (N * w) l 0 (take (N * w) (drop from l)) (omega (arith, long))
+    behind : drop (N * w) m ≡ drop (N * w) l
+    behind = s .rest ∙ ap (drop (N * w)) e ∙ drop-sets (N * w) l 0 (take (N * w) (drop from l)) (omega (arith, long))
+
+    -- w being the width v of a row
+    pub live-from : {v : ℕ} → w ≡ v → ((b : ℕ) → b < N → Rows P v b l) → Live P v m
+    live-from e each = subst (λ (x : ℕ). Live P x m) e (from-rows (λ b h. subst (λ (x : ℕ). Rows P x b l) (sym e) (each b h)))
+
+    pub live-behind : {v : ℕ} → w ≡ v → drop (N * v) m ≡ drop (N * v) l
+    live-behind e = subst (λ (x : ℕ). drop (N * x) m ≡ drop (N * x) l) e behind

@@ -3,14 +3,18 @@
 // live into each successor and not written, in sweeps from the last block to the first and from the first to the last by
 // turns, so that a chain of blocks settles in one sweep whichever way its numbers go, until nothing changes.
 use cfg::graph::succs;
+use inst::index::BlockId;
+use inst::index::MaybeBlock;
+use words::bits::width;
 use words::numbers::wide;
 ghost use mathlib.Core.Path.{_≡_};
 ghost use mathlib.Core.Bool.{not};
-ghost use mathlib.Core.List.{[]};
+ghost use mathlib.Core.List.{List, []};
 ghost use Prim.Native.Nat.{ℕ, _+_, _*_, _/_, _^_, _≤_, _<_};
 ghost use lib.Dec.{eqb};
 ghost use lib.ListN.{length, getD, set, take, drop};
 ghost use lib.Seq.{sets};
+ghost use Rattle.words.specs.Bits.{width};
 ghost use Rattle.model.specs.Picture.{succs};
 ghost use Rattle.inst.specs.Table.{rows};
 ghost use Rattle.cfg.specs.Drawn.{drawn};
@@ -33,13 +37,13 @@ fn raise(bits: &mut [u64], a: usize, c: usize, d: usize) -> bool
 }
 
 // One edge: block b of n takes what is live into s and it does not write. Tells whether it changed.
-fn join(bits: &mut [u64], n: usize, w: usize, b: usize, s: usize) -> bool
-    requires { ⌜ Room n w (now bits) × (b < n) × (s < n) ⌝ }
-    ensures { λ r. ⌜ Progress n w (drop (n * w) (now (bits .entry))) (λ c x j. (c ≡ b) × (x ≡ s) × (j < w)) (now (bits .entry)) (now (bits .exit)) r ⌝ }
+fn join(bits: &mut [u64], n: u32, w: usize, b: BlockId, s: BlockId) -> bool
+    requires { ⌜ Room n w (now bits) × (b .0 < n) × (s .0 < n) ⌝ }
+    ensures { λ r. ⌜ Progress n w (drop (n * w) (now (bits .entry))) (λ c x j. (c ≡ b .0) × (x ≡ s .0) × (j < w)) (now (bits .entry)) (now (bits .exit)) r ⌝ }
 {
-    let to = b * w;
-    let from = s * w;
-    let writes = n * w + to;
+    let to = b.at() * w;
+    let from = s.at() * w;
+    let writes = wide(n) * w + to;
     let mut changed = false;
     let mut i = 0usize;
     while i < w {
@@ -51,14 +55,17 @@ fn join(bits: &mut [u64], n: usize, w: usize, b: usize, s: usize) -> bool
 }
 
 // One block: it takes what is live into each of its successors. Tells whether it changed.
-fn settle(bits: &mut [u64], list: &[u32], n: usize, w: usize, b: usize) -> bool
-    requires { ⌜ Room n w (now bits) × (b < n) × ((j : ℕ) → j < length (now list) → getD (now list) j 0 < n) ⌝ }
-    ensures { λ r. ⌜ Progress n w (drop (n * w) (now (bits .entry))) (λ c x i. (c ≡ b) × Among (now (list .entry)) (length (now (list .entry))) x × (i < w)) (now (bits .entry)) (now (bits .exit)) r ⌝ }
+fn settle(bits: &mut [u64], list: &[u32], n: u32, w: usize, b: BlockId) -> bool
+    requires { ⌜ Room n w (now bits) × (b .0 < n) × ((j : ℕ) → j < length (now list) → getD (now list) j 0 < n) ⌝ }
+    ensures { λ r. ⌜ Progress n w (drop (n * w) (now (bits .entry))) (λ c x i. (c ≡ b .0) × Among (now (list .entry)) (length (now (list .entry))) x × (i < w)) (now (bits .entry)) (now (bits .exit)) r ⌝ }
 {
     let mut changed = false;
     let mut j = 0usize;
     while j < list.len() {
-        let more = join(bits, n, w, b, wide(list[j]));
+        let MaybeBlock::Is(s) = BlockId::new(list[j], n) else {
+            return changed;
+        };
+        let more = join(bits, n, w, b, s);
         changed = changed | more;
         j += 1;
     }
@@ -80,11 +87,14 @@ fn sweep<'a>(
         (Edges (length (now (bounds .entry)) / 2) w (succs (drawn (now (bounds .entry)) (now (recs .entry)) [] (now (pairs .entry)) (now (targets .entry)))))
         (now (bits .entry)) (now (bits .exit)) r ⌝ }
 {
-    let n = bounds.len() / 2;
+    let n = (bounds.len() / 2) as u32;
     let mut changed = false;
-    let mut b = n;
-    while 0 < b {
-        b -= 1;
+    let mut k = n;
+    while 0 < k {
+        k -= 1;
+        let MaybeBlock::Is(b) = BlockId::new(k, n) else {
+            return changed;
+        };
         let list = succs(t, bounds, recs, pairs, targets, b);
         let more = settle(bits, list, n, w, b);
         changed = changed | more;
@@ -107,14 +117,17 @@ fn sweep_up<'a>(
         (Edges (length (now (bounds .entry)) / 2) w (succs (drawn (now (bounds .entry)) (now (recs .entry)) [] (now (pairs .entry)) (now (targets .entry)))))
         (now (bits .entry)) (now (bits .exit)) r ⌝ }
 {
-    let n = bounds.len() / 2;
+    let n = (bounds.len() / 2) as u32;
     let mut changed = false;
-    let mut b = 0usize;
-    while b < n {
+    let mut k: u32 = 0;
+    while k < n {
+        let MaybeBlock::Is(b) = BlockId::new(k, n) else {
+            return changed;
+        };
         let list = succs(t, bounds, recs, pairs, targets, b);
         let more = settle(bits, list, n, w, b);
         changed = changed | more;
-        b += 1;
+        k += 1;
     }
     changed
 }
@@ -152,38 +165,41 @@ fn to_head(bits: &mut [u64], s: usize, n: usize)
     }
 }
 
-// Live-in of every block: row b, of w words, at the head of the slice, from the rows that rows.rt makes. What
-// lies behind the n rows of live-in is left as it was.
+// Live-in of every block: row b at the head of the slice, from the rows that rows.rt makes, whatever the operands are that
+// those are of. What lies behind the n rows of live-in is left as it was.
 pub fn live_in<'a>(
     bits: &mut [u64],
     t: &[u32; 202],
     bounds: &[u32],
     recs: &'a [u32],
-    ops: &[u32],
     pairs: &[u32],
     targets: &'a [u32],
-    w: usize,
+    regs: usize,
 )
-    requires { ⌜ (now t ≡ rows) × Graph (now bounds) (now recs) (now pairs) (now targets) × RowRoom (length (now bounds) / 2) w (now bits)
-        × ((b : ℕ) → b < length (now bounds) / 2 → Rows (drawn (now bounds) (now recs) (now ops) (now pairs) (now targets)) w b (now bits)) ⌝ }
-    ensures { λ _. ⌜ Live (drawn (now (bounds .entry)) (now (recs .entry)) (now (ops .entry)) (now (pairs .entry)) (now (targets .entry))) w (now (bits .exit)) ⌝ }
-    ensures { λ _. ⌜ drop (length (now (bounds .entry)) / 2 * w) (now (bits .exit)) ≡ drop (length (now (bounds .entry)) / 2 * w) (now (bits .entry)) ⌝ }
+    requires { ⌜ (now t ≡ rows) × Graph (now bounds) (now recs) (now pairs) (now targets) × RowRoom (length (now bounds) / 2) (width regs) (now bits) × (regs ≤ 65536) ⌝ }
+    ensures { λ _. ⌜ ((ops : List ℕ)
+        → ((b : ℕ) → b < length (now (bounds .entry)) / 2 → Rows (drawn (now (bounds .entry)) (now (recs .entry)) ops (now (pairs .entry)) (now (targets .entry))) (width regs) b (now (bits .entry)))
+        → Live (drawn (now (bounds .entry)) (now (recs .entry)) ops (now (pairs .entry)) (now (targets .entry))) (width regs) (now (bits .exit))) ⌝ }
+    ensures { λ _. ⌜ drop (length (now (bounds .entry)) / 2 * width regs) (now (bits .exit)) ≡ drop (length (now (bounds .entry)) / 2 * width regs) (now (bits .entry)) ⌝ }
 {
     let n = bounds.len() / 2;
+    let w = width(regs);
     to_head(bits, (2 * n + 1) * w, n * w);
     solve(bits, t, bounds, recs, pairs, targets, w);
 }
 
-// Word i of every row of the list.
-pub fn gather(bits: &[u64], list: &[u32], w: usize, i: usize) -> u64
-    requires { ⌜ (i < w) × ((j : ℕ) → j < length (now list) → getD (now list) j 0 * w + w ≤ length (now bits)) ⌝ }
+// Word i of every row of the list, of n blocks.
+pub fn gather(bits: &[u64], list: &[u32], n: u32, w: usize, i: usize) -> u64
+    requires { ⌜ (i < w) × (n * w ≤ length (now bits)) × ((j : ℕ) → j < length (now list) → getD (now list) j 0 < n) ⌝ }
     ensures { λ r. ⌜ r ≡ gathered (now (bits .entry)) w i 0 (now (list .entry)) ⌝ }
 {
     let mut x: u64 = 0;
     let mut j = 0usize;
     while j < list.len() {
-        let s = wide(list[j]);
-        x = x | bits[s * w + i];
+        let MaybeBlock::Is(s) = BlockId::new(list[j], n) else {
+            return x;
+        };
+        x = x | bits[s.at() * w + i];
         j += 1;
     }
     x

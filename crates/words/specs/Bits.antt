@@ -7,6 +7,10 @@ use lib.Count.{ones}
 use lib.Dec.{eqb}
 use lib.ListN.{getD, set}
 
+-- the words of a row of n numbers
+abbrev pub width : ℕ → ℕ
+width n = (n + 63) / 64
+
 -- bit k of a word, 0 or 1
 unfoldable pub digit : ℕ → ℕ → ℕ
 digit w k = w / 2 ^ k % 2

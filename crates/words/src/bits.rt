@@ -7,7 +7,15 @@
 ghost use mathlib.Core.Path.{_≡_};
 ghost use Prim.Native.Nat.{_+_, _*_, _^_, _≤_};
 ghost use lib.ListN.{length, replicate};
-ghost use Rattle.words.specs.Bits.{is-in, set-bit, unset-bit, ones-in};
+ghost use Rattle.words.specs.Bits.{width, is-in, set-bit, unset-bit, ones-in};
+
+// The words of a row of n numbers.
+pub fn width(n: usize) -> usize
+    requires { ⌜ n ≤ 65536 ⌝ }
+    ensures { λ r. ⌜ r ≡ width n ⌝ }
+{
+    (n + 63) / 64
+}
 
 // Is r in the row that begins at word `at`?
 pub fn bit_in(words: &[u64], at: usize, r: usize) -> bool

@@ -8,7 +8,7 @@ use lib.ListN.{length}
 use Rattle.words.specs.Lists.{range}
 use Rattle.model.specs.Picture.{inst}
 use Rattle.defuse.specs.Sets.{run}
-use Rattle.defuse.proofs.Runs.{run-none, run-more, run-all}
+use Rattle.defuse.proofs.Runs.{read-low, written-low, run-none, run-more, run-all}
 use Rattle.defuse.proofs.sets.block_sets.Statement.{statement}
 use Rattle.defuse.proofs.sets.block_sets.Tie as tie
 
@@ -31,7 +31,7 @@ add-front-requires c κs =
     let e = c .before .before .loop .inv .2 in
     let t = c .before .loop-test .taken in
     let p = c .before .before .loop .p - 1 in
-    (g .0, omega arith, omega arith, g .5 .known p (omega arith), g .5 .listed p (omega arith), g .5 .read p (omega arith), g .5 .written p (omega arith))
+    (g .0, omega arith, omega arith, g .5 .known p (omega arith), g .5 .listed p (omega arith), read-low (g .5) p (omega arith), written-low (g .5) p (omega arith))
 
 loop-less : tie.Need-loop-less Inv-loop μ-loop
 loop-less c = search needs
