@@ -3,6 +3,7 @@
 use chains::chain::Chain;
 use chains::pass::Sink;
 use chains::places::chain_len;
+use inst::index::BlockId;
 use picture::gates::plain_cat;
 use words::numbers::wide;
 ghost use mathlib.Core.Path.{_≡_};
@@ -32,10 +33,10 @@ fn has(xs: &[u32], x: u32) -> bool
 }
 
 // Is t or f in replay?
-pub fn replays(replay: &[u32], t: u32, f: u32) -> bool
-    ensures { λ r. ⌜ r ≡ (mem t (now (replay .entry)) || mem f (now (replay .entry))) ⌝ }
+pub fn replays(replay: &[u32], t: BlockId, f: BlockId) -> bool
+    ensures { λ r. ⌜ r ≡ (mem (t .0) (now (replay .entry)) || mem (f .0) (now (replay .entry))) ⌝ }
 {
-    has(replay, t) | has(replay, f)
+    has(replay, t.number()) | has(replay, f.number())
 }
 
 // Is one of the records from a up to e a Cat of form 0?
@@ -67,7 +68,7 @@ pub fn worth_a_look(
 {
     let t = c.t;
     let f = c.f;
-    let again = replays(replay, t.0, f.0);
+    let again = replays(replay, t, f);
     let a = wide(bounds[2 * x]);
     let e = wide(bounds[2 * x + 1]);
     if e - a <= wide(Sink::minimum(again)) {
