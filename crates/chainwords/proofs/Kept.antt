@@ -14,8 +14,9 @@ use Rattle.model.specs.Refusal.{records}
 use Rattle.model.specs.Analyse.{Facts}
 use Rattle.laws.proofs.Accepted as laws
 use Rattle.laws.proofs.Sizes.{regs-lent}
-use Rattle.chainwords.specs.declared.sizes.Sizes.{Sizes}
-use Rattle.chainwords.specs.Work.{width, at-regs, reg-words, Held, Lists}
+use Rattle.sizes.specs.declared.Sizes.{Sizes}
+use Rattle.sizes.specs.Parts.{width, regs-at}
+use Rattle.chainwords.specs.Work.{at-regs, reg-words, Held, Lists}
 use Rattle.chainwords.proofs.Standing.{same-rows, Firm, firsts-before, begun-kept}
 
 -- ---- rows of bits
@@ -27,7 +28,7 @@ module _ {P : Picture} {bounds recs ops : List ℕ} {s : Sizes} {w64 w32 : ℕ} 
   pub ok : laws.Accepted P
   ok = laws.accepted P w64 w32 records (l .accepted)
 
-  pub at-is : 4 * s .blocks * width (s .lent) ≡ at-regs P
+  pub at-is : regs-at s ≡ at-regs P
   at-is = rw (l .blocks-are, l .lent-are) refl
 
   -- ---- what is held

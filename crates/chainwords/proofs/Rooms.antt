@@ -3,7 +3,7 @@
 use mathlib.Core.Path.{_≡_, refl, sym, ap, _∙_, subst}
 use mathlib.Core.List.{List, [], _∷_}
 use Prim.Native.Nat.{ℕ, _+_, _-_, _*_, _≤_, _<_}
-use native.Mathlib.Nat.{mul-assoc, mul-le-mul, mul-le-mul-left}
+use native.Mathlib.Nat.{mul-assoc, mul-le-mul-left}
 use native.Mathlib.Omega.{arith}
 use lib.Dec.{eqb}
 use lib.ListN.{getD, length, take, drop, length-drop}
@@ -16,8 +16,9 @@ use Rattle.laws.proofs.Accepted.{Accepted, accepted, work-room}
 use Rattle.laws.proofs.Sizes.{few-blocks, few-types, regs-lent}
 use Rattle.flow.proofs.Standing.{row-as}
 use Rattle.chains.specs.Chain.{Preds}
-use Rattle.chainwords.specs.declared.sizes.Sizes.{Sizes}
-use Rattle.chainwords.specs.Work.{width, at-needed, at-regs, pred-words, Held, Lists}
+use Rattle.sizes.specs.declared.Sizes.{Sizes}
+use Rattle.sizes.specs.Parts.{width}
+use Rattle.chainwords.specs.Work.{at-needed, at-regs, pred-words, Held, Lists}
 use Rattle.chainwords.proofs.Standing.{same-rows, flags-same, firsts-before, begun-kept}
 
 -- ---- sizes: B blocks, R registers in use, K lent
@@ -60,15 +61,6 @@ row-before {R = R} r h =
     let b = r .rows in
     let c = r .four in
     omega arith
-
-pub rows-small : {B R K w64 w32 b r w : ℕ} → Room B R K w64 w32 → b ≡ B → r ≡ R → w ≡ width r → b * w ≤ 4194304
-rows-small {b = b} {w = w} h eb er ew =
-    let x = h .blocks in
-    let y = h .lent in
-    let z = h .few in
-    let k : b ≤ 4096 = omega arith in
-    let l : w ≤ 1024 = omega arith in
-    mul-le-mul k l
 
 -- ---- what is held stays
 

@@ -29,8 +29,9 @@ use Rattle.summary.proofs.Backing.{writes-low}
 use Rattle.lastuse.proofs.Going.{readers-of}
 use Rattle.lastuse.proofs.LastUse.{last-use-is}
 use Rattle.pool.specs.Plan.{read-there}
-use Rattle.chainwords.specs.declared.sizes.Sizes.{Sizes}
-use Rattle.chainwords.specs.Work.{width, at-regs, reg-words, copied-words, Lists, Held}
+use Rattle.sizes.specs.declared.Sizes.{Sizes}
+use Rattle.sizes.specs.Parts.{width, regs-at, stamps-at}
+use Rattle.chainwords.specs.Work.{at-regs, reg-words, copied-words, Lists, Held}
 use Rattle.chainwords.specs.Puts.{use-of, UseAsked, Lasting}
 use Rattle.chainwords.specs.Along.{Along, Planning, Numbered, Lasts, Used}
 use Rattle.chains.specs.Chain.{chain-in}
@@ -77,7 +78,7 @@ module _ {bounds recs ops : List ℕ} {s : Sizes} {c : Chain} {w work64 work32 :
   m-few : m ≤ 800
   m-few = let z = g .in-x in let y = g .along .few in omega arith
 
-  module _ {a r : ℕ} (ea : a ≡ 4 * s .blocks * width (s .lent)) (er : r ≡ s .regs) where
+  module _ {st r : ℕ} (es : st ≡ stamps-at s) (er : r ≡ s .regs) where
     good-at : (p : ℕ) → p < n → Good recs ops r (cell w p 0)
     good-at p h = let l = g .lists in rw (l .recs-are, l .ops-are, er, l .regs-are) (g .along .safe .good p h)
 
@@ -95,15 +96,15 @@ module _ {bounds recs ops : List ℕ} {s : Sizes} {c : Chain} {w work64 work32 :
               subst (Good recs ops r) (g .along .numbers q i ∙ ap (λ (xs : List ℕ). getD xs q 0) same) (good-at q i);
         }
 
-    pub readers-room : a + s .lent + r ≤ length work64
-    readers-room = let z = plan-room in omega (arith, z .words64, z .lent, ea, er)
+    pub readers-room : st + r ≤ length work64
+    readers-room = let z = plan-room in omega (arith, z .words64, z .lent, es, er)
 
-    module _ {v : ℕ} (ev : v ≡ width r) where
-      pub row-inside : into * v + v ≤ a
-      row-inside = let z = plan-room in let y = into-low in rw ea (row-low (s .blocks) (omega arith) (omega (arith, z .lent, er, ev)))
+    module _ {b v : ℕ} (eb : b ≡ into) (ev : v ≡ width r) where
+      pub row-inside : b * v + v ≤ regs-at s
+      row-inside = let z = plan-room in let y = into-low in row-low (s .blocks) (omega (arith, eb)) (omega (arith, z .lent, er, ev))
 
-      module _ {work64′ : List ℕ} (ar : Around (a + s .lent) r work64 work64′) where
-        pub use-asked : Numbered w work32 n → UseAsked recs work64′ work32 r (into * v) n
+      module _ {work64′ : List ℕ} (ar : Around st r work64 work64′) where
+        pub use-asked : Numbered w work32 n → UseAsked recs work64′ work32 r (b * v) n
         use-asked nu =
             let z = plan-room in
             record {
@@ -111,30 +112,30 @@ module _ {bounds recs ops : List ℕ} {s : Sizes} {c : Chain} {w work64 work32 :
               known = λ p h. rw (nu .each p h) (good-at p h .known);
               fits = λ p h. rw (nu .each p h) (good-at p h .fits);
               room = omega (arith, z .words32, z .lent, er);
-              row = omega (arith, row-inside, z .words64, ea, ar .size);
+              row = omega (arith, row-inside, z .words64, ar .size);
             }
 
-        module _ {lasts work32′ : List ℕ} (rd : ReadersAlong recs ops bounds c lasts) (pt : Lasting recs lasts work64′ work32 work32′ r (into * v) n m) where
+        module _ {lasts work32′ : List ℕ} (rd : ReadersAlong recs ops bounds c lasts) (pt : Lasting recs lasts work64′ work32 work32′ r (b * v) n m) where
           module _ (P : Picture) (l : Lists P bounds recs ops s (length work64) (length work32)) where
-            at-a : a ≡ at-regs P
-            at-a = ea ∙ at-is l
+            at-a : regs-at s ≡ at-regs P
+            at-a = at-is l
 
             rows-same : take (at-regs P) work64′ ≡ take (at-regs P) work64
-            rows-same = take-less (at-regs P) (a + s .lent) work64′ work64 (omega (arith, at-a)) (ar .below)
+            rows-same = take-less (at-regs P) st work64′ work64 (omega (arith, es, at-a)) (ar .below)
 
             regs-same : reg-words P work64′ ≡ reg-words P work64
             regs-same =
                 let e = l .lent-are in
-                sym (part-first (at-regs P) (length (P .types)) (a + s .lent) work64′ (omega (arith, at-a)))
+                sym (part-first (at-regs P) (length (P .types)) st work64′ (omega (arith, es, at-a)))
                 ∙ ap (λ (z : List ℕ). take (length (P .types)) (drop (at-regs P) z)) (ar .below)
-                ∙ part-first (at-regs P) (length (P .types)) (a + s .lent) work64 (omega (arith, at-a))
+                ∙ part-first (at-regs P) (length (P .types)) st work64 (omega (arith, es, at-a))
 
             held-after : (G : Facts) → Held P G work64 work32 → Held P G work64′ work32′
             held-after G h =
                 held-kept l h work64′ work32′ rows-same (λ r i. ap (λ (xs : List ℕ). getD xs r 0 % 16) regs-same)
                 (drop-more 8000 (8000 + length (P .types)) work32′ work32 (omega arith) (lasting-behind pt m-few))
 
-            module _ (G : Facts) (w′ : List ℕ) (b : Plan) (h : Held P G work64 work32) (al : Along P G c w′ work32 n) (nu : Numbered w′ work32 n) (ei : b .into ≡ into) (eb : b .run ≡ run-of P G (chain-in c)) where
+            module _ (G : Facts) (w′ : List ℕ) (a : Plan) (h : Held P G work64 work32) (al : Along P G c w′ work32 n) (nu : Numbered w′ work32 n) (ei : a .into ≡ into) (ea : a .run ≡ run-of P G (chain-in c)) where
               abbrev regs : List ℕ
               regs = copied-words P work32
 
@@ -142,15 +143,15 @@ module _ {bounds recs ops : List ℕ} {s : Sizes} {c : Chain} {w work64 work32 :
               o = into * width (P .regs)
 
               lasting-P : Lasting (P .recs) lasts work64′ work32 work32′ (P .regs) o n m
-              lasting-P = rw (l .recs-are, ev, er, l .regs-are) at pt
+              lasting-P = rw (l .recs-are, eb, ev, er, l .regs-are) at pt
 
               readers-P : Readers (defs-of (P .recs) w′) (reads-of (P .recs) (P .ops) w′) n lasts
               readers-P =
                   readers-of (P .recs) (P .ops) w′ (chain-places P (blocks-of c)) (al .numbers)
                   (subst (λ (k : ℕ). Readers (defs-at (P .recs) (chain-places P (blocks-of c))) (reads-at (P .recs) (P .ops) (chain-places P (blocks-of c))) k lasts) (sym (al .long)) (rw (l .recs-are, l .ops-are) at (rd .each P (sym (l .bounds-are)))))
 
-              told : Told (P .recs) (P .ops) w′ regs n (b .run)
-              told = subst (Told (P .recs) (P .ops) w′ regs n) (sym eb) (al .told)
+              told : Told (P .recs) (P .ops) w′ regs n (a .run)
+              told = subst (Told (P .recs) (P .ops) w′ regs n) (sym ea) (al .told)
 
               regs-long : length regs ≡ P .regs
               regs-long = length-take-le (P .regs) (drop 8000 work32) (let z = room l in let e = length-drop 8000 work32 in omega (arith, z .words32, z .lent, l .regs-are))
@@ -159,7 +160,7 @@ module _ {bounds recs ops : List ℕ} {s : Sizes} {c : Chain} {w work64 work32 :
               in-chain p i = let z = g .in-x in omega arith
 
               -- the row of what is live into the target
-              row-is : (r : ℕ) → r < P .regs → is-in work64′ (64 * o + r) ≡ read-there P b r
+              row-is : (r : ℕ) → r < P .regs → is-in work64′ (64 * o + r) ≡ read-there P a r
               row-is r i =
                   let e = l .blocks-are in
                   let y = into-low in
@@ -167,19 +168,19 @@ module _ {bounds recs ops : List ℕ} {s : Sizes} {c : Chain} {w work64 work32 :
                   let q = row-low {b = into} {w = width (P .regs)} {v = width (length (P .types))} (nblocks P) (omega arith) (omega (arith, z .lent, l .regs-are, l .lent-are)) in
                   in-front work64′ work64 (at-regs P) (64 * o + r) rows-same (omega (arith, q))
                   ∙ h .live .row into r (omega arith) (omega arith)
-                  ∙ sym (getD-made (live-in P (b .into)) false 0 (P .regs) r i ∙ ap₂ (live-in P) ei (zero-add r))
+                  ∙ sym (getD-made (live-in P (a .into)) false 0 (P .regs) r i ∙ ap₂ (live-in P) ei (zero-add r))
 
               word-is : (p : ℕ) → p < m → getD work32′ (10 * p + 7) 0 ≡ use-of (P .recs) regs work64′ o lasts n (cell w′ p 0) p
               word-is p i = lasting-P .last p i ∙ ap (λ (k : ℕ). use-of (P .recs) regs work64′ o lasts n k p) (nu .each p (in-chain p i))
 
-              last-is : (p : ℕ) → p < m → getD work32′ (10 * p + 7) 0 ≡ last-use (b .run) (read-there P b) p
+              last-is : (p : ℕ) → p < m → getD work32′ (10 * p + 7) 0 ≡ last-use (a .run) (read-there P a) p
               last-is p i =
                   word-is p i
                   ∙ ap (λ (x : ℕ). cond (all (result-test regs work64′ o p) (defs-of (P .recs) w′ p)) x n) (readers-P .each p (let z = m-few in omega arith))
-                  ∙ sym (last-use-is (view (P .recs) (P .ops) w′ regs) n (b .run) (told .stands) p (in-chain p i) regs work64′ o (read-there P b)
+                  ∙ sym (last-use-is (view (P .recs) (P .ops) w′ regs) n (a .run) (told .stands) p (in-chain p i) regs work64′ o (read-there P a)
                   (λ r j. let k = writes-low (P .recs) (P .regs) (cell w′ p 0) (al .safe .good p (in-chain p i) .fits) r j in (al .ended .each r (omega (arith, regs-long)), row-is r k)))
 
-              lasts-after : Lasts P b m work32′
+              lasts-after : Lasts P a m work32′
               lasts-after = record {
                 is = last-is;
                 low = λ p i.

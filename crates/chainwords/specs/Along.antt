@@ -16,7 +16,7 @@ use Rattle.chains.specs.declared.chain.Chain.{Chain}
 use Rattle.chains.specs.Chain.{chain-in, blocks-of, Sound}
 use Rattle.legalset.specs.Chain.{cell, Safe, Brief, Told}
 use Rattle.summary.specs.Passes.{Ended}
-use Rattle.chainwords.specs.declared.sizes.Sizes.{Sizes}
+use Rattle.sizes.specs.declared.Sizes.{Sizes}
 use Rattle.chainwords.specs.Work.{Lists, Held, copied-words}
 
 -- the words w, ten a position, stand for the facts of chain c, which has n positions

@@ -1,8 +1,8 @@
--- The two lent work slices (01, "Port order and sizes"), as the search for a move uses them: where each part lies, and what stands
--- there. Assumes nothing.
+-- The two lent work slices (01, "Port order and sizes"), as the search for a move uses them: each part, where `sizes` says it lies, and
+-- what stands there. Assumes nothing.
 use mathlib.Core.Path.{_≡_}
 use mathlib.Core.List.{List}
-use Prim.Native.Nat.{ℕ, _+_, _*_, _/_, _≤_, _<_}
+use Prim.Native.Nat.{ℕ, _+_, _*_, _≤_, _<_}
 use lib.ListN.{length, take, drop}
 use Rattle.model.specs.Picture.{Picture, nblocks}
 use Rattle.model.specs.Refusal.{records, refusal}
@@ -10,11 +10,8 @@ use Rattle.model.specs.Analyse.{Facts}
 use Rattle.flow.specs.Live.{Live, Rows}
 use Rattle.chains.specs.Chain.{Preds}
 use Rattle.regfacts.specs.Flags.{Seen}
-use Rattle.chainwords.specs.declared.sizes.Sizes.{Sizes}
-
--- the words of a row of n registers
-abbrev pub width : ℕ → ℕ
-width n = (n + 63) / 64
+use Rattle.sizes.specs.declared.Sizes.{Sizes}
+use Rattle.sizes.specs.Parts.{width}
 
 -- ---- where the parts lie
 

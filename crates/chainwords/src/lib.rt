@@ -1,3 +1,3 @@
-// Where each part lies in the work slices, and the chain's words for the move (01, "The move"), written there from the list of facts.
-pub mod sizes; // sizes.rt: the sizes of what is lent
+// What stands in each part of the work slices (specs/Work), and the chain's words for the move (01, "The move"), written there from the
+// list of facts.
 pub mod marks; // marks.rt: the chain's words for the move

@@ -1,15 +1,16 @@
 // The chain's words for the move (01, "The move"): of each position the number of its record, its mark and the register it writes, by its
 // fact; of each position in x its last use.
-use crate::sizes::Sizes;
-use crate::sizes::at_regs;
-use crate::sizes::width;
 use chains::chain::Chain;
 use facts::Fact;
 use facts::fact_at;
+use inst::index::BlockId;
 use lastuse::uses::last_readers;
 use lastuse::uses::last_use;
-use model::CHAIN_WORDS;
 use model::RECORDS;
+use sizes::COPIED;
+use sizes::Sizes;
+use sizes::at_stamps;
+use sizes::width;
 use words::numbers::wide;
 ghost use mathlib.Core.Path.{_≡_};
 ghost use Prim.Native.Nat.{_+_, _*_, _≤_, _<_};
@@ -104,8 +105,8 @@ fn find_use(
     ensures { λ u. ⌜ u ≡ use-of (now (recs .entry)) (take r (drop 8000 (now (work32 .entry)))) (now (work64 .entry)) o (now (lasts .entry)) n (getD (now (work32 .entry)) (10 * p) 0) p ⌝ }
 {
     let g = wide(work32[10 * p]);
-    let e = CHAIN_WORDS + r;
-    last_use(t, recs, &work32[CHAIN_WORDS..e], work64, o, lasts, g, p, n)
+    let e = COPIED + r;
+    last_use(t, recs, &work32[COPIED..e], work64, o, lasts, g, p, n)
 }
 
 // Word 7 of the first m positions: their last uses.
@@ -141,20 +142,20 @@ pub fn put_uses(
     s: Sizes,
     c: Chain,
     moved: u32,
-    into: usize,
+    into: BlockId,
     m: usize,
     n: usize,
 )
-    requires { ⌜ (now t ≡ rows) × Using (now bounds) (now recs) (now ops) s c (now work64) (now work32) moved into m n ⌝ }
-    ensures { λ _. ⌜ Used (now (bounds .entry)) (now (recs .entry)) (now (ops .entry)) s c (now (work64 .entry)) (now (work32 .entry)) moved into m n (now (work64 .exit)) (now (work32 .exit)) ⌝ }
+    requires { ⌜ (now t ≡ rows) × Using (now bounds) (now recs) (now ops) s c (now work64) (now work32) moved (into .0) m n ⌝ }
+    ensures { λ _. ⌜ Used (now (bounds .entry)) (now (recs .entry)) (now (ops .entry)) s c (now (work64 .entry)) (now (work32 .entry)) moved (into .0) m n (now (work64 .exit)) (now (work32 .exit)) ⌝ }
 {
     if moved == 0 {
         return;
     }
     let r = wide(s.regs);
-    let st = at_regs(s) + s.lent;
+    let st = at_stamps(s);
     let mut lasts = [0u32; RECORDS];
     find_readers(t, recs, ops, bounds, work64, &mut lasts, c, s.blocks, st, r);
-    let o = into * width(r);
+    let o = into.at() * width(r);
     put_lasts(t, recs, work64, work32, &lasts, r, o, m, n);
 }

@@ -1,0 +1,58 @@
+// The sizes of what is lent, and where each part lies in the two work slices (docs/DESIGN.md, "The words of a chain, and its facts").
+use model::CHAIN_WORDS;
+use words::numbers::wide;
+ghost use mathlib.Core.Path.{_≡_};
+ghost use Prim.Native.Nat.{_≤_};
+ghost use Rattle.sizes.specs.Parts.{width, regs-at, stamps-at, needed-at, preds-at};
+
+// Blocks; instructions; registers in use; registers lent.
+pub struct Sizes {
+    pub blocks: u32,
+    pub insts: usize,
+    pub regs: u32,
+    pub lent: usize,
+}
+
+// Where the copied words of the registers in use begin: behind the chain's.
+pub const COPIED: usize = CHAIN_WORDS;
+
+// The words of a row of n registers.
+pub fn width(n: usize) -> usize
+    requires { ⌜ n ≤ 65536 ⌝ }
+    ensures { λ r. ⌜ r ≡ width n ⌝ }
+{
+    (n + 63) / 64
+}
+
+// Where the row of the registers needed elsewhere begins: behind live-in and writes of each block.
+pub fn at_needed(s: Sizes) -> usize
+    requires { ⌜ (s .blocks ≤ 4096) × (s .regs ≤ 65536) ⌝ }
+    ensures { λ r. ⌜ (r ≡ needed-at s) × (r ≤ 8388608) ⌝ }
+{
+    let rows = wide(s.blocks) * width(wide(s.regs));
+    rows + rows
+}
+
+// Where the words of the registers begin.
+pub fn at_regs(s: Sizes) -> usize
+    requires { ⌜ (s .blocks ≤ 4096) × (s .lent ≤ 65536) ⌝ }
+    ensures { λ r. ⌜ (r ≡ regs-at s) × (r ≤ 16777216) ⌝ }
+{
+    4 * wide(s.blocks) * width(s.lent)
+}
+
+// Where their stamps begin.
+pub fn at_stamps(s: Sizes) -> usize
+    requires { ⌜ (s .blocks ≤ 4096) × (s .lent ≤ 65536) ⌝ }
+    ensures { λ r. ⌜ (r ≡ stamps-at s) × (r ≤ 16842752) ⌝ }
+{
+    at_regs(s) + s.lent
+}
+
+// Where the predecessors begin: behind a copied word for each register lent.
+pub fn at_preds(s: Sizes) -> usize
+    requires { ⌜ s .lent ≤ 65536 ⌝ }
+    ensures { λ r. ⌜ r ≡ preds-at s ⌝ }
+{
+    COPIED + s.lent
+}
