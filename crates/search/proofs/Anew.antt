@@ -14,8 +14,9 @@ use Rattle.cfg.specs.Drawn.{drawn}
 use Rattle.cfg.specs.Graph.{Graph}
 use Rattle.flow.specs.Live.{RowRoom, Rows, Live}
 use Rattle.flow.proofs.Whole.{live-rows-whole}
-use Rattle.chainwords.specs.declared.sizes.Sizes.{Sizes}
-use Rattle.chainwords.specs.Work.{width, Shown, Begun, Held}
+use Rattle.sizes.specs.declared.Sizes.{Sizes}
+use Rattle.sizes.specs.Parts.{width}
+use Rattle.chainwords.specs.Work.{Shown, Begun, Held}
 use Rattle.chainwords.proofs.Standing.{begun-kept, firm-back, rows-for}
 use Rattle.search.specs.declared.find.MaybeLook.{MaybeLook}
 use Rattle.search.specs.Search.{Looking, Sees, Seeking, Sought, Opened}

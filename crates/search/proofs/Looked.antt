@@ -29,12 +29,14 @@ use Rattle.chains.specs.Chain.{ended, chain-of, sound-of, Sound, Blocks}
 use Rattle.chains.specs.Places.{Pairs, end-past}
 use Rattle.analyse.proofs.Accepted.{pairs-given}
 use Rattle.worth.specs.Worth.{Worth}
-use Rattle.chainwords.specs.declared.sizes.Sizes.{Sizes}
+use Rattle.sizes.specs.declared.Sizes.{Sizes}
+use Rattle.sizes.specs.Parts.{preds-at}
 use Rattle.chainwords.specs.Work.{Lists, Shown}
 use Rattle.chains.specs.Chain.{chain-in}
 use Rattle.worth.specs.Worth.{Chosen}
 use Rattle.chainwords.proofs.Rooms.{Room, room, preds-lent, preds-room}
 use Rattle.worth.proofs.Looks.{worth-long}
+use Rattle.inst.specs.declared.index.BlockId.{BlockId}
 use Rattle.search.specs.declared.find.Look.{Look}
 use Rattle.search.specs.declared.find.MaybeLook.{MaybeLook}
 use Rattle.search.specs.declared.find.MaybeLook.the-variants.{Is, Not}
@@ -131,8 +133,8 @@ module _ {bounds recs replay : List ℕ} {s : Sizes} {work32 : List ℕ} (g : Se
   pub rooms : Room (s .blocks) (s .regs) (s .lent) (g .sees .w64) (length work32)
   rooms = room lists
 
-  pub preds-there : 2 * s .blocks ≤ length (take (length work32 - (8000 + s .lent)) (drop (8000 + s .lent) work32))
-  preds-there = preds-room work32 lists
+  pub preds-there : {p : ℕ} → p ≡ preds-at s → 2 * s .blocks ≤ length (take (length work32 - p) (drop p work32))
+  preds-there e = subst (λ (p : ℕ). 2 * s .blocks ≤ length (take (length work32 - p) (drop p work32))) (sym e) (preds-room work32 lists)
 
   pub pairs-ask : Pairs bounds (s .blocks)
   pairs-ask = subst (λ (b : List ℕ). Pairs b (s .blocks)) (sym (lists .bounds-are)) (subst (Pairs (g .P .bounds)) (sym (lists .blocks-are)) (pairs-given (g .P) good))
@@ -163,7 +165,10 @@ module _ {bounds recs replay : List ℕ} {s : Sizes} {work32 : List ℕ} (g : Se
 
 -- what the chain search answers
 abbrev Chains : List ℕ → List ℕ → Sizes → List ℕ → ℕ → MaybeChain → Type 0
-Chains bounds recs s work32 x r = C.Found bounds recs (take (length work32 - (8000 + s .lent)) (drop (8000 + s .lent) work32)) x (s .blocks) r
+Chains bounds recs s work32 x r = C.Found bounds recs (take (length work32 - preds-at s) (drop (preds-at s) work32)) x (s .blocks) r
+
+pub chains-at : {bounds recs : List ℕ} (s : Sizes) (work32 : List ℕ) {x : ℕ} {r : MaybeChain} {p : ℕ} → p ≡ preds-at s → C.Found bounds recs (take (length work32 - p) (drop p work32)) x (s .blocks) r → Chains bounds recs s work32 x r
+chains-at {bounds} {recs} s work32 {x} {r} e f = subst (λ (p : ℕ). C.Found bounds recs (take (length work32 - p) (drop p work32)) x (s .blocks) r) e f
 
 -- what it answers
 module _ {bounds recs replay : List ℕ} {s : Sizes} {work32 : List ℕ} (x k : ℕ) (ek : k ≡ x) where
@@ -188,11 +193,11 @@ module _ {bounds recs replay : List ℕ} {s : Sizes} {work32 : List ℕ} (x k : 
   pub looked-low : {r : MaybeChain} {c : Chain} {b : Bool} → Chains bounds recs s work32 x r → r ≡ IsChain c → Worth bounds recs replay c k b → b ≡ false → Looked bounds recs replay s work32 x Not
   looked-low {r} {c} f e w z = record { is = λ P v G. not-worth P G x (chain-in c) (this-chain P v f e) (sym (worth-is P v w) ∙ z) }
 
-  pub looked-here : {r : MaybeChain} {c : Chain} {b : Bool} → x < s .blocks → Chains bounds recs s work32 x r → r ≡ IsChain c → Worth bounds recs replay c k b → b ≡ true
-      → Looked bounds recs replay s work32 x (Is (record { x = k; c = c }))
-  looked-here {r} {c} h f e w z = record {
+  pub looked-here : {r : MaybeChain} {c : Chain} {b : Bool} {y : BlockId} → y .0 ≡ x → x < s .blocks → Chains bounds recs s work32 x r → r ≡ IsChain c → Worth bounds recs replay c k b → b ≡ true
+      → Looked bounds recs replay s work32 x (Is (record { x = y; c = c }))
+  looked-here {r} {c} {b} {y} ey h f e w z = record {
     is = λ P v. (
-      ek,
+      ey,
       record {
         x-block = subst (λ (n : ℕ). x < n) (v .shown .lists .blocks-are) h;
         sound = subst (Sound c) (v .shown .lists .blocks-are) (subst (λ (y : MaybeChain). sound-of y (s .blocks)) e (f .sound));
@@ -227,7 +232,7 @@ module _ {bounds recs replay : List ℕ} {s : Sizes} {work32 : List ℕ} {from :
     passing-found {k} q = record {
       is = λ P v.
           let w : looked P x (Is k) = subst (looked P x) q (u .is P v) in
-          let a : b ≡ k .x = e ∙ sym (w .0) in
+          let a : b ≡ k .x .0 = e ∙ sym (w .0) in
           (subst (λ (i : ℕ). from ≤ i) a (l .after), subst (passed P from) a (l .past P v), subst (λ (i : ℕ). Chosen P i (k .c)) (sym (w .0)) (w .1));
     }
 

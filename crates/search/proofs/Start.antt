@@ -11,7 +11,7 @@ use lib.Dec.{eqb}
 use lib.ListN.{length, take, drop, length-map}
 use Rattle.words.specs.Lists.{upto}
 use Rattle.words.proofs.Lists.{length-range, front-same}
-use Rattle.words.proofs.Parts.{put-part, rows-small}
+use Rattle.words.proofs.Parts.{put-part}
 use Rattle.model.specs.Picture.{Picture, nblocks, preds}
 use Rattle.model.specs.Refusal.{records, refusal}
 use Rattle.model.specs.Analyse.{facts}
@@ -30,7 +30,9 @@ use Rattle.chains.specs.Chain as C
 use Rattle.regfacts.specs.Written.{Fits}
 use Rattle.regfacts.specs.Flags.{Found, Seen}
 use Rattle.analyse.proofs.Accepted.{fits-given, seen-given}
-use Rattle.chainwords.specs.Work.{width, at-regs}
+use Rattle.sizes.specs.declared.Sizes.{Sizes}
+use Rattle.sizes.specs.Parts.{width, regs-at}
+use Rattle.chainwords.specs.Work.{at-regs}
 use Rattle.chainwords.proofs.Standing.{SameRows, same-rows, firsts-before, rows-room, rows-of}
 use Rattle.search.specs.Search.{Beginning, Began}
 
@@ -40,7 +42,6 @@ pub record Rooms (b lent insts w64 w32 : ℕ) : Type 0 where
   pub few-blocks : b ≤ 4096
   pub few-lent : lent ≤ 65536
   pub few-insts : insts ≤ 32768
-  pub small : 4 * b * width lent ≤ 16777216
   pub room64 : 4 * b * width lent + 2 * lent ≤ w64
   pub room32 : 8 * lent + 16 * b + 8000 ≤ w32
 
@@ -53,7 +54,6 @@ rooms-of P w64 w32 r =
       few-blocks = b;
       few-lent = k;
       few-insts = S.few-insts P ok;
-      small = rows-small b (omega arith);
       room64 = work-room P w64 w32 records r .0;
       room32 = work-room P w64 w32 records r .1;
     }
@@ -70,9 +70,6 @@ graph-at P ok {bounds} {recs} {pairs} {targets} e f g h =
     (subst (λ (z : List ℕ). Graph (P .bounds) z pairs targets) (sym f)
     (subst (λ (z : List ℕ). Graph (P .bounds) (P .recs) z targets) (sym g)
     (subst (λ (z : List ℕ). Graph (P .bounds) (P .recs) (P .pairs) z) (sym h) (graph-given P ok))))
-
-pub start-at : (b lent r : ℕ) → r ≡ width lent → 4 * b * r ≡ 4 * b * width lent
-start-at b lent r e = ap (λ (z : ℕ). 4 * b * z) e
 
 -- ---- predecessors
 
@@ -127,19 +124,34 @@ rows-stay P ok xs ys e b h =
 facts-few : (P : Picture) → length (facts P) ≤ P .regs
 facts-few P = le-of-eq (length-map (upto (P .regs)) _ ∙ length-range 0 (P .regs))
 
-module _ {bounds recs ops pairs targets work64 work32 : List ℕ} {lent insts regs : ℕ} (k : Beginning bounds recs ops pairs targets work64 work32 lent insts regs) where
+module _ {bounds recs ops pairs targets work64 work32 : List ℕ} {s : Sizes} (k : Beginning bounds recs ops pairs targets work64 work32 s) where
+  abbrev lent : ℕ
+  lent = s .lent
+
+  abbrev insts : ℕ
+  insts = s .insts
+
+  abbrev regs : ℕ
+  regs = s .regs
+
   pub rooms : Rooms (length bounds / 2) lent insts (length work64) (length work32)
   rooms = rooms-at (k .P) (length work64) (length work32) (k .accepted) (ap (λ (l : List ℕ). length l / 2) (k .bounds-are)) (k .lent-are) (k .insts-are)
 
-  -- r words hold a row
-  pub small-at : (r : ℕ) → r ≡ width lent → 4 * (length bounds / 2) * r ≤ 16777216
-  small-at r e = subst (λ (z : ℕ). 4 * (length bounds / 2) * z ≤ 16777216) (sym e) (rooms .small)
-
-  pub room-at : (r : ℕ) → r ≡ width lent → 4 * (length bounds / 2) * r + 2 * lent ≤ length work64
-  room-at r e = subst (λ (z : ℕ). 4 * (length bounds / 2) * z + 2 * lent ≤ length work64) (sym e) (rooms .room64)
-
   good : Accepted (k .P)
   good = accepted (k .P) (length work64) (length work32) records (k .accepted)
+
+  pub few-lent : s .lent ≤ 65536
+  few-lent = rooms .few-lent
+
+  pub few-blocks : s .blocks ≤ 4096
+  few-blocks = let e = k .blocks-are in let b = S.few-blocks (k .P) good in omega arith
+
+  -- where the words of the registers begin
+  pub start-at : {a : ℕ} → a ≡ regs-at s → a ≡ 4 * (length bounds / 2) * width lent
+  start-at e = e ∙ ap (λ (n : ℕ). 4 * n * width lent) (k .blocks-are ∙ ap (λ (l : List ℕ). length l / 2) (sym (k .bounds-are)))
+
+  pub regs-room : {a : ℕ} → a ≡ regs-at s → a + 2 * lent ≤ length work64
+  regs-room e = let f = start-at e in let r = rooms .room64 in omega arith
 
   pub regs-few : regs ≤ 65536
   regs-few = let e = k .regs-are in let a = S.regs-lent (k .P) good in let b = S.few-types (k .P) good in omega arith
@@ -170,7 +182,7 @@ module _ {bounds recs ops pairs targets work64 work32 : List ℕ} {lent insts re
     pub began : (a p r w : ℕ) (ys zs : List ℕ) → a ≡ 4 * (length bounds / 2) * width lent → p ≡ 8000 + lent → r ≡ regs → w ≡ width r
         → ((b : ℕ) → b < length bounds / 2 → Rows (drawn bounds recs ops [] []) w b mid) → Found recs insts (length (take (a + lent - a) (drop a mid))) ys
         → length zs ≡ length (take (p + 2 * (length bounds / 2) - p) (drop p work32)) → F.Preds (drawn bounds recs [] pairs targets) zs
-        → Began bounds recs ops pairs targets work64 work32 lent insts regs (putMid a (a + lent - a) mid ys) (putMid p (p + 2 * (length bounds / 2) - p) work32 zs)
+        → Began bounds recs ops pairs targets work64 work32 s (putMid a (a + lent - a) mid ys) (putMid p (p + 2 * (length bounds / 2) - p) work32 zs)
     began a p r w ys zs e f er ew each found long told = record {
       size64 = same-len-mid a (a + lent - a) mid ys (found .size) ∙ same;
       size32 = same-len-mid p (p + 2 * (length bounds / 2) - p) work32 zs long;

@@ -12,18 +12,16 @@ use Rattle.model.specs.Analyse.{Facts, facts}
 use Rattle.model.specs.Move.{try-block}
 use Rattle.model.specs.Pass.{first-plan}
 use Rattle.chains.specs.Chain.{Preds}
-use Rattle.chainwords.specs.declared.sizes.Sizes.{Sizes}
+use Rattle.sizes.specs.declared.Sizes.{Sizes}
 use Rattle.chainwords.specs.Work.{Shown, Begun, Held, pred-words}
 use Rattle.worth.specs.Worth.{Chosen}
-use Rattle.inst.specs.declared.index.BlockId.{BlockId}
-use Rattle.search.specs.declared.find.Look.{Look}
 use Rattle.search.specs.declared.find.MaybeLook.{MaybeLook}
 use Rattle.search.specs.declared.find.MaybeLook.the-variants.{Is, Not}
 
 -- ---- the start of the call
 
--- there is an accepted picture whose lists these are, of so many registers lent, instructions and registers in use
-pub record Beginning (bounds recs ops pairs targets work64 work32 : List ℕ) (lent insts regs : ℕ) : Type 0 where
+-- there is an accepted picture whose lists and sizes these are
+pub record Beginning (bounds recs ops pairs targets work64 work32 : List ℕ) (s : Sizes) : Type 0 where
   pub P : Picture
   pub accepted : refusal P (length work64) (length work32) records ≡ 0
   pub bounds-are : bounds ≡ P .bounds
@@ -31,16 +29,17 @@ pub record Beginning (bounds recs ops pairs targets work64 work32 : List ℕ) (l
   pub ops-are : ops ≡ P .ops
   pub pairs-are : pairs ≡ P .pairs
   pub targets-are : targets ≡ P .targets
-  pub lent-are : lent ≡ length (P .types)
-  pub insts-are : insts ≡ length (P .locs)
-  pub regs-are : regs ≡ P .regs
+  pub blocks-are : s .blocks ≡ nblocks P
+  pub lent-are : s .lent ≡ length (P .types)
+  pub insts-are : s .insts ≡ length (P .locs)
+  pub regs-are : s .regs ≡ P .regs
 
 -- the work slices hold facts, predecessors and rows of every such picture
-pub record Began (bounds recs ops pairs targets work64 work32 : List ℕ) (lent insts regs : ℕ) (work64′ work32′ : List ℕ) : Type 0 where
+pub record Began (bounds recs ops pairs targets work64 work32 : List ℕ) (s : Sizes) (work64′ work32′ : List ℕ) : Type 0 where
   pub size64 : length work64′ ≡ length work64
   pub size32 : length work32′ ≡ length work32
   pub begun : (P : Picture) → refusal P (length work64) (length work32) records ≡ 0 → P .bounds ≡ bounds → P .recs ≡ recs → P .ops ≡ ops → P .pairs ≡ pairs
-      → P .targets ≡ targets → length (P .types) ≡ lent → length (P .locs) ≡ insts → P .regs ≡ regs → Begun P (facts P) work64′ work32′
+      → P .targets ≡ targets → length (P .types) ≡ s .lent → length (P .locs) ≡ s .insts → P .regs ≡ s .regs → Begun P (facts P) work64′ work32′
 
 -- ---- the search
 
@@ -61,19 +60,9 @@ pub record Seeking (bounds recs replay : List ℕ) (s : Sizes) (work32 : List �
   pub P : Picture
   pub sees : Sees P bounds recs replay s work32
 
--- what stands where no chain is to be tried: a chain of no blocks
-abbrev pub first-block : BlockId
-first-block = record { 0 = 0 }
-
-abbrev pub nowhere : Look
-nowhere = record {
-  x = 0;
-  c = record { b0 = first-block; b1 = first-block; b2 = first-block; b3 = first-block; b4 = first-block; b5 = first-block; count = 0; t = first-block; f = first-block };
-}
-
 -- one block: its chain, or it has no move, whatever the facts are
 abbrev pub looked : Picture → ℕ → MaybeLook → Type 0
-looked P x (Is k) = (k .x ≡ x) × Chosen P x (k .c)
+looked P x (Is k) = (k .x .0 ≡ x) × Chosen P x (k .c)
 looked P x Not = (G : Facts) → try-block P G x ≡ none
 
 pub record Looked (bounds recs replay : List ℕ) (s : Sizes) (work32 : List ℕ) (x : ℕ) (r : MaybeLook) : Type 0 where
@@ -85,7 +74,7 @@ passed P a b = (G : Facts) → first-plan P G (upto a) ≡ none → first-plan P
 
 -- the first block from block `from` on
 abbrev pub sought : Picture → ℕ → MaybeLook → Type 0
-sought P from (Is k) = (from ≤ k .x) × passed P from (k .x) × Chosen P (k .x) (k .c)
+sought P from (Is k) = (from ≤ k .x .0) × passed P from (k .x .0) × Chosen P (k .x .0) (k .c)
 sought P from Not = passed P from (nblocks P)
 
 pub record Sought (bounds recs replay : List ℕ) (s : Sizes) (work32 : List ℕ) (from : ℕ) (r : MaybeLook) : Type 0 where

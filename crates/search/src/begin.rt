@@ -2,10 +2,12 @@
 // for the whole call: a new register has no facts, and a round changes no block's successors. The rows of what each block reads
 // first and writes stand until a round changes its code.
 use cfg::graph::find_preds;
-use chainwords::sizes::width;
 use flow::rows::all_rows;
-use model::CHAIN_WORDS;
 use regfacts::flags::find_facts;
+use sizes::Sizes;
+use sizes::at_preds;
+use sizes::at_regs;
+use sizes::width;
 use words::numbers::wide;
 ghost use mathlib.Core.Path.{_≡_};
 ghost use Rattle.inst.specs.Table.{rows};
@@ -20,17 +22,15 @@ pub fn begin<'a>(
     targets: &'a [u32],
     work64: &mut [u64],
     work32: &mut [u32],
-    lent: usize,
-    insts: usize,
-    regs: u32,
+    s: Sizes,
 )
-    requires { ⌜ (now t ≡ rows) × Beginning (now bounds) (now recs) (now ops) (now pairs) (now targets) (now work64) (now work32) lent insts regs ⌝ }
-    ensures { λ _. ⌜ Began (now (bounds .entry)) (now (recs .entry)) (now (ops .entry)) (now (pairs .entry)) (now (targets .entry)) (now (work64 .entry)) (now (work32 .entry)) lent insts regs (now (work64 .exit)) (now (work32 .exit)) ⌝ }
+    requires { ⌜ (now t ≡ rows) × Beginning (now bounds) (now recs) (now ops) (now pairs) (now targets) (now work64) (now work32) s ⌝ }
+    ensures { λ _. ⌜ Began (now (bounds .entry)) (now (recs .entry)) (now (ops .entry)) (now (pairs .entry)) (now (targets .entry)) (now (work64 .entry)) (now (work32 .entry)) s (now (work64 .exit)) (now (work32 .exit)) ⌝ }
 {
     let b = bounds.len() / 2;
-    let a = 4 * b * width(lent);
-    let p = CHAIN_WORDS + lent;
-    all_rows(work64, t, bounds, recs, ops, width(wide(regs)));
-    find_facts(t, recs, &mut work64[a..a + lent], insts);
+    let a = at_regs(s);
+    let p = at_preds(s);
+    all_rows(work64, t, bounds, recs, ops, width(wide(s.regs)));
+    find_facts(t, recs, &mut work64[a..a + s.lent], s.insts);
     find_preds(&mut work32[p..p + 2 * b], t, bounds, recs, pairs, targets);
 }

@@ -4,49 +4,28 @@ use chains::chain::Chain;
 use chains::chain::MaybeChain;
 use chains::chain::find_chain;
 use chains::pass::Sink;
-use chainwords::sizes::Sizes;
-use chainwords::sizes::width;
 use flow::live::live_in;
 use inst::index::BlockId;
 use inst::index::MaybeBlock;
-use model::CHAIN_WORDS;
+use sizes::Sizes;
+use sizes::at_preds;
+use sizes::width;
 use words::numbers::wide;
 use worth::look::worth_a_look;
 ghost use mathlib.Core.Path.{_≡_};
 ghost use Prim.Native.Nat.{_≤_, _<_};
 ghost use Rattle.inst.specs.Table.{rows};
-ghost use Rattle.search.specs.Search.{Looking, Seeking, Looked, Sought, Opened, nowhere};
+ghost use Rattle.search.specs.Search.{Looking, Seeking, Looked, Sought, Opened};
 
 // A block and the chain from it, which is worth a look.
 pub struct Look {
-    pub x: usize,
+    pub x: BlockId,
     pub c: Chain,
 }
 
 pub enum MaybeLook {
     Is(Look),
     Not,
-}
-
-// What stands where no chain is to be tried: a chain of no blocks, which no function takes.
-pub fn nowhere() -> Look
-    ensures { λ r. ⌜ r ≡ nowhere ⌝ }
-{
-    let b = BlockId(0);
-    Look {
-        x: 0,
-        c: Chain {
-            b0: b,
-            b1: b,
-            b2: b,
-            b3: b,
-            b4: b,
-            b5: b,
-            count: 0,
-            t: b,
-            f: b,
-        },
-    }
 }
 
 // The chain from block x, if it is worth a look.
@@ -65,14 +44,14 @@ pub fn look_from(
     if bounds[2 * k + 1] - bounds[2 * k] <= Sink::MIN_REPLAY {
         return MaybeLook::Not;
     }
-    let p = CHAIN_WORDS + s.lent;
+    let p = at_preds(s);
     let MaybeChain::Is(c) = find_chain(bounds, recs, &work32[p..], x, s.blocks) else {
         return MaybeLook::Not;
     };
     if !worth_a_look(bounds, recs, replay, c, k, s.blocks) {
         return MaybeLook::Not;
     }
-    MaybeLook::Is(Look { x: k, c: c })
+    MaybeLook::Is(Look { x: x, c: c })
 }
 
 // The first such block in number order, from block `from` on.

@@ -1,7 +1,8 @@
 -- `search::find::look_from` meets its contract. Assumes nothing.
+use mathlib.Core.Path.{refl}
 use native.Mathlib.Omega.{arith}
 use borrow.Author.Tests.{not-true, not-false}
-use Rattle.search.proofs.Looked.{rooms, preds-there, chain-asks, bounds-long, bounds-order, worth-asks, looked-short, looked-none, looked-low, looked-here}
+use Rattle.search.proofs.Looked.{rooms, preds-there, chains-at, chain-asks, bounds-long, bounds-order, worth-asks, looked-short, looked-none, looked-low, looked-here}
 use borrow.Author.Needs.{needs}
 use Rattle.search.proofs.find.look_from.Statement.{statement}
 use Rattle.search.proofs.find.look_from.Tie as tie
@@ -36,23 +37,23 @@ sub-if1 c = let p = c .before .before .before .before .before .before .before .p
 returns : tie.Need-returns
 returns c = looked-short _ _ (c .before .before .before .at .ensures) (c .if1 .taken)
 
-add-p : tie.Need-add-p
-add-p c = omega (arith, rooms (c .before .before .before .before .before .before .before .before .before .pre .0) .few)
+at-preds-requires : tie.Need-at-preds-requires
+at-preds-requires c κs = rooms (c .before .before .before .before .before .before .before .before .pre .0) .few
 
 mul-find-chain : tie.Need-mul-find-chain
-mul-find-chain c = omega (arith, rooms (c .before .before .before .before .before .before .before .before .before .pre .0) .few)
+mul-find-chain c = omega (arith, rooms (c .before .before .before .before .before .before .before .before .before .pre .0) .few, c .at-preds .ensures)
 
 sub-find-chain : tie.Need-sub-find-chain
-sub-find-chain c = omega (arith, rooms (c .before .before .before .before .before .before .before .before .before .pre .0) .words32)
+sub-find-chain c = omega (arith, rooms (c .before .before .before .before .before .before .before .before .before .pre .0) .words32, c .at-preds .ensures)
 
 part-find-chain-start : tie.Need-part-find-chain-start
-part-find-chain-start c = omega (arith, rooms (c .before .before .before .before .before .before .before .before .before .pre .0) .words32)
+part-find-chain-start c = omega (arith, rooms (c .before .before .before .before .before .before .before .before .before .pre .0) .words32, c .at-preds .ensures)
 
 part-find-chain-end : tie.Need-part-find-chain-end
 part-find-chain-end c = search needs
 
 find-chain-requires : tie.Need-find-chain-requires
-find-chain-requires c κs = let p = c .before .before .before .before .before .before .before .before .before .before .pre in (chain-asks (p .0), preds-there (p .0), p .1)
+find-chain-requires c κs = let p = c .before .before .before .before .before .before .before .before .before .before .pre in (chain-asks (p .0), preds-there (p .0) (c .before .at-preds .ensures), p .1)
 
 enum-known-c : tie.Need-enum-known-c
 enum-known-c c = search needs
@@ -61,16 +62,16 @@ enum-told : tie.Need-enum-told
 enum-told c = search needs
 
 returns-2 : tie.Need-returns-2
-returns-2 c = looked-none _ _ (c .before .before .before .before .before .before .before .before .at .ensures) (c .before .before .find-chain .ensures) (c .enum-told .given .1)
+returns-2 c = looked-none _ _ (c .before .before .before .before .before .before .before .before .at .ensures) (chains-at (c .before .before .before .before .before .before .before .before .before .before .before .before .before .args .s) (c .before .before .before .before .before .before .before .before .before .before .before .before .before .args .work32 .now) (c .before .before .before .before .at-preds .ensures) (c .before .before .find-chain .ensures)) (c .enum-told .given .1)
 
 worth-a-look-requires : tie.Need-worth-a-look-requires
 worth-a-look-requires c κs = let p = c .before .before .before .before .before .before .before .before .before .before .before .before .before .before .pre in worth-asks (p .0) _ _ (c .before .before .before .before .before .before .before .before .before .at .ensures) (p .1) (c .before .before .before .find-chain .ensures .sound) (c .before .c .given .1)
 
 returns-3 : tie.Need-returns-3
-returns-3 c = looked-low _ _ (c .before .before .before .before .before .before .before .before .before .before .before .at .ensures) (c .before .before .before .before .before .find-chain .ensures) (c .before .before .before .c .given .1) (c .before .worth-a-look .ensures) (not-true _ (c .if2 .taken))
+returns-3 c = looked-low _ _ (c .before .before .before .before .before .before .before .before .before .before .before .at .ensures) (chains-at (c .before .before .before .before .before .before .before .before .before .before .before .before .before .before .before .before .args .s) (c .before .before .before .before .before .before .before .before .before .before .before .before .before .before .before .before .args .work32 .now) (c .before .before .before .before .before .before .before .at-preds .ensures) (c .before .before .before .before .before .find-chain .ensures)) (c .before .before .before .c .given .1) (c .before .worth-a-look .ensures) (not-true _ (c .if2 .taken))
 
 returns-4 : tie.Need-returns-4
-returns-4 c = looked-here _ _ (c .before .before .before .before .before .before .before .before .before .before .before .at .ensures) (c .before .before .before .before .before .before .before .before .before .before .before .before .before .before .before .before .pre .1) (c .before .before .before .before .before .find-chain .ensures) (c .before .before .before .c .given .1) (c .before .worth-a-look .ensures) (not-false _ (c .if2 .left))
+returns-4 c = looked-here _ _ (c .before .before .before .before .before .before .before .before .before .before .before .at .ensures) refl (c .before .before .before .before .before .before .before .before .before .before .before .before .before .before .before .before .pre .1) (chains-at (c .before .before .before .before .before .before .before .before .before .before .before .before .before .before .before .before .args .s) (c .before .before .before .before .before .before .before .before .before .before .before .before .before .before .before .before .args .work32 .now) (c .before .before .before .before .before .before .before .at-preds .ensures) (c .before .before .before .before .before .find-chain .ensures)) (c .before .before .before .c .given .1) (c .before .worth-a-look .ensures) (not-false _ (c .if2 .left))
 
 pub look-from-spec : {M : Type 1} → statement M
 look-from-spec =
@@ -86,7 +87,7 @@ look-from-spec =
     shared-slice-read-if1-2
     sub-if1
     returns
-    add-p
+    at-preds-requires
     mul-find-chain
     sub-find-chain
     part-find-chain-start
