@@ -26,10 +26,12 @@ use Rattle.chains.specs.Chain.{blocks-of, last-of, Preds}
 use Rattle.summary.specs.Passes.{Row}
 use Rattle.plan.specs.declared.settle.Cycle.{Cycle}
 use Rattle.worth.specs.Needed.{Shows, Needed}
-use Rattle.chainwords.specs.declared.sizes.Sizes.{Sizes}
+use Rattle.sizes.specs.declared.Sizes.{Sizes}
 use Rattle.trial.specs.declared.target.Sunk.{Sunk}
-use Rattle.chainwords.specs.Work.{width, at-needed, at-regs, Held, Lists, Tabled}
-use Rattle.trial.specs.Target.{from-start, row-at, stamps-at, taken, Aiming, Aimed}
+use Rattle.sizes.specs.Parts.{width, needed-at, stamps-at, preds-at}
+use Rattle.chainwords.specs.Work.{at-needed, at-regs, Held, Lists, Tabled}
+use Rattle.inst.specs.declared.index.BlockId.{BlockId}
+use Rattle.trial.specs.Target.{from-start, taken, Aiming, Aimed}
 use Rattle.chainwords.proofs.Standing.{wrote-held}
 use Rattle.chainwords.proofs.Rooms.{room-of, row-before, Same, held-same, preds-lent}
 
@@ -60,12 +62,12 @@ row-lent {P} {bounds} {s = s} {w64 = w64} {w32 = w32} {w = w} l h e =
 
 -- the row stands for the registers needed elsewhere
 row-here : {bounds recs ops pairs targets : List ℕ} {s : Sizes} {work64 work32 mid : List ℕ} {into other w : ℕ} (P : Picture) (G : Facts) → Lists P bounds recs ops s (length work64) (length work32) → Tabled P pairs targets → Held P G work64 work32
-    → Needed bounds recs pairs targets w into other work64 mid → w ≡ width (s .regs) → Row mid (row-at s) (P .regs) (member (needed-of P into other))
+    → Needed bounds recs pairs targets w into other work64 mid → w ≡ width (s .regs) → Row mid (needed-at s) (P .regs) (member (needed-of P into other))
 row-here {bounds} {recs} {ops} {pairs} {targets} {s} {work64} {work32} {mid} {into} {other} {w} P G l t h d ew =
     let k : w ≡ width (P .regs) = ew ∙ ap width (l .regs-are) in
     let live : Live P w work64 = subst (λ (y : ℕ). Live P y work64) (sym k) (h .live) in
     let wrote : Wrote P w work64 = subst (λ (y : ℕ). Wrote P y work64) (sym k) (wrote-held h) in
-    let at : row-at s ≡ length bounds / 2 * w + length bounds / 2 * w = ap₂ (λ (x y : ℕ). x * y + x * y) (l .blocks-are ∙ ap (λ (bs : List ℕ). length bs / 2) (sym (l .bounds-are))) (sym ew) in
+    let at : needed-at s ≡ length bounds / 2 * w + length bounds / 2 * w = ap₂ (λ (x y : ℕ). x * y + x * y) (l .blocks-are ∙ ap (λ (bs : List ℕ). length bs / 2) (sym (l .bounds-are))) (sym ew) in
     let shows : Shows P bounds recs pairs targets = record { bounds-are = sym (l .bounds-are); recs-are = sym (l .recs-are); pairs-are = sym (t .pairs-are); targets-are = sym (t .targets-are) } in
     record {
       each = λ r q.
@@ -86,6 +88,10 @@ same-needed {bounds} {s = s} {w64 = w64} {w32 = w32} {work64 = work64} {mid = mi
       regs = λ i j. back-same (length bounds / 2 * w + length bounds / 2 * w + w) work64 mid (d .back) (at-regs P + i) (omega arith);
     }
 
+-- the predecessors, by where they begin
+pub preds-from : (s : Sizes) (work32 : List ℕ) (P : Picture) {p : ℕ} → p ≡ preds-at s → Preds P (take (length work32 - preds-at s) (drop (preds-at s) work32)) (s .blocks) → Preds P (take (length work32 - p) (drop p work32)) (s .blocks)
+preds-from s work32 P e h = subst (λ (p : ℕ). Preds P (take (length work32 - p) (drop p work32)) (s .blocks)) (sym e) h
+
 -- ---- the answers
 
 -- r says whether it is a target, by the words lent
@@ -94,7 +100,7 @@ pub record Spotted (s : Sizes) (c : Chain) (work32 : List ℕ) (into : ℕ) (r :
 
 module _ {bounds recs pairs targets : List ℕ} {s : Sizes} {c : Chain} {work64 work32 : List ℕ} {least into other m n : ℕ} where
   -- nothing to do
-  pub aim-off : {q : Bool} {o st i : ℕ} {z : Cycle} → Spotted s c work32 into q → (not (eqb least 0) && q) ≡ false → o ≡ row-at s → st ≡ stamps-at s → z ≡ from-start o st 0 0 1 → i ≡ into
+  pub aim-off : {q : Bool} {o st : ℕ} {i : BlockId} {z : Cycle} → Spotted s c work32 into q → (not (eqb least 0) && q) ≡ false → o ≡ needed-at s → st ≡ stamps-at s → z ≡ from-start o st 0 0 1 → i .0 ≡ into
       → Aimed bounds recs pairs targets s c work64 work32 least into other m n work64 (record { least = 0; into = i; end = 8000; sweeps = z })
   aim-off {q} f e eo es ez ei = record {
     size64 = refl;
@@ -110,8 +116,8 @@ module _ {bounds recs pairs targets : List ℕ} {s : Sizes} {c : Chain} {work64 
   }
 
   -- a target
-  pub aim-on : {q : Bool} {w o st e i j h : ℕ} {z : Cycle} {work64′ : List ℕ} → Aiming bounds recs pairs targets s c work64 work32 into other → Spotted s c work32 into q → (not (eqb least 0) && q) ≡ true
-      → w ≡ width (s .regs) → o ≡ row-at s → st ≡ stamps-at s → e ≡ 8000 + s .regs → Needed bounds recs pairs targets w i j work64 work64′ → i ≡ into → j ≡ other → z ≡ from-start o st m n least → h ≡ into
+  pub aim-on : {q : Bool} {w o st e i j : ℕ} {h : BlockId} {z : Cycle} {work64′ : List ℕ} → Aiming bounds recs pairs targets s c work64 work32 into other → Spotted s c work32 into q → (not (eqb least 0) && q) ≡ true
+      → w ≡ width (s .regs) → o ≡ needed-at s → st ≡ stamps-at s → e ≡ 8000 + s .regs → Needed bounds recs pairs targets w i j work64 work64′ → i ≡ into → j ≡ other → z ≡ from-start o st m n least → h .0 ≡ into
       → Aimed bounds recs pairs targets s c work64 work32 least into other m n work64′ (record { least = least; into = h; end = e; sweeps = z })
   aim-on {q} {w} {o} {st} {e} {i} {j} {h} {z} {work64′} p f y ew eo es ee d ei ej ez eh =
       record {

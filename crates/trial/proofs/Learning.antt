@@ -24,8 +24,9 @@ use Rattle.facts.specs.declared.Fact as F
 use Rattle.analyse.proofs.Accepted.{good-given, pairs-given, ends-given}
 use Rattle.legalset.specs.Chain.{Told}
 use Rattle.plan.proofs.Heard as heard
-use Rattle.chainwords.specs.declared.sizes.Sizes.{Sizes}
-use Rattle.chainwords.specs.Work.{width, at-regs, reg-words, copied-words, Lists, Held}
+use Rattle.sizes.specs.declared.Sizes.{Sizes}
+use Rattle.sizes.specs.Parts.{width}
+use Rattle.chainwords.specs.Work.{at-regs, reg-words, copied-words, Lists, Held}
 use Rattle.chainwords.specs.Puts.{Copying, Copied}
 use Rattle.chainwords.specs.Along.{Along, Learning, Learnt}
 use Rattle.chains.specs.Chain.{chain-in}

@@ -1,5 +1,5 @@
 -- The answers of `else_least` and `found`; the first target that has a plan, or none. Assumes nothing.
-use mathlib.Core.Path.{_≡_, refl, sym, ap, _∙_, subst}
+use mathlib.Core.Path.{_≡_, refl, sym, ap, ap₂, _∙_, subst}
 use mathlib.Core.Logic.{⊎-elim}
 use mathlib.Core.Bool.{Bool, cond}
 use mathlib.Core.List.{List}
@@ -17,7 +17,7 @@ use Rattle.laws.proofs.Planned as laws
 use Rattle.chains.specs.declared.chain.Chain.{Chain}
 use Rattle.chains.specs.Chain.{blocks-of}
 use Rattle.legalset.specs.Chain.{cell}
-use Rattle.chainwords.specs.declared.sizes.Sizes.{Sizes}
+use Rattle.sizes.specs.declared.Sizes.{Sizes}
 use Rattle.trial.specs.declared.block.Move.{Move}
 use Rattle.trial.specs.declared.block.MaybeMove.{MaybeMove}
 use Rattle.trial.specs.declared.block.MaybeMove.the-variants.{Is, Not}
@@ -40,25 +40,25 @@ module _ (k least : ℕ) where
 -- ---- `found`
 
 module _ (x : ℕ) (c : Chain) (m n k l : ℕ) where
-  abbrev in-t : ℕ → MaybeMove
-  in-t i = Is (record { from = x; into = i; inside = m; places = n; moved = k })
+  abbrev in-t : ℕ → ℕ → MaybeMove
+  in-t j i = Is (record { from = j; into = i; inside = m; places = n; moved = k })
 
-  abbrev in-f : ℕ → MaybeMove
-  in-f i = Is (record { from = x; into = i; inside = m; places = n; moved = l })
+  abbrev in-f : ℕ → ℕ → MaybeMove
+  in-f j i = Is (record { from = j; into = i; inside = m; places = n; moved = l })
 
-  pub found-t : {i : ℕ} → 0 < k → i ≡ c .t .0 → in-t i ≡ found x c m n k l
+  pub found-t : {j i : ℕ} → 0 < k → j ≡ x → i ≡ c .t .0 → in-t j i ≡ found x c m n k l
   unfolding found
-  found-t h e = ap in-t e ∙ ap (λ (b : Bool). cond b (in-t (c .t .0)) (cond (ltb 0 l) (in-f (c .f .0)) Not)) (sym (lt-ltb 0 k h))
+  found-t h d e = ap₂ in-t d e ∙ ap (λ (b : Bool). cond b (in-t x (c .t .0)) (cond (ltb 0 l) (in-f x (c .f .0)) Not)) (sym (lt-ltb 0 k h))
 
-  not-t : k ≤ 0 → cond (ltb 0 l) (in-f (c .f .0)) Not ≡ found x c m n k l
+  not-t : k ≤ 0 → cond (ltb 0 l) (in-f x (c .f .0)) Not ≡ found x c m n k l
   unfolding found
-  not-t h = ap (λ (b : Bool). cond b (in-t (c .t .0)) (cond (ltb 0 l) (in-f (c .f .0)) Not)) (sym (le-ltb 0 k h))
+  not-t h = ap (λ (b : Bool). cond b (in-t x (c .t .0)) (cond (ltb 0 l) (in-f x (c .f .0)) Not)) (sym (le-ltb 0 k h))
 
-  pub found-f : {i : ℕ} → k ≤ 0 → 0 < l → i ≡ c .f .0 → in-f i ≡ found x c m n k l
-  found-f h b e = ap in-f e ∙ ap (λ (z : Bool). cond z (in-f (c .f .0)) Not) (sym (lt-ltb 0 l b)) ∙ not-t h
+  pub found-f : {j i : ℕ} → k ≤ 0 → 0 < l → j ≡ x → i ≡ c .f .0 → in-f j i ≡ found x c m n k l
+  found-f h b d e = ap₂ in-f d e ∙ ap (λ (z : Bool). cond z (in-f x (c .f .0)) Not) (sym (lt-ltb 0 l b)) ∙ not-t h
 
   pub found-none : k ≤ 0 → l ≤ 0 → Not ≡ found x c m n k l
-  found-none h b = ap (λ (z : Bool). cond z (in-f (c .f .0)) Not) (sym (le-ltb 0 l b)) ∙ not-t h
+  found-none h b = ap (λ (z : Bool). cond z (in-f x (c .f .0)) Not) (sym (le-ltb 0 l b)) ∙ not-t h
 
 -- ---- the move along chain c, into t or else into f
 
@@ -124,7 +124,7 @@ module _ {bounds recs ops pairs targets : List ℕ} {s : Sizes} {c : Chain} {w w
           marked = subst (Marked P (z .0) m n) (sym same) (z .3);
           numbers = λ j b. ap (λ (v : List ℕ). cell v j 0) same ∙ z .4 j b;
         } in
-        subst answer (found-t x c m n k l h refl) it
+        subst answer (found-t x c m n k l h refl refl) it
 
     -- not into t
     module _ (k0 : k ≡ 0) where
@@ -153,7 +153,7 @@ module _ {bounds recs ops pairs targets : List ℕ} {s : Sizes} {c : Chain} {w w
             marked = z .3;
             numbers = z .4;
           } in
-          subst answer (found-f x c m n k l (omega arith) h refl) it
+          subst answer (found-f x c m n k l (omega arith) h refl refl) it
 
       neither : l ≡ 0 → answer (found x c m n k l)
       neither l0 =

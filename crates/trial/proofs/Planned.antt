@@ -32,14 +32,15 @@ use Rattle.plan.specs.declared.settle.Cycle.{Cycle}
 use Rattle.summary.specs.Passes.{Ended, Row, Around, Greatest}
 use Rattle.plan.specs.Sweep.{marks}
 use Rattle.plan.specs.Cycle.{Choosable, Chose}
-use Rattle.chainwords.specs.declared.sizes.Sizes.{Sizes}
+use Rattle.sizes.specs.declared.Sizes.{Sizes}
 use Rattle.trial.specs.declared.target.Aim.{Aim}
 use Rattle.trial.specs.declared.target.Sunk.{Sunk}
-use Rattle.chainwords.specs.Work.{width, at-regs, at-stamps, chain-words, copied-words, Held, Lists, Tabled}
+use Rattle.sizes.specs.Parts.{width, needed-at, stamps-at}
+use Rattle.chainwords.specs.Work.{at-regs, at-stamps, chain-words, copied-words, Held, Lists, Tabled}
 use Rattle.chainwords.specs.Puts as U
 use Rattle.chainwords.specs.Along.{Along, Marked, FromX, Numbered, Using, Lasts, Used}
 use Rattle.chains.specs.Chain.{chain-in}
-use Rattle.trial.specs.Target.{from-start, row-at, stamps-at, taken, Aiming, Aimed, Trying, PlanTried}
+use Rattle.trial.specs.Target.{from-start, taken, Aiming, Aimed, Trying, PlanTried}
 use Rattle.chainwords.proofs.Kept.{held-kept}
 use Rattle.chainwords.proofs.Rooms.{room, room-of, Same, held-same}
 use Rattle.chainwords.proofs.Telling.{facts-behind, facts-still}
@@ -116,7 +117,7 @@ module _ {bounds recs ops pairs targets : List ℕ} {s : Sizes} {c : Chain} {w w
         (λ (h : 0 < a .least). let z = d .on h .2 in (omega arith, omega (arith, r .words32, r .lent)))
         (some-or (a .least))
 
-    row-fits : row-at s ≤ length work64₁
+    row-fits : needed-at s ≤ length work64₁
     row-fits = let r = room (t .planning .lists) in omega (arith, r .rows, r .four, r .words64, d .size64)
 
     -- the part of the stamps
@@ -134,7 +135,7 @@ module _ {bounds recs ops pairs targets : List ℕ} {s : Sizes} {c : Chain} {w w
 
 module _ {bounds recs ops pairs targets : List ℕ} {s : Sizes} {c : Chain} {fs : List F.Fact} {work64 work32 : List ℕ} {into other m n : ℕ} (t : Trying bounds recs ops pairs targets s c (cells fs) work64 work32 into other m n) (long : n ≤ length fs) {least : ℕ} {work64₁ : List ℕ} {a : Aim}
     (d : Aimed bounds recs pairs targets s c work64 work32 least into other m n work64₁ a) where
-  choosable-off : Choosable recs ops [] work64₁ fs (from-start (row-at s) (stamps-at s) 0 0 1)
+  choosable-off : Choosable recs ops [] work64₁ fs (from-start (needed-at s) (stamps-at s) 0 0 1)
   choosable-off =
       let r = room (t .planning .lists) in
       record {
@@ -157,7 +158,7 @@ module _ {bounds recs ops pairs targets : List ℕ} {s : Sizes} {c : Chain} {fs 
         go = refl;
       }
 
-  choosable-on : 0 < a .least → Choosable recs ops (copied-words (t .planning .P) work32) work64₁ fs (from-start (row-at s) (stamps-at s) m n least)
+  choosable-on : 0 < a .least → Choosable recs ops (copied-words (t .planning .P) work32) work64₁ fs (from-start (needed-at s) (stamps-at s) m n least)
   choosable-on h =
       let p = t .planning in
       let l = p .lists in
@@ -221,7 +222,7 @@ module _ {bounds recs ops pairs targets : List ℕ} {s : Sizes} {c : Chain} {fs 
     numbered-by (none-move h) f z = absurd (z refl)
     numbered-by (all-move h i) f z = numbered (ch .cells-same) f
 
-    pub uses-asked : Using bounds recs ops s c work64₂ work32₁ (b .moved) (a .into) m n
+    pub uses-asked : Using bounds recs ops s c work64₂ work32₁ (b .moved) (a .into .0) m n
     uses-asked =
         let p = t .planning in
         record {
@@ -249,14 +250,14 @@ module _ {bounds recs ops pairs targets : List ℕ} {s : Sizes} {c : Chain} {fs 
       abbrev need : ℕ → Bool
       need = member (needed-of P into other)
 
-      best : Greatest (P .recs) (P .ops) (cells fs) (copied-words P work32) work64₁ (row-at s) (marks n fs′) m n least k
+      best : Greatest (P .recs) (P .ops) (cells fs) (copied-words P work32) work64₁ (needed-at s) (marks n fs′) m n least k
       best =
           rw (l .recs-are, l .ops-are) at
-          (subst (λ (rs : List ℕ). Greatest recs ops (cells fs) rs work64₁ (row-at s) (marks n fs′) m n least k) (regs-are t d h P l)
+          (subst (λ (rs : List ℕ). Greatest recs ops (cells fs) rs work64₁ (needed-at s) (marks n fs′) m n least k) (regs-are t d h P l)
           (subst (λ (z : Cycle). Greatest recs ops (cells fs) (take (a .end - 8000) (drop 8000 work32)) work64₁ (z .o) (marks (z .n) fs′) (z .m) (z .n) (z .least) k) (d .on h .1) (ch .set)))
 
-      row : Row work64₁ (row-at s) (length (copied-words P work32)) need
-      row = subst (λ (x : ℕ). Row work64₁ (row-at s) x need) (sym (regs-long t d P l)) (d .row h P G ops l u hd)
+      row : Row work64₁ (needed-at s) (length (copied-words P work32)) need
+      row = subst (λ (x : ℕ). Row work64₁ (needed-at s) x need) (sym (regs-long t d P l)) (d .row h P G ops l u hd)
 
       too-few : k < least → count (greatest run need m) < least
       too-few i = best .few i run need (al .told) row
@@ -267,7 +268,7 @@ module _ {bounds recs ops pairs targets : List ℕ} {s : Sizes} {c : Chain} {fs 
       set-is : least ≤ k → (p : ℕ) → in-set (marks n fs′) p ≡ member (greatest run need m) p
       set-is i = best .set i run need (al .told) row
 
-    module _ {work64₃ work32₃ : List ℕ} (us : Used bounds recs ops s c work64₂ work32₁ (b .moved) (a .into) m n work64₃ work32₃) where
+    module _ {work64₃ work32₃ : List ℕ} (us : Used bounds recs ops s c work64₂ work32₁ (b .moved) (a .into .0) m n work64₃ work32₃) where
       unwanted-by : {b : Sunk} → Share k (a .least) n b → least ≡ 0 → b .moved ≡ 0
       unwanted-by (none-move h) z = refl
       unwanted-by (all-move h i) z = let y = d .on h .0 in absurd (omega arith)
@@ -288,7 +289,7 @@ module _ {bounds recs ops pairs targets : List ℕ} {s : Sizes} {c : Chain} {fs 
           (some-or (a .least))
       none-by (all-move h i) some? P G x l u hd al fx z = absurd (omega arith)
 
-      some-by : {b : Sunk} → Share k (a .least) n b → U.Facts fs′ work32 work32₁ (b .places) → Used bounds recs ops s c work64₂ work32₁ (b .moved) (a .into) m n work64₃ work32₃
+      some-by : {b : Sunk} → Share k (a .least) n b → U.Facts fs′ work32 work32₁ (b .places) → Used bounds recs ops s c work64₂ work32₁ (b .moved) (a .into .0) m n work64₃ work32₃
           → (P : Picture) (G : Facts) (x : ℕ) → Lists P bounds recs ops s (length work64) (length work32) → Tabled P pairs targets → Held P G work64 work32
           → Along P G c (cells fs) work32 n → FromX P c x m → (b .moved ≡ 0 → ⊥)
           → (v : Plan) × (plan P (run-of P G (chain-in c)) x (chain-in c) least into other ≡ some v) × (b .moved ≡ count (v .set)) × Marked P v m n (chain-words work32₃)

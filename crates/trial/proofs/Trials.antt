@@ -23,7 +23,7 @@ use Rattle.facts.specs.declared.Fact as F
 use Rattle.analyse.specs.Cells.{cells}
 use Rattle.apply.specs.Apply.{Stands}
 use Rattle.legalset.specs.Chain.{cell}
-use Rattle.chainwords.specs.declared.sizes.Sizes.{Sizes}
+use Rattle.sizes.specs.declared.Sizes.{Sizes}
 use Rattle.trial.specs.declared.block.Ask.{Ask}
 use Rattle.trial.specs.declared.block.MaybeMove.{MaybeMove}
 use Rattle.trial.specs.declared.block.MaybeMove.the-variants.{Is, Not}

@@ -35,7 +35,7 @@ use Rattle.summary.proofs.Backing.{writes-low}
 use Rattle.plan.proofs.Sweeping.{shown}
 use Rattle.pool.specs.Pool.{wrote-at, regs-of}
 use Rattle.pool.specs.Plan.{read-there}
-use Rattle.chainwords.specs.declared.sizes.Sizes.{Sizes}
+use Rattle.sizes.specs.declared.Sizes.{Sizes}
 use Rattle.chainwords.specs.Work.{chain-words, copied-words, Lists}
 use Rattle.chainwords.specs.Puts as U
 use Rattle.chainwords.specs.Along.{Along, Marked, FromX, Numbered, Lasts}

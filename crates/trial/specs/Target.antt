@@ -3,7 +3,7 @@ use mathlib.Core.Path.{_≡_}
 use mathlib.Core.Bool.{true, false, _||_, cond}
 use mathlib.Core.List.{List}
 use mathlib.Core.Option.{none, some}
-use Prim.Native.Nat.{ℕ, _+_, _*_, _<_}
+use Prim.Native.Nat.{ℕ, _+_, _<_}
 use lib.Dec.{eqb, ltb}
 use lib.ListN.{getD, length, drop}
 use Rattle.words.specs.Lists.{count, member}
@@ -14,11 +14,12 @@ use Rattle.chains.specs.declared.chain.Chain.{Chain}
 use Rattle.chains.specs.Chain.{blocks-of, Few}
 use Rattle.legalset.specs.Chain.{cell}
 use Rattle.summary.specs.Passes.{Row}
-use Rattle.chainwords.specs.declared.sizes.Sizes.{Sizes}
+use Rattle.sizes.specs.declared.Sizes.{Sizes}
 use Rattle.plan.specs.declared.settle.Cycle.{Cycle}
 use Rattle.trial.specs.declared.target.Aim.{Aim}
 use Rattle.trial.specs.declared.target.Sunk.{Sunk}
-use Rattle.chainwords.specs.Work.{width, chain-words, Lists, Tabled, Held}
+use Rattle.sizes.specs.Parts.{needed-at, stamps-at}
+use Rattle.chainwords.specs.Work.{chain-words, Lists, Tabled, Held}
 use Rattle.chainwords.specs.Along.{Along, Planning, FromX, Marked}
 use Rattle.chains.specs.Chain.{chain-in}
 
@@ -38,26 +39,19 @@ pub record Aiming (bounds recs pairs targets : List ℕ) (s : Sizes) (c : Chain)
   pub into-block : into < nblocks P
   pub other-block : other < nblocks P
 
--- where the rows begin
-abbrev pub row-at : Sizes → ℕ
-row-at s = s .blocks * width (s .regs) + s .blocks * width (s .regs)
-
-abbrev pub stamps-at : Sizes → ℕ
-stamps-at s = 4 * s .blocks * width (s .lent) + s .lent
-
 -- nothing to do: the sweeps are over no positions, and no words of registers are read; or the row of registers needed elsewhere
 pub record Aimed (bounds recs pairs targets : List ℕ) (s : Sizes) (c : Chain) (work64 work32 : List ℕ) (least into other m n : ℕ) (work64′ : List ℕ) (r : Aim) : Type 0 where
   pub size64 : length work64′ ≡ length work64
-  pub into-is : r .into ≡ into
+  pub into-is : r .into .0 ≡ into
   pub held : (P : Picture) (G : Facts) (ops : List ℕ) → Lists P bounds recs ops s (length work64) (length work32) → Tabled P pairs targets → Held P G work64 work32 → Held P G work64′ work32
   -- nothing to do
-  pub off : r .least ≡ 0 → (r .sweeps ≡ from-start (row-at s) (stamps-at s) 0 0 1) × (r .end ≡ 8000)
+  pub off : r .least ≡ 0 → (r .sweeps ≡ from-start (needed-at s) (stamps-at s) 0 0 1) × (r .end ≡ 8000)
   pub no-target : r .least ≡ 0 → 0 < least → (P : Picture) (G : Facts) (ops : List ℕ) → Lists P bounds recs ops s (length work64) (length work32) → Held P G work64 work32 → is-target P (chain-in c) into ≡ false
   -- a target
-  pub on : 0 < r .least → (r .least ≡ least) × (r .sweeps ≡ from-start (row-at s) (stamps-at s) m n least) × (r .end ≡ 8000 + s .regs)
+  pub on : 0 < r .least → (r .least ≡ least) × (r .sweeps ≡ from-start (needed-at s) (stamps-at s) m n least) × (r .end ≡ 8000 + s .regs)
   pub target : 0 < r .least → (P : Picture) (G : Facts) (ops : List ℕ) → Lists P bounds recs ops s (length work64) (length work32) → Held P G work64 work32 → is-target P (chain-in c) into ≡ true
   pub row : 0 < r .least → (P : Picture) (G : Facts) (ops : List ℕ) → Lists P bounds recs ops s (length work64) (length work32) → Tabled P pairs targets → Held P G work64 work32
-      → Row work64′ (row-at s) (P .regs) (member (needed-of P into other))
+      → Row work64′ (needed-at s) (P .regs) (member (needed-of P into other))
 
 -- ---- `plan`
 

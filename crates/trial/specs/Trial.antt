@@ -19,7 +19,7 @@ use Rattle.trial.specs.declared.block.MaybeMove.the-variants.{Is, Not}
 use Rattle.chainwords.specs.Work.{Shown, Given, Held, chain-words}
 use Rattle.worth.specs.Worth.{Chosen}
 use Rattle.chains.specs.declared.chain.Chain as C
-use Rattle.chainwords.specs.declared.sizes.Sizes.{Sizes}
+use Rattle.sizes.specs.declared.Sizes.{Sizes}
 
 -- the move mv is the plan from block x, and w, ten words a position, say so
 pub record Found (P : Picture) (G : Facts) (x : ℕ) (mv : Move) (w : List ℕ) : Type 0 where

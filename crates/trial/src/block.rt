@@ -3,8 +3,9 @@ use crate::learn::learn;
 use crate::target::plan;
 use chains::chain::Chain;
 use chains::pass::Sink;
-use chainwords::sizes::Sizes;
 use facts::Fact;
+use inst::index::BlockId;
+use sizes::Sizes;
 use words::numbers::wide;
 use worth::look::replays;
 ghost use mathlib.Core.Path.{_≡_};
@@ -37,14 +38,15 @@ pub struct Ask {
     pub least: u32,
 }
 
-fn wanted(bounds: &[u32], replay: &[u32], x: usize, c: Chain) -> Ask
-    requires { ⌜ (x < 4096) × (2 * x + 1 < length (now bounds)) × (getD (now bounds) (2 * x) 0 < getD (now bounds) (2 * x + 1) 0) ⌝ }
-    ensures { λ r. ⌜ (r .inside ≡ getD (now (bounds .entry)) (2 * x + 1) 0 - getD (now (bounds .entry)) (2 * x) 0 - 1) × (r .least ≡ minimum (mem (c .t .0) (now (replay .entry)) || mem (c .f .0) (now (replay .entry)))) ⌝ }
+fn wanted(bounds: &[u32], replay: &[u32], x: BlockId, c: Chain) -> Ask
+    requires { ⌜ (x .0 < 4096) × (2 * x .0 + 1 < length (now bounds)) × (getD (now bounds) (2 * x .0) 0 < getD (now bounds) (2 * x .0 + 1) 0) ⌝ }
+    ensures { λ r. ⌜ (r .inside ≡ getD (now (bounds .entry)) (2 * x .0 + 1) 0 - getD (now (bounds .entry)) (2 * x .0) 0 - 1) × (r .least ≡ minimum (mem (c .t .0) (now (replay .entry)) || mem (c .f .0) (now (replay .entry)))) ⌝ }
 {
     let a = c.t;
     let b = c.f;
-    let inside = wide(bounds[2 * x + 1] - bounds[2 * x]) - 1;
-    let least = Sink::minimum(replays(replay, a.0, b.0));
+    let k = x.at();
+    let inside = wide(bounds[2 * k + 1] - bounds[2 * k]) - 1;
+    let least = Sink::minimum(replays(replay, a, b));
     Ask {
         inside: inside,
         least: least,
@@ -62,14 +64,14 @@ fn else_least(k: u32, least: u32) -> u32
 }
 
 // k members move into t, or else l into f.
-fn found(x: usize, c: Chain, m: usize, n: usize, k: u32, l: u32) -> MaybeMove
-    ensures { λ r. ⌜ r ≡ found x c m n k l ⌝ }
+fn found(x: BlockId, c: Chain, m: usize, n: usize, k: u32, l: u32) -> MaybeMove
+    ensures { λ r. ⌜ r ≡ found (x .0) c m n k l ⌝ }
 {
     let a = c.t;
     let b = c.f;
     if 0 < k {
         let mv = Move {
-            from: x,
+            from: x.at(),
             into: a.at(),
             inside: m,
             places: n,
@@ -79,7 +81,7 @@ fn found(x: usize, c: Chain, m: usize, n: usize, k: u32, l: u32) -> MaybeMove
     }
     if 0 < l {
         let mv = Move {
-            from: x,
+            from: x.at(),
             into: b.at(),
             inside: m,
             places: n,
@@ -103,11 +105,11 @@ pub fn try_chain<'a>(
     work32: &mut [u32],
     facts: &mut [Fact],
     s: Sizes,
-    x: usize,
+    x: BlockId,
     c: Chain,
 ) -> MaybeMove
-    requires { ⌜ (now t ≡ rows) × Following (now bounds) (now recs) (now ops) (now pairs) (now targets) (now replay) s x c (now work64) (now work32) × (800 ≤ length (now facts)) ⌝ }
-    ensures { λ r. ⌜ Followed (now (bounds .entry)) (now (recs .entry)) (now (ops .entry)) (now (pairs .entry)) (now (targets .entry)) (now (replay .entry)) s x c (now (work64 .entry)) (now (work32 .entry)) (now (work64 .exit)) (now (work32 .exit)) r ⌝ }
+    requires { ⌜ (now t ≡ rows) × Following (now bounds) (now recs) (now ops) (now pairs) (now targets) (now replay) s (x .0) c (now work64) (now work32) × (800 ≤ length (now facts)) ⌝ }
+    ensures { λ r. ⌜ Followed (now (bounds .entry)) (now (recs .entry)) (now (ops .entry)) (now (pairs .entry)) (now (targets .entry)) (now (replay .entry)) s (x .0) c (now (work64 .entry)) (now (work32 .entry)) (now (work64 .exit)) (now (work32 .exit)) r ⌝ }
 {
     let n = learn(t, bounds, recs, ops, work64, work32, facts, s, c);
     let w = wanted(bounds, replay, x, c);

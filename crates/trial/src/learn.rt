@@ -3,10 +3,10 @@
 use analyse::along::analyse;
 use analyse::look::LEFT;
 use chains::chain::Chain;
-use chainwords::sizes::Sizes;
-use chainwords::sizes::at_regs;
 use facts::Fact;
-use model::CHAIN_WORDS;
+use sizes::COPIED;
+use sizes::Sizes;
+use sizes::at_regs;
 ghost use mathlib.Core.Path.{_≡_};
 ghost use Prim.Native.Nat.{_+_, _*_, _≤_, _<_};
 ghost use lib.ListN.{length};
@@ -21,7 +21,7 @@ fn copy_regs(work64: &[u64], work32: &mut [u32], a: usize, r: usize)
 {
     let mut i = 0usize;
     while i < r {
-        work32[CHAIN_WORDS + i] = (work64[a + i] % LEFT) as u32;
+        work32[COPIED + i] = (work64[a + i] % LEFT) as u32;
         i += 1;
     }
 }

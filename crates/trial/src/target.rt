@@ -3,14 +3,16 @@
 use chains::chain::Chain;
 use chainwords::marks::put_facts;
 use chainwords::marks::put_uses;
-use chainwords::sizes::Sizes;
-use chainwords::sizes::at_regs;
-use chainwords::sizes::width;
 use facts::Fact;
 use inst::index::BlockId;
-use model::CHAIN_WORDS;
 use plan::set::legal_set;
 use plan::settle::Cycle;
+use sizes::COPIED;
+use sizes::Sizes;
+use sizes::at_needed;
+use sizes::at_preds;
+use sizes::at_stamps;
+use sizes::width;
 use words::numbers::wide;
 use worth::needed::put_needed;
 ghost use mathlib.Core.Path.{_≡_};
@@ -25,7 +27,7 @@ ghost use Rattle.trial.specs.Target.{from-start, taken, Aiming, Aimed, T
 // copied words of the registers end; the sweeps.
 pub struct Aim {
     pub least: u32,
-    pub into: usize,
+    pub into: BlockId,
     pub end: usize,
     pub sweeps: Cycle,
 }
@@ -76,19 +78,17 @@ fn take_aim<'a>(
     requires { ⌜ (now t ≡ rows) × Aiming (now bounds) (now recs) (now pairs) (now targets) s c (now work64) (now work32) (into .0) (other .0) ⌝ }
     ensures { λ r. ⌜ Aimed (now (bounds .entry)) (now (recs .entry)) (now (pairs .entry)) (now (targets .entry)) s c (now (work64 .entry)) (now (work32 .entry)) least (into .0) (other .0) m n (now (work64 .exit)) r ⌝ }
 {
-    let b = wide(s.blocks);
-    let w = width(wide(s.regs));
-    let o = b * w + b * w;
-    let st = at_regs(s) + s.lent;
-    let end = CHAIN_WORDS + wide(s.regs);
-    let k = CHAIN_WORDS + s.lent;
+    let o = at_needed(s);
+    let st = at_stamps(s);
+    let end = COPIED + wide(s.regs);
+    let k = at_preds(s);
     let wanted = (least != 0) & c.is_target(&work32[k..], into, s.blocks);
     if !wanted {
         let none = from_start(o, st, 0, 0, 1);
         return Aim {
             least: 0,
-            into: into.at(),
-            end: CHAIN_WORDS,
+            into: into,
+            end: COPIED,
             sweeps: none,
         };
     }
@@ -99,14 +99,14 @@ fn take_aim<'a>(
         pairs,
         targets,
         work64,
-        w,
+        width(wide(s.regs)),
         into.at(),
         other.at(),
     );
     let all = from_start(o, st, m, n, least);
     Aim {
         least: least,
-        into: into.at(),
+        into: into,
         end: end,
         sweeps: all,
     }
@@ -172,7 +172,7 @@ pub fn plan<'a>(
         t,
         recs,
         ops,
-        &work32[CHAIN_WORDS..e],
+        &work32[COPIED..e],
         work64,
         facts,
         a.sweeps,

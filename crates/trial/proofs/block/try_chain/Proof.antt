@@ -57,8 +57,8 @@ use Rattle.chainwords.specs.Along.{Learnt}
 use Rattle.trial.specs.Target.{PlanTried}
 use Rattle.trial.specs.Trial.{else-least, found, Following, Followed}
 use Rattle.trial.proofs.Trials as law
-use Rattle.chainwords.proofs.sizes.Sizes as S
-use Rattle.chainwords.proofs.sizes.Sizes.Laws as S′
+use Rattle.sizes.proofs.Sizes as S
+use Rattle.sizes.proofs.Sizes.Laws as S′
 use Rattle.trial.proofs.block.Ask as O
 use Rattle.trial.proofs.block.Ask.Laws as O′
 use Rattle.trial.proofs.block.MaybeMove as Y
@@ -99,9 +99,12 @@ sizes-data = struct S.the-type S′.the-laws S′.the-plain S′.lowered (S′.l
 abbrev chain-data : F.Plain K.the-row
 chain-data = struct K.the-type K′.the-laws K′.the-plain K′.lowered (K′.lowers .val-is) (λ x. tt) (λ x f. refl)
 
+abbrev block-data : F.Plain B.the-row
+block-data = struct B.the-type B′.the-laws B′.the-plain B′.lowered (B′.lowers .val-is) (λ x. tt) (λ x f. refl)
+
 -- the parameters
 abbrev kinds : List (Kind 9)
-kinds = one 0 tt Tab ∷ sees 1 tt u32 ∷ sees 2 tt u32 ∷ sees 3 tt u32 ∷ sees 4 tt u32 ∷ too 2 tt u32 ∷ sees 5 tt u32 ∷ lends 6 tt u64 ∷ lends 7 tt u32 ∷ lends 8 tt T.the-row ∷ datum S.the-row sizes-data ∷ datum usize (number w64) ∷ datum K.the-row chain-data ∷ []
+kinds = one 0 tt Tab ∷ sees 1 tt u32 ∷ sees 2 tt u32 ∷ sees 3 tt u32 ∷ sees 4 tt u32 ∷ too 2 tt u32 ∷ sees 5 tt u32 ∷ lends 6 tt u64 ∷ lends 7 tt u32 ∷ lends 8 tt T.the-row ∷ datum S.the-row sizes-data ∷ datum B.the-row block-data ∷ datum K.the-row chain-data ∷ []
 
 abbrev stayed : Stays (f.ended .signature .params) (f.ended .kept)
 stayed = F.stays kinds
@@ -125,7 +128,7 @@ module _ {M : Type 1} (𝓤 : URA M) (H : Heap 𝓤) (A : Atoms 𝓤) (mem : Mem
 
 -- what the function requires
 abbrev Asked : Values kinds → Type 0
-Asked = F.asks kinds (λ tab bounds recs ops pairs targets replay work64 work32 facts sizes start chain. (tab .now ≡ rows) × Following (bounds .list) (recs .list) (ops .list) (pairs .list) (targets .list) (replay .list) (sizes .it) (start .it) (chain .it) (work64 .list) (work32 .list) × (800 ≤ length (facts .list)))
+Asked = F.asks kinds (λ tab bounds recs ops pairs targets replay work64 work32 facts sizes start chain. (tab .now ≡ rows) × Following (bounds .list) (recs .list) (ops .list) (pairs .list) (targets .list) (replay .list) (sizes .it) (start .it .0) (chain .it) (work64 .list) (work32 .list) × (800 ≤ length (facts .list)))
 
 module _ {M : Type 1} (𝓤 : URA M) (H : Heap 𝓤) (A : Atoms 𝓤) (W : Given 𝓤 H A) (mem : Memory → SProp 𝓤) (run : Routine → Fun 𝓤) (𝓣 : Tables 𝓤 H)
     (known-learn : Triple 𝓤 (𝓣 .C #trial·learn·learn) (Learns 𝓤 H A mem run)) (known-want : Triple 𝓤 (𝓣 .C #trial·block·wanted) (Wants 𝓤 H A mem run)) (known-plan : Triple 𝓤 (𝓣 .C #trial·target·plan) (Plans 𝓤 H A mem run)) (known-else : Triple 𝓤 (𝓣 .C #trial·block·else-least) (Elses 𝓤 H A mem run)) (known-found : Triple 𝓤 (𝓣 .C #trial·block·found) (Founds 𝓤 H A mem run)) where
@@ -145,7 +148,7 @@ module _ {M : Type 1} (𝓤 : URA M) (H : Heap 𝓤) (A : Atoms 𝓤) (W : Given
   abbrev Goal : (κs : Lfts 9) (qs : Shares 9) → Values kinds → Type 1
   Goal κs qs vs = Asked vs → ent 𝓤 (onEntry 𝓤 H A f.signature κs qs (entries κs kinds vs) (machs κs kinds vs)) (WpFn 𝓤 H C Λ code.function (F.given kinds vs) (Ends κs qs vs))
 
-  module _ (κs : Lfts 9) (qs : Shares 9) (tab : One Tab) (bounds recs ops pairs targets replay : Slice u32) (work64 : Slice u64) (work32 : Slice u32) (facts : Slice T.the-row) (sizes : Datum S.the-row (λ d. S′.lowered d ∷ [])) (start : Number w64) (chain : Datum K.the-row (λ d. K′.lowered d ∷ [])) where
+  module _ (κs : Lfts 9) (qs : Shares 9) (tab : One Tab) (bounds recs ops pairs targets replay : Slice u32) (work64 : Slice u64) (work32 : Slice u32) (facts : Slice T.the-row) (sizes : Datum S.the-row (λ d. S′.lowered d ∷ [])) (start : Datum B.the-row (λ d. B′.lowered d ∷ [])) (chain : Datum K.the-row (λ d. K′.lowered d ∷ [])) where
     abbrev vs : Values kinds
     vs = (tab, (bounds, (recs, (ops, (pairs, (targets, (replay, (work64, (work32, (facts, (sizes, (start, (chain, tt)))))))))))))
 
@@ -162,7 +165,7 @@ module _ {M : Type 1} (𝓤 : URA M) (H : Heap 𝓤) (A : Atoms 𝓤) (W : Given
     abbrev Post : Val → SProp 𝓤
     Post = Ends κs qs vs
 
-    exits : (xs′ ws′ : List ℕ) (fs′ : List Fact) (r : MaybeMove) (w : Val) → Is Y.the-row r (w ∷ []) → length xs′ ≡ length (work64 .list) → length ws′ ≡ length (work32 .list) → length fs′ ≡ length (facts .list) → Followed (bounds .list) (recs .list) (ops .list) (pairs .list) (targets .list) (replay .list) (sizes .it) (start .it) (chain .it) (work64 .list) (work32 .list) xs′ ws′ r → ent 𝓤 (⋆ 𝓤 H A (Held xs′ ws′ fs′)) (Post w)
+    exits : (xs′ ws′ : List ℕ) (fs′ : List Fact) (r : MaybeMove) (w : Val) → Is Y.the-row r (w ∷ []) → length xs′ ≡ length (work64 .list) → length ws′ ≡ length (work32 .list) → length fs′ ≡ length (facts .list) → Followed (bounds .list) (recs .list) (ops .list) (pairs .list) (targets .list) (replay .list) (sizes .it) (start .it .0) (chain .it) (work64 .list) (work32 .list) xs′ ws′ r → ent 𝓤 (⋆ 𝓤 H A (Held xs′ ws′ fs′)) (Post w)
     exits xs′ ws′ fs′ r w is e e′ e″ said =
         qed W (Held xs′ ws′ fs′) ∵
         suffices ! _ (ends-at 𝓤 H A f.ended stayed (f.clauses 𝓤 H A mem run) W ((κs, qs, tt, entries κs kinds vs, machs κs kinds vs), tt) w r (fins κs kinds vs (xs′, (ws′, (fs′, tt)))) (fit-all κs kinds vs (xs′, (ws′, (fs′, tt))) (e, (e′, (e″, tt))))) $ says ! said $
@@ -199,17 +202,17 @@ module _ {M : Type 1} (𝓤 : URA M) (H : Heap 𝓤) (A : Atoms 𝓤) (W : Given
         -- ---- the facts fs₁ along the chain, n positions
         module _ (n : ℕ) (n-fits : n < 2 ^ 64) (xs₁ ws₁ : List ℕ) (fs₁ : List Fact) (e-x : length xs₁ ≡ length (work64 .list)) (e-w : length ws₁ ≡ length (work32 .list)) (e-f : length fs₁ ≡ length (facts .list)) (learnt : Learnt (bounds .list) (recs .list) (ops .list) (sizes .it) (chain .it) (work64 .list) (work32 .list) xs₁ ws₁ fs₁ n) where
           abbrev want-args : List (Arg 𝓤 H A)
-          want-args = pass-slice 𝓤 H A W 9 κs qs 1 tt bounds ∷ pass-slice 𝓤 H A W 9 κs qs 5 tt replay ∷ pass-data 𝓤 H A W (number w64) start ∷ pass-data 𝓤 H A W chain-data chain ∷ []
+          want-args = pass-slice 𝓤 H A W 9 κs qs 1 tt bounds ∷ pass-slice 𝓤 H A W 9 κs qs 5 tt replay ∷ pass-data 𝓤 H A W block-data start ∷ pass-data 𝓤 H A W chain-data chain ∷ []
 
           abbrev Want-says : Ask → Lasts 𝓤 H A want-args → Type 0
-          Want-says r y = law.Wanted (bounds .list) (replay .list) (start .it) (chain .it) r
+          Want-says r y = law.Wanted (bounds .list) (replay .list) (start .it .0) (chain .it) r
 
           want-call : ent 𝓤 (⋆ 𝓤 H A (G.hads 𝓤 H A want-args)) (H .⇛ (C #trial·block·wanted (G.flat 𝓤 H A want-args) (G.Then 𝓤 H A W want-args O.the-row Want-says)))
           want-call = calls-of 𝓤 H A W C fm #trial·block·wanted (Wants 𝓤 H A mem run) known-want want-args (λ g. ((G.lfts 𝓤 H A want-args g, G.shares 𝓤 H A want-args, tt, G.values 𝓤 H A want-args g, G.machs 𝓤 H A want-args), tt)) (λ g. refl)
               (λ g. qed W (raw (G.tokens 𝓤 H A want-args g) ∷ ‵ (G.owns 𝓤 H A want-args g) ∷ []) ∵ says ! (law.wanting (ready .1)) $ done !) O.the-row Want-says (λ g w. id⊢ 𝓤 _)
 
           -- ---- q: how many positions are in the first block, and the fewest members
-          module _ (q : Ask) (q-is : Is O.the-row q (O′.lowered q ∷ [])) (asked : law.Wanted (bounds .list) (replay .list) (start .it) (chain .it) q) where
+          module _ (q : Ask) (q-is : Is O.the-row q (O′.lowered q ∷ [])) (asked : law.Wanted (bounds .list) (replay .list) (start .it .0) (chain .it) q) where
             inside-fits : q .inside < 2 ^ 64
             inside-fits = LL.owed O.the-type O′.the-laws q _ q-is .0 .1
 
@@ -257,17 +260,17 @@ module _ {M : Type 1} (𝓤 : URA M) (H : Heap 𝓤) (A : Atoms 𝓤) (W : Given
                 module _ (j : ℕ) (j-fits : j < 2 ^ 32) (xs₃ ws₃ : List ℕ) (fs₃ : List Fact) (e-x₃ : length xs₃ ≡ length (work64 .list)) (e-w₃ : length ws₃ ≡ length (work32 .list)) (e-f₃ : length fs₃ ≡ length (facts .list))
                     (into-f : PlanTried (bounds .list) (recs .list) (ops .list) (pairs .list) (targets .list) (sizes .it) (chain .it) (numbers fs₂) xs₂ ws₂ v (chain .it .f .0) (chain .it .t .0) (q .inside) n xs₃ ws₃ j × (numbers fs₃ ≡ numbers fs₂)) where
                   abbrev found-args : List (Arg 𝓤 H A)
-                  found-args = pass-data 𝓤 H A W (number w64) start ∷ pass-data 𝓤 H A W chain-data chain ∷ pass-number 𝓤 H A W w64 (q .inside) inside-fits ∷ pass-number 𝓤 H A W w64 n n-fits ∷ pass-number 𝓤 H A W w32 k k-fits ∷ pass-number 𝓤 H A W w32 j j-fits ∷ []
+                  found-args = pass-data 𝓤 H A W block-data start ∷ pass-data 𝓤 H A W chain-data chain ∷ pass-number 𝓤 H A W w64 (q .inside) inside-fits ∷ pass-number 𝓤 H A W w64 n n-fits ∷ pass-number 𝓤 H A W w32 k k-fits ∷ pass-number 𝓤 H A W w32 j j-fits ∷ []
 
                   abbrev Found-says : MaybeMove → Lasts 𝓤 H A found-args → Type 0
-                  Found-says r y = r ≡ found (start .it) (chain .it) (q .inside) n k j
+                  Found-says r y = r ≡ found (start .it .0) (chain .it) (q .inside) n k j
 
                   found-call : ent 𝓤 (⋆ 𝓤 H A (G.hads 𝓤 H A found-args)) (H .⇛ (C #trial·block·found (G.flat 𝓤 H A found-args) (G.Then 𝓤 H A W found-args Y.the-row Found-says)))
                   found-call = calls-of 𝓤 H A W C fm #trial·block·found (Founds 𝓤 H A mem run) known-found found-args (λ g. ((G.lfts 𝓤 H A found-args g, G.shares 𝓤 H A found-args, tt, G.values 𝓤 H A found-args g, G.machs 𝓤 H A found-args), tt)) (λ g. refl)
                       (λ g. qed W (raw (G.tokens 𝓤 H A found-args g) ∷ ‵ (G.owns 𝓤 H A found-args g) ∷ []) ∵ join ! $ frame ! $ done !) Y.the-row Found-says (λ g w. id⊢ 𝓤 _)
 
-                  followed : {r : MaybeMove} → r ≡ found (start .it) (chain .it) (q .inside) n k j → Followed (bounds .list) (recs .list) (ops .list) (pairs .list) (targets .list) (replay .list) (sizes .it) (start .it) (chain .it) (work64 .list) (work32 .list) xs₃ ws₃ r
-                  followed e = subst (Followed (bounds .list) (recs .list) (ops .list) (pairs .list) (targets .list) (replay .list) (sizes .it) (start .it) (chain .it) (work64 .list) (work32 .list) xs₃ ws₃) (sym e)
+                  followed : {r : MaybeMove} → r ≡ found (start .it .0) (chain .it) (q .inside) n k j → Followed (bounds .list) (recs .list) (ops .list) (pairs .list) (targets .list) (replay .list) (sizes .it) (start .it .0) (chain .it) (work64 .list) (work32 .list) xs₃ ws₃ r
+                  followed e = subst (Followed (bounds .list) (recs .list) (ops .list) (pairs .list) (targets .list) (replay .list) (sizes .it) (start .it .0) (chain .it) (work64 .list) (work32 .list) xs₃ ws₃) (sym e)
                       (law.followed (facts .list) q fs₂ fs₃ (ready .1) (ready .2) learnt e-f asked into-t e-f₂ (subst (λ (i : ℕ). PlanTried (bounds .list) (recs .list) (ops .list) (pairs .list) (targets .list) (sizes .it) (chain .it) (numbers fs₂) xs₂ ws₂ i (chain .it .f .0) (chain .it .t .0) (q .inside) n xs₃ ws₃ j × (numbers fs₃ ≡ numbers fs₂)) v-is into-f))
 
                   -- the move, and the answer; nothing is handed over, ops an operand's local stands one place higher

@@ -1,10 +1,20 @@
 -- `trial::block::wanted` meets its contract. Assumes nothing.
-use mathlib.Core.Path.{ap, _∙_}
-use Prim.Native.Nat.{ℕ, _-_}
+use mathlib.Core.Path.{_≡_, sym, ap, _∙_, subst}
+use mathlib.Core.List.{List}
+use Prim.Native.Nat.{ℕ, _+_, _-_, _*_, _<_}
+use native.Mathlib.Omega.{arith}
+use lib.ListN.{getD}
 use Rattle.model.specs.Move.{minimum}
 use borrow.Author.Needs.{needs}
 use Rattle.trial.proofs.block.wanted.Statement.{statement}
 use Rattle.trial.proofs.block.wanted.Tie as tie
+
+-- the bounds of block x, at its place k
+order : (bs : List ℕ) {k x : ℕ} → k ≡ x → getD bs (2 * x) 0 < getD bs (2 * x + 1) 0 → getD bs (2 * k) 0 < getD bs (2 * k + 1) 0
+order bs e h = subst (λ (n : ℕ). getD bs (2 * n) 0 < getD bs (2 * n + 1) 0) (sym e) h
+
+at-requires : tie.Need-at-requires
+at-requires c κs = search needs
 
 mul-wide : tie.Need-mul-wide
 mul-wide c = search needs
@@ -28,13 +38,13 @@ shared-slice-read-wide-2 : tie.Need-shared-slice-read-wide-2
 shared-slice-read-wide-2 c = search needs
 
 sub-wide : tie.Need-sub-wide
-sub-wide c = search needs
+sub-wide c = omega (arith, order (c .before .before .before .before .before .before .before .args .bounds .now) (c .before .before .at .ensures) (c .before .before .before .before .before .before .before .pre .2))
 
 wide-requires : tie.Need-wide-requires
 wide-requires c κs = search needs
 
 sub-inside : tie.Need-sub-inside
-sub-inside c = search needs
+sub-inside c = omega (arith, order (c .before .before .before .before .before .before .before .before .args .bounds .now) (c .before .before .before .at .ensures) (c .before .before .before .before .before .before .before .before .pre .2), c .wide .ensures)
 
 replays-requires : tie.Need-replays-requires
 replays-requires c κs = search needs
@@ -43,12 +53,15 @@ minimum-requires : tie.Need-minimum-requires
 minimum-requires c κs = search needs
 
 returns : tie.Need-returns
-returns c = (ap (λ (d : ℕ). d - 1) (c .before .before .wide .ensures), c .minimum .ensures ∙ ap minimum (c .before .replays .ensures))
+returns c =
+    let bs = c .before .before .before .before .before .before .before .before .before .before .args .bounds .now in
+    (ap (λ (d : ℕ). d - 1) (c .before .before .wide .ensures ∙ ap (λ (n : ℕ). getD bs (2 * n + 1) 0 - getD bs (2 * n) 0) (c .before .before .before .before .before .at .ensures)), c .minimum .ensures ∙ ap minimum (c .before .replays .ensures))
 
 pub wanted-spec : {M : Type 1} → statement M
 wanted-spec =
     tie.close
     (tie.spec
+    at-requires
     mul-wide
     add-wide
     mul-wide-2

@@ -52,16 +52,16 @@ use Rattle.chains.proofs.chain.Chain.Laws as K′
 use Rattle.inst.specs.Table.{rows}
 use Rattle.analyse.specs.Step.{Analysed}
 use Rattle.analyse.specs.Cells.{cells as numbers}
-use Rattle.chainwords.specs.Work.{width}
+use Rattle.sizes.specs.Parts.{width}
 use Rattle.chainwords.specs.Puts.{Copied}
 use Rattle.chainwords.specs.Along.{Learning, Learnt}
 use Rattle.trial.proofs.Learning as law
-use Rattle.chainwords.proofs.sizes.Sizes as S
-use Rattle.chainwords.proofs.sizes.Sizes.Laws as S′
-use Rattle.chainwords.proofs.sizes.at_regs as at-regs
-use Rattle.chainwords.proofs.sizes.at_regs.Symbol as at-def
-use Rattle.chainwords.proofs.sizes.at_regs.Symbol.{name as #chainwords·sizes·at-regs}
-use Rattle.chainwords.proofs.sizes.at_regs.Met as at-thm
+use Rattle.sizes.proofs.Sizes as S
+use Rattle.sizes.proofs.Sizes.Laws as S′
+use Rattle.sizes.proofs.at_regs as at-regs
+use Rattle.sizes.proofs.at_regs.Symbol as at-def
+use Rattle.sizes.proofs.at_regs.Symbol.{name as #sizes·at-regs}
+use Rattle.sizes.proofs.at_regs.Met as at-thm
 use Rattle.analyse.proofs.along.analyse as analyse
 use Rattle.analyse.proofs.along.analyse.Symbol as analyse-def
 use Rattle.analyse.proofs.along.analyse.Symbol.{name as #analyse·along·analyse}
@@ -110,7 +110,7 @@ abbrev Asked : Values kinds → Type 0
 Asked = F.asks kinds (λ tab bounds recs ops work64 work32 facts sizes chain. (tab .now ≡ rows) × Learning (bounds .list) (recs .list) (ops .list) (sizes .it) (chain .it) (work64 .list) (work32 .list) (facts .list))
 
 module _ {M : Type 1} (𝓤 : URA M) (H : Heap 𝓤) (A : Atoms 𝓤) (W : Given 𝓤 H A) (mem : Memory → SProp 𝓤) (run : Routine → Fun 𝓤) (𝓣 : Tables 𝓤 H)
-    (known-at : Triple 𝓤 (𝓣 .C #chainwords·sizes·at-regs) (AtRegs 𝓤 H A mem run)) (known-analyse : Triple 𝓤 (𝓣 .C #analyse·along·analyse) (Analyse 𝓤 H A mem run)) (known-copy : Triple 𝓤 (𝓣 .C #trial·learn·copy-regs) (Copy 𝓤 H A mem run)) where
+    (known-at : Triple 𝓤 (𝓣 .C #sizes·at-regs) (AtRegs 𝓤 H A mem run)) (known-analyse : Triple 𝓤 (𝓣 .C #analyse·along·analyse) (Analyse 𝓤 H A mem run)) (known-copy : Triple 𝓤 (𝓣 .C #trial·learn·copy-regs) (Copy 𝓤 H A mem run)) where
   abbrev C : Calls 𝓤 H
   C = 𝓣 .C
 
@@ -161,8 +161,8 @@ module _ {M : Type 1} (𝓤 : URA M) (H : Heap 𝓤) (A : Atoms 𝓤) (W : Given
       abbrev At-says : ℕ → Lasts 𝓤 H A at-args → Type 0
       At-says r y = (r ≡ 4 * sizes .it .blocks * width (sizes .it .lent)) × (r ≤ 16777216)
 
-      at-call : ent 𝓤 (⋆ 𝓤 H A (G.hads 𝓤 H A at-args)) (H .⇛ (C #chainwords·sizes·at-regs (G.flat 𝓤 H A at-args) (G.Then 𝓤 H A W at-args usize At-says)))
-      at-call = calls-of 𝓤 H A W C fm #chainwords·sizes·at-regs (AtRegs 𝓤 H A mem run) known-at at-args (λ g. ((G.lfts 𝓤 H A at-args g, G.shares 𝓤 H A at-args, tt, G.values 𝓤 H A at-args g, G.machs 𝓤 H A at-args), tt)) (λ g. refl)
+      at-call : ent 𝓤 (⋆ 𝓤 H A (G.hads 𝓤 H A at-args)) (H .⇛ (C #sizes·at-regs (G.flat 𝓤 H A at-args) (G.Then 𝓤 H A W at-args usize At-says)))
+      at-call = calls-of 𝓤 H A W C fm #sizes·at-regs (AtRegs 𝓤 H A mem run) known-at at-args (λ g. ((G.lfts 𝓤 H A at-args g, G.shares 𝓤 H A at-args, tt, G.values 𝓤 H A at-args g, G.machs 𝓤 H A at-args), tt)) (λ g. refl)
           (λ g. qed W (raw (G.tokens 𝓤 H A at-args g) ∷ ‵ (G.owns 𝓤 H A at-args g) ∷ []) ∵ says ! (small) $ done !) usize At-says (λ g w. id⊢ 𝓤 _)
 
       blocks-fits : sizes .it .blocks < 2 ^ 32
@@ -283,6 +283,6 @@ learn-spec 𝓤 H 𝓜 𝓖 𝓡 =
     entered 𝓤 H (tripleOf 𝓤 H (𝓖 .A) f.signature (f.spec 𝓤 H (𝓖 .A) (𝓜 .mem) (𝓡 .run)))
     (tables 𝓤 H 𝓜 𝓡 code.env .C) (tables 𝓤 H 𝓜 𝓡 code.env .Λ) #trial·learn·learn code.function (code.unfolded 𝓤 H 𝓜 𝓡)
     (learn-meets 𝓤 H (𝓖 .A) (givenOf 𝓤 H 𝓜 𝓖) (𝓜 .mem) (𝓡 .run) (tablesOf 𝓤 H 𝓜 (tables 𝓤 H 𝓜 𝓡 code.env))
-    (cited 𝓤 H (AtRegs 𝓤 H (𝓖 .A) (𝓜 .mem) (𝓡 .run)) 𝓜 𝓡 code.env #chainwords·sizes·at-regs at-def.routine code.calls-chainwords·sizes·at-regs (at-thm.met 𝓤 H 𝓜 𝓖 𝓡))
+    (cited 𝓤 H (AtRegs 𝓤 H (𝓖 .A) (𝓜 .mem) (𝓡 .run)) 𝓜 𝓡 code.env #sizes·at-regs at-def.routine code.calls-sizes·at-regs (at-thm.met 𝓤 H 𝓜 𝓖 𝓡))
     (cited 𝓤 H (Analyse 𝓤 H (𝓖 .A) (𝓜 .mem) (𝓡 .run)) 𝓜 𝓡 code.env #analyse·along·analyse analyse-def.routine code.calls-analyse·along·analyse (analyse-thm.met 𝓤 H 𝓜 𝓖 𝓡))
     (cited 𝓤 H (Copy 𝓤 H (𝓖 .A) (𝓜 .mem) (𝓡 .run)) 𝓜 𝓡 code.env #trial·learn·copy-regs copy-def.routine code.calls-trial·learn·copy-regs (copy-thm.met 𝓤 H 𝓜 𝓖 𝓡)))

@@ -64,8 +64,8 @@ use Rattle.chainwords.specs.Puts.{Facts}
 use Rattle.chainwords.specs.Along.{Used}
 use Rattle.trial.specs.Target.{taken, Aimed, Trying, PlanTried}
 use Rattle.trial.proofs.Planned as law
-use Rattle.chainwords.proofs.sizes.Sizes as S
-use Rattle.chainwords.proofs.sizes.Sizes.Laws as S′
+use Rattle.sizes.proofs.Sizes as S
+use Rattle.sizes.proofs.Sizes.Laws as S′
 use Rattle.trial.proofs.target.Aim as E
 use Rattle.trial.proofs.target.Aim.Laws as E′
 use Rattle.trial.proofs.target.Sunk as D
@@ -220,8 +220,8 @@ module _ {M : Type 1} (𝓤 : URA M) (H : Heap 𝓤) (A : Atoms 𝓤) (W : Given
           end-fits : a .end < 2 ^ 64
           end-fits = LL.owed E.the-type E′.the-laws a _ a-is .1 .1 .0 .1
 
-          into-fits : a .into < 2 ^ 64
-          into-fits = LL.owed E.the-type E′.the-laws a _ a-is .1 .0 .1
+          into-is : Is B.the-row (a .into) (B′.lowered (a .into) ∷ [])
+          into-is = LL.owed E.the-type E′.the-laws a _ a-is .1 .0
 
           e-fits : e < 2 ^ 64
           e-fits = omega (arith, end-fits)
@@ -274,10 +274,10 @@ module _ {M : Type 1} (𝓤 : URA M) (H : Heap 𝓤) (A : Atoms 𝓤) (W : Given
               module _ (ws₁ : List ℕ) (e-ws : length ws₁ ≡ length (work32 .list)) (wrote : Facts hs (work32 .list) ws₁ (b .places)) where
                 abbrev use-args : List (Arg 𝓤 H A)
                 use-args = pass-one 𝓤 H A W 8 κs qs 0 tt tab ∷ pass-slice 𝓤 H A W 8 κs qs 1 tt bounds ∷ pass-slice 𝓤 H A W 8 κs qs 2 tt recs ∷ pass-slice 𝓤 H A W 8 κs qs 3 tt ops ∷ pass-mut 𝓤 H A W 8 κs qs 5 tt work64 4 xs₂ e₂ ∷ pass-mut 𝓤 H A W 8 κs qs 6 tt work32 5 ws₁ e-ws
-                    ∷ pass-data 𝓤 H A W sizes-data sizes ∷ pass-data 𝓤 H A W chain-data chain ∷ pass-number 𝓤 H A W w32 (b .moved) moved-fits ∷ pass-number 𝓤 H A W w64 (a .into) into-fits ∷ pass-data 𝓤 H A W (number w64) inner ∷ pass-data 𝓤 H A W (number w64) count ∷ []
+                    ∷ pass-data 𝓤 H A W sizes-data sizes ∷ pass-data 𝓤 H A W chain-data chain ∷ pass-number 𝓤 H A W w32 (b .moved) moved-fits ∷ pass-struct 𝓤 H A W B.the-type B′.the-plain (a .into) (B′.lowered (a .into)) into-is ∷ pass-data 𝓤 H A W (number w64) inner ∷ pass-data 𝓤 H A W (number w64) count ∷ []
 
                 abbrev Use-says : Unit {0} → Lasts 𝓤 H A use-args → Type 0
-                Use-says r y = Used (bounds .list) (recs .list) (ops .list) (sizes .it) (chain .it) xs₂ ws₁ (b .moved) (a .into) (inner .it) (count .it) (y .1 .1 .1 .1 .0) (y .1 .1 .1 .1 .1 .0)
+                Use-says r y = Used (bounds .list) (recs .list) (ops .list) (sizes .it) (chain .it) xs₂ ws₁ (b .moved) (a .into .0) (inner .it) (count .it) (y .1 .1 .1 .1 .0) (y .1 .1 .1 .1 .1 .0)
 
                 use-call : ent 𝓤 (⋆ 𝓤 H A (G.hads 𝓤 H A use-args)) (H .⇛ (C #chainwords·marks·put-uses (G.flat 𝓤 H A use-args) (G.Then 𝓤 H A W use-args unit Use-says)))
                 use-call = calls-of 𝓤 H A W C fm #chainwords·marks·put-uses (PutUses 𝓤 H A mem run) known-use use-args (λ g. ((G.lfts 𝓤 H A use-args g, G.shares 𝓤 H A use-args, tt, G.values 𝓤 H A use-args g, G.machs 𝓤 H A use-args), tt)) (λ g. refl)
