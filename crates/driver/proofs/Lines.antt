@@ -1,18 +1,19 @@
--- The lines of the rounds, six words each; one round on, and the chain to be tried next. Assumes nothing.
+-- The lines of the rounds, six words each; one round on, and whether another opens. Assumes nothing.
 use mathlib.Core.Path.{_≡_, sym, ap, _∙_, subst}
+use mathlib.Core.Bool.{Bool, false}
 use mathlib.Core.List.{List, [], _∷_, _++_}
 use Prim.Native.Nat.{ℕ, suc, _+_, _-_, _*_, _<_}
 use native.Mathlib.Omega.{arith}
+use lib.Dec.{ltb}
 use lib.ListN.{length, take, drop, set, replicate}
 use lib.Seq.{sets, drop-drop, length-sets}
 use Rattle.words.proofs.Copying.{front-sets, drop-sets}
 use Rattle.model.specs.Pass.{most-rounds}
-use Rattle.search.specs.declared.find.MaybeLook.{MaybeLook}
 use Rattle.oneround.specs.declared.round.Step.{Step}
 use Rattle.oneround.specs.declared.round.Step.the-variants.{Goes, Short}
 use Rattle.oneround.specs.declared.round.Line.{Line}
 use Rattle.driver.specs.declared.rounds.At.{At}
-use Rattle.driver.specs.Rounds.{Small, line-words, with-line, small, Advancing, gone, halted, advanced, taken-up}
+use Rattle.driver.specs.Rounds.{Small, line-words, with-line, small, Advancing, gone, halted, advanced, opens-after}
 
 -- six words, stored one by one
 pub six : (l : List ℕ) (a u v w x y z : ℕ)
@@ -53,7 +54,10 @@ advanced-goes m {r} {l} e h = ap (gone m l) h ∙ ap (advanced m) (sym e)
 pub advanced-short : (m : At) {r : Step} → r ≡ Short → halted m ≡ advanced m r
 advanced-short m e = ap (advanced m) (sym e)
 
--- ---- the chain to be tried next
+-- ---- does another round open?
 
-pub taken-by : (m : At) {r o : MaybeLook} → r ≡ o → taken-up m o ≡ taken-up m r
-taken-by m e = ap (taken-up m) (sym e)
+pub opens-goes : (done : ℕ) {r : Step} {l : Line} {b : Bool} → r ≡ Goes l → b ≡ ltb done most-rounds → b ≡ opens-after done r
+opens-goes done e h = h ∙ ap (opens-after done) (sym e)
+
+pub opens-short : (done : ℕ) {r : Step} → r ≡ Short → false ≡ opens-after done r
+opens-short done e = ap (opens-after done) (sym e)

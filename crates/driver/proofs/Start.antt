@@ -19,15 +19,16 @@ use Rattle.laws.proofs.Sizes.{few-blocks, recs-length}
 use Rattle.laws.proofs.Rounds.{sink-refused, sink-gated, sink-through}
 use Rattle.checks.specs.Causes.{picture-of}
 use Rattle.picture.proofs.Chain.{whatever-replay, whatever-rest}
-use Rattle.chainwords.specs.declared.sizes.Sizes.{Sizes}
+use Rattle.sizes.specs.declared.Sizes.{Sizes}
 use Rattle.driver.specs.declared.judge.Verdict.{Verdict}
 use Rattle.driver.specs.declared.judge.Verdict.the-variants.{Ends, Opens}
-use Rattle.search.specs.Search.{Beginning, Began}
+use Rattle.search.specs.Search.{Beginning, Began, Looking}
 use Rattle.driver.specs.declared.rounds.At.{At}
 use Rattle.driver.specs.Ended.{Did}
 use Rattle.driver.specs.Rounds.{first-at}
-use Rattle.driver.specs.Going.{sizes-of, Reached, Going, Opening, Opened, Started}
+use Rattle.driver.specs.Going.{sizes-of, Reached, RoundOpened, Started}
 use Rattle.driver.specs.Judge.{judged, Judged}
+use Rattle.driver.proofs.Going.{opening-looks, opened-size, opened-same, opened-going}
 
 -- ---- refusals and gates
 
@@ -57,7 +58,7 @@ module _ (bounds recs locs vias types : List ℕ) (regs : ℕ) (ops : List ℕ) 
 module _ (P : Picture) where
   module _ (work64 work32 : List ℕ) (nf : ℕ) {v : Verdict} (j : Judged (P .bounds) (P .recs) (P .locs) (P .vias) (P .types) (P .regs) (P .ops) (P .opers) (P .pairs) (P .targets) (length work64) (length work32) nf v) where
     -- no round is tried
-    pub started-ends : {a : Answer} {q : At} → v ≡ Ends a → q ≡ first-at false a (record { blocks = 0; insts = 0; regs = P .regs; lent = 0 }) (P .opers) → Started P work64 work32 nf q work64 work32
+    pub started-ends : {a : Answer} {q : At} → v ≡ Ends a → q ≡ first-at a (record { blocks = 0; insts = 0; regs = P .regs; lent = 0 }) (P .opers) → Started P work64 work32 nf q work64 work32
     started-ends {a} {q} e f =
         let s : judged P (length work64) (length work32) nf (Ends a) = subst (judged P (length work64) (length work32) nf) e (j .is (P .replay)) in
         subst (λ (z : At). Started P work64 work32 nf z work64 work32) (sym f)
@@ -66,9 +67,7 @@ module _ (P : Picture) where
           regs-are = refl;
           opers-are = refl;
           going = record {
-            on-is = λ y. clash y refl;
-            off-is = λ y.
-                subst (λ (o : Outcome). Did o a (replicate 48 0) (P .bounds) (P .recs) (P .locs) (P .vias) (P .types) (P .ops)) (sym (s .0))
+            is = subst (λ (o : Outcome). Did o a (replicate 48 0) (P .bounds) (P .recs) (P .locs) (P .vias) (P .types) (P .ops)) (sym (s .0))
                 (record {
                   answer-is = refl;
                   lines-are = ap (λ (n : ℕ). replicate (48 - 6 * n) 0) (sym (s .1));
@@ -89,17 +88,18 @@ module _ (P : Picture) where
       pub blocks-small : nblocks P ≤ 4096
       blocks-small = few-blocks P (accepted P (length work64) (length work32) nf (opens .0))
 
-      pub beginning : Beginning (P .bounds) (P .recs) (P .ops) (P .pairs) (P .targets) work64 work32 (length (P .types)) (length (P .locs)) (P .regs)
-      beginning = record { P = P; accepted = enough; bounds-are = refl; recs-are = refl; ops-are = refl; pairs-are = refl; targets-are = refl; lent-are = refl; insts-are = refl; regs-are = refl }
+      pub beginning : Beginning (P .bounds) (P .recs) (P .ops) (P .pairs) (P .targets) work64 work32 (sizes-of P)
+      beginning = record { P = P; accepted = enough; bounds-are = refl; recs-are = refl; ops-are = refl; pairs-are = refl; targets-are = refl; blocks-are = refl; lent-are = refl; insts-are = refl; regs-are = refl }
 
-      module _ {work64′ work32′ : List ℕ} (b : Began (P .bounds) (P .recs) (P .ops) (P .pairs) (P .targets) work64 work32 (length (P .types)) (length (P .locs)) (P .regs) work64′ work32′)
-          {q : At} (f : q ≡ first-at true (answer.Done (used 0 P)) (sizes-of P) (P .opers)) where
+      module _ {work64′ work32′ : List ℕ} (b : Began (P .bounds) (P .recs) (P .ops) (P .pairs) (P .targets) work64 work32 (sizes-of P) work64′ work32′)
+          {q : At} (f : q ≡ first-at (answer.Done (used 0 P)) (sizes-of P) (P .opers)) where
         through : sink P (length work64) (length work32) nf ≡ sink-all most-rounds 0 (facts P) P
         through = sink-through P (length work64) (length work32) nf (opens .0) (opens .1)
 
-        first-reached : Reached P (length work64) (length work32) nf P q work64′ work32′
-        first-reached = subst (λ (z : At). Reached P (length work64) (length work32) nf P z work64′ work32′) (sym f) (record {
-          on-is = λ y. record {
+        first-reached : Reached P (length work64) (length work32) nf P q true work64′ work32′
+        first-reached = subst (λ (z : At). Reached P (length work64) (length work32) nf P z true work64′ work32′) (sym f) (record {
+          no-chain = refl;
+          opens-is = λ y. record {
             lent = opens .0;
             accepted = ap₂ (λ (i j : ℕ). refusal P i j records) (b .size64) (b .size32) ∙ enough;
             begun = b .begun P enough refl refl refl refl refl refl refl refl;
@@ -110,23 +110,16 @@ module _ (P : Picture) where
             answer-is = refl;
             leads = record { answer-same = ap (λ (o : Outcome). o .answer) through; left-same = ap (λ (o : Outcome). o .left) through; lines-same = ap (λ (o : Outcome). concat (o .lines)) through; rest-zero = refl };
           };
-          off-is = λ y. clash refl y;
+          ends-is = λ y. clash refl y;
         })
 
-        abbrev here-at : At → Picture
-        here-at z = picture-of (P .bounds) (P .recs) (P .locs) (P .vias) (P .types) (z .sizes .regs) (P .ops) (z .operands) (P .pairs) (P .targets) (P .replay)
+        pub first-opening : true ≡ true → Looking (P .bounds) (P .recs) (P .ops) (P .pairs) (P .targets) (P .replay) (q .sizes) work64′ work32′
+        first-opening = opening-looks first-reached
 
-        here : here-at q ≡ P
-        here = ap here-at f
-
-        pub first-opening : Opening (here-at q) q work64′ work32′
-        first-opening = record { P = P; w64 = length work64; w32 = length work32; nf = nf; reached = subst (λ (Z : Picture). Reached P (length work64) (length work32) nf Z q work64′ work32′) (sym here) first-reached }
-
-        pub started-opens : {r : At} {work64″ : List ℕ} → Opened (here-at q) q work64′ work32′ r work64″ → Started P work64 work32 nf r work64″ work32′
+        pub started-opens : {r : At} {work64″ : List ℕ} → RoundOpened (P .bounds) (P .recs) (P .ops) (P .pairs) (P .targets) (P .replay) q true work64′ work32′ r work64″ → Started P work64 work32 nf r work64″ work32′
         started-opens {r} {work64″} o = record {
-          work = record { size64 = o .size ∙ b .size64; size32 = b .size32; kept = λ h. absurd (h (opens .0)) };
-          regs-are = ap (λ (s : Sizes). s .regs) (o .same .sizes-are) ∙ ap (λ (z : At). z .sizes .regs) f;
-          opers-are = o .same .opers-are ∙ ap (λ (z : At). z .operands) f;
-          going = subst (λ (Z : Picture). Going P (length work64) (length work32) nf Z r work64″ work32′) here
-              (o .going P (length work64) (length work32) nf (subst (λ (Z : Picture). Reached P (length work64) (length work32) nf Z q work64′ work32′) (sym here) first-reached));
+          work = record { size64 = opened-size o ∙ b .size64; size32 = b .size32; kept = λ h. absurd (h (opens .0)) };
+          regs-are = ap (λ (s : Sizes). s .regs) (opened-same o .sizes-are) ∙ ap (λ (z : At). z .sizes .regs) f;
+          opers-are = opened-same o .opers-are ∙ ap (λ (z : At). z .operands) f;
+          going = opened-going {Q = P} o first-reached;
         }

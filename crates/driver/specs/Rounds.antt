@@ -10,10 +10,9 @@ use lib.Seq.{sets}
 use Rattle.model.specs.declared.Answer.{Answer}
 use Rattle.model.specs.declared.Answer.the-variants as answer
 use Rattle.model.specs.Pass.{most-rounds}
-use Rattle.chainwords.specs.declared.sizes.Sizes.{Sizes}
+use Rattle.sizes.specs.declared.Sizes.{Sizes}
 use Rattle.search.specs.declared.find.MaybeLook.{MaybeLook}
-use Rattle.search.specs.declared.find.MaybeLook.the-variants.{Is, Not}
-use Rattle.search.specs.Search.{nowhere}
+use Rattle.search.specs.declared.find.MaybeLook.the-variants.{Not}
 use Rattle.oneround.specs.declared.round.Line.{Line}
 use Rattle.oneround.specs.declared.round.Step.{Step}
 use Rattle.oneround.specs.declared.round.Step.the-variants.{Goes, Short}
@@ -37,8 +36,8 @@ with-line i l lines = sets lines (6 * i) (line-words (i + 1) l)
 
 -- ---- before the first round
 
-abbrev pub first-at : Bool → Answer → Sizes → ℕ → At
-first-at on answer s opers = record { on = on; look = nowhere; answer = answer; rounds = 0; operands = opers; sizes = s; lines = replicate 48 0 }
+abbrev pub first-at : Answer → Sizes → ℕ → At
+first-at answer s opers = record { next = Not; answer = answer; rounds = 0; operands = opers; sizes = s; lines = replicate 48 0 }
 
 -- ---- one round on
 
@@ -53,8 +52,7 @@ pub record Advancing (m : At) (r : Step) : Type 0 where
 -- after a move, with these lines
 abbrev pub gone : At → Line → List ℕ → At
 gone m l lines = record {
-  on = ltb (m .rounds + 1) most-rounds;
-  look = m .look;
+  next = Not;
   answer = answer.Done (record { rounds = m .rounds + 1; registers = l .registers; operands = l .operands });
   rounds = m .rounds + 1;
   operands = l .operands;
@@ -65,8 +63,7 @@ gone m l lines = record {
 -- where there is no room for it
 abbrev pub halted : At → At
 halted m = record {
-  on = false;
-  look = m .look;
+  next = Not;
   answer = answer.Short (record { rounds = m .rounds; registers = m .sizes .regs; operands = m .operands });
   rounds = m .rounds;
   operands = m .operands;
@@ -78,8 +75,12 @@ abbrev pub advanced : At → Step → At
 advanced m (Goes l) = gone m l (with-line (m .rounds) l (m .lines))
 advanced m Short = halted m
 
+-- does another round open, after so many?
+abbrev pub opens-after : ℕ → Step → Bool
+opens-after done (Goes l) = ltb done most-rounds
+opens-after done Short = false
+
 -- ---- the chain to be tried next
 
 abbrev pub taken-up : At → MaybeLook → At
-taken-up m (Is k) = record { on = m .on; look = k; answer = m .answer; rounds = m .rounds; operands = m .operands; sizes = m .sizes; lines = m .lines }
-taken-up m Not = record { on = false; look = m .look; answer = m .answer; rounds = m .rounds; operands = m .operands; sizes = m .sizes; lines = m .lines }
+taken-up m r = record { next = r; answer = m .answer; rounds = m .rounds; operands = m .operands; sizes = m .sizes; lines = m .lines }

@@ -1,16 +1,14 @@
 // Where the search stands (01, "A round", "At most 8 rounds"), and what a move or a chain that was found makes of that.
 use chains::pass::Sink;
-use chainwords::sizes::Sizes;
 use model::Answer;
 use model::Used;
 use oneround::round::Line;
 use oneround::round::Step;
-use search::find::Look;
 use search::find::MaybeLook;
-use search::find::nowhere;
+use sizes::Sizes;
 ghost use mathlib.Core.Path.{_≡_};
 ghost use lib.ListN.{length};
-ghost use Rattle.driver.specs.Rounds.{Small, with-line, first-at, Advancing, advanced, taken-up};
+ghost use Rattle.driver.specs.Rounds.{Small, with-line, first-at, Advancing, advanced, opens-after, taken-up};
 
 // The answer, and a line of six words for each round: its number, from, into, moved, then registers and operands in use. Zeros behind.
 pub struct Ran {
@@ -18,11 +16,10 @@ pub struct Ran {
     pub lines: [u32; 48],
 }
 
-// Whether a chain is to be tried, and which; the answer where none is left; rounds done; operands in use, and sizes with the registers
+// The chain to be tried, if there is one; the answer where none is left; rounds done; operands in use, and sizes with the registers
 // in use; the lines so far.
 pub struct At {
-    pub on: bool,
-    pub look: Look,
+    pub next: MaybeLook,
     pub answer: Answer,
     pub rounds: u32,
     pub operands: u32,
@@ -43,12 +40,11 @@ pub fn given(m: At) -> Ran
 }
 
 // Before the first round.
-pub fn at_first(on: bool, answer: Answer, s: Sizes, opers: u32) -> At
-    ensures { λ q. ⌜ q ≡ first-at on answer s opers ⌝ }
+pub fn at_first(answer: Answer, s: Sizes, opers: u32) -> At
+    ensures { λ q. ⌜ q ≡ first-at answer s opers ⌝ }
 {
     At {
-        on: on,
-        look: nowhere(),
+        next: MaybeLook::Not,
         answer: answer,
         rounds: 0,
         operands: opers,
@@ -73,13 +69,12 @@ fn put_line(lines: [u32; 48], i: u32, l: Line) -> [u32; 48]
     r
 }
 
-// One round on, by what its move came to.
+// One round on, by what its move came to; no chain is found yet.
 pub fn advance(m: At, r: Step) -> At
     requires { ⌜ Advancing m r ⌝ }
     ensures { λ q. ⌜ q ≡ advanced m r ⌝ }
 {
     let n = m.rounds;
-    let look = m.look;
     let sizes = m.sizes;
     let before = m.lines;
     let Step::Goes(l) = r else {
@@ -89,8 +84,7 @@ pub fn advance(m: At, r: Step) -> At
             operands: m.operands,
         });
         return At {
-            on: false,
-            look: look,
+            next: MaybeLook::Not,
             answer: answer,
             rounds: n,
             operands: m.operands,
@@ -112,8 +106,7 @@ pub fn advance(m: At, r: Step) -> At
         lent: sizes.lent,
     };
     At {
-        on: done < Sink::ROUNDS,
-        look: look,
+        next: MaybeLook::Not,
         answer: answer,
         rounds: done,
         operands: l.operands,
@@ -122,28 +115,25 @@ pub fn advance(m: At, r: Step) -> At
     }
 }
 
+// Does another round open, after so many of which the last came to r?
+pub fn opens(done: u32, r: Step) -> bool
+    ensures { λ b. ⌜ b ≡ opens-after done r ⌝ }
+{
+    let Step::Goes(_) = r else {
+        return false;
+    };
+    done < Sink::ROUNDS
+}
+
 // With the chain that is to be tried next; at the end, if there is none.
 pub fn take_up(m: At, r: MaybeLook) -> At
     ensures { λ q. ⌜ q ≡ taken-up m r ⌝ }
 {
-    let look = m.look;
     let answer = m.answer;
     let sizes = m.sizes;
     let lines = m.lines;
-    let MaybeLook::Is(k) = r else {
-        return At {
-            on: false,
-            look: look,
-            answer: answer,
-            rounds: m.rounds,
-            operands: m.operands,
-            sizes: sizes,
-            lines: lines,
-        };
-    };
     At {
-        on: m.on,
-        look: k,
+        next: r,
         answer: answer,
         rounds: m.rounds,
         operands: m.operands,

@@ -4,28 +4,31 @@ use crate::judge::judge;
 use crate::rounds::At;
 use crate::rounds::advance;
 use crate::rounds::at_first;
+use crate::rounds::opens;
 use crate::rounds::take_up;
-use chainwords::sizes::Sizes;
+use inst::index::BlockId;
 use model::Answer;
 use model::Used;
 use oneround::round::round;
 use search::begin::begin;
+use search::find::Look;
 use search::find::first_look;
 use search::find::seek;
+use sizes::Sizes;
 use trial::block::MaybeMove;
 ghost use mathlib.Core.Path.{_≡_};
+ghost use mathlib.Core.Bool.{true};
+ghost use Prim.Native.Nat.{_<_};
 ghost use Rattle.inst.specs.Table.{rows};
 ghost use Rattle.checks.specs.Causes.{picture-of};
-ghost use Rattle.driver.specs.Going.{Opening, Opened, Passing, Passed, Onward, GoneOn, Started};
+ghost use Rattle.search.specs.Search.{Looking, Seeking};
+ghost use Rattle.driver.specs.Going.{RoundOpened, PassedOn, Onward, GoneOn, Started};
 
-// The first chain of a round, if one is to be tried at all: live-in anew, and the search from block 0 on.
+// The first chain of a round, if one opens: live-in anew, and the search from block 0 on.
 fn open_round<'a>(
     t: &[u32; 202],
     bounds: &[u32],
     recs: &'a [u32],
-    locs: &[u32],
-    vias: &[u32],
-    types: &[u32],
     ops: &[u32],
     pairs: &[u32],
     targets: &'a [u32],
@@ -33,11 +36,12 @@ fn open_round<'a>(
     work64: &mut [u64],
     work32: &[u32],
     m: At,
+    more: bool,
 ) -> At
-    requires { ⌜ (now t ≡ rows) × Opening (picture-of (now bounds) (now recs) (now locs) (now vias) (now types) (m .sizes .regs) (now ops) (m .operands) (now pairs) (now targets) (now replay)) m (now work64) (now work32) ⌝ }
-    ensures { λ q. ⌜ Opened (picture-of (now (bounds .entry)) (now (recs .entry)) (now (locs .entry)) (now (vias .entry)) (now (types .entry)) (m .sizes .regs) (now (ops .entry)) (m .operands) (now (pairs .entry)) (now (targets .entry)) (now (replay .entry))) m (now (work64 .entry)) (now (work32 .entry)) q (now (work64 .exit)) ⌝ }
+    requires { ⌜ (now t ≡ rows) × (more ≡ true → Looking (now bounds) (now recs) (now ops) (now pairs) (now targets) (now replay) (m .sizes) (now work64) (now work32)) ⌝ }
+    ensures { λ q. ⌜ RoundOpened (now (bounds .entry)) (now (recs .entry)) (now (ops .entry)) (now (pairs .entry)) (now (targets .entry)) (now (replay .entry)) m more (now (work64 .entry)) (now (work32 .entry)) q (now (work64 .exit)) ⌝ }
 {
-    if !m.on {
+    if !more {
         return m;
     }
     let r = first_look(
@@ -55,29 +59,16 @@ fn open_round<'a>(
     take_up(m, r)
 }
 
-// The next chain of a round, where the one before has no move.
-fn pass_on(
-    bounds: &[u32],
-    recs: &[u32],
-    locs: &[u32],
-    vias: &[u32],
-    types: &[u32],
-    ops: &[u32],
-    pairs: &[u32],
-    targets: &[u32],
-    replay: &[u32],
-    work64: &[u64],
-    work32: &[u32],
-    m: At,
-) -> At
-    requires { ⌜ Passing (picture-of (now bounds) (now recs) (now locs) (now vias) (now types) (m .sizes .regs) (now ops) (m .operands) (now pairs) (now targets) (now replay)) m (now work64) (now work32) ⌝ }
-    ensures { λ q. ⌜ Passed (picture-of (now (bounds .entry)) (now (recs .entry)) (now (locs .entry)) (now (vias .entry)) (now (types .entry)) (m .sizes .regs) (now (ops .entry)) (m .operands) (now (pairs .entry)) (now (targets .entry)) (now (replay .entry))) m (now (work64 .entry)) (now (work32 .entry)) q ⌝ }
+// The next chain of a round, where the one from block x has no move.
+fn pass_on(bounds: &[u32], recs: &[u32], replay: &[u32], work32: &[u32], m: At, x: BlockId) -> At
+    requires { ⌜ Seeking (now bounds) (now recs) (now replay) (m .sizes) (now work32) × (x .0 < m .sizes .blocks) ⌝ }
+    ensures { λ q. ⌜ PassedOn (now (bounds .entry)) (now (recs .entry)) (now (replay .entry)) m (x .0) (now (work32 .entry)) q ⌝ }
 {
-    let r = seek(bounds, recs, replay, work32, m.sizes, (m.look.x + 1) as u32);
+    let r = seek(bounds, recs, replay, work32, m.sizes, x.number() + 1);
     take_up(m, r)
 }
 
-// After a chain was tried: the move is made and a new round opens, or the next chain is sought.
+// After the chain k was tried: the move is made and a new round opens, or the next chain is sought.
 pub fn go_on(
     t: &[u32; 202],
     bounds: &mut [u32],
@@ -92,26 +83,14 @@ pub fn go_on(
     work64: &mut [u64],
     work32: &mut [u32],
     m: At,
+    k: Look,
     r: MaybeMove,
 ) -> At
-    requires { ⌜ (now t ≡ rows) × Onward (picture-of (now bounds) (now recs) (now locs) (now vias) (now types) (m .sizes .regs) (now ops) (m .operands) (now pairs) (now targets) (now replay)) m (now work64) (now work32) r ⌝ }
-    ensures { λ q. ⌜ GoneOn (picture-of (now (bounds .entry)) (now (recs .entry)) (now (locs .entry)) (now (vias .entry)) (now (types .entry)) (m .sizes .regs) (now (ops .entry)) (m .operands) (now (pairs .entry)) (now (targets .entry)) (now (replay .entry))) m (now (work64 .entry)) (now (work32 .entry)) r (picture-of (now (bounds .exit)) (now (recs .exit)) (now (locs .exit)) (now (vias .exit)) (now (types .exit)) (q .sizes .regs) (now (ops .exit)) (q .operands) (now (pairs .entry)) (now (targets .entry)) (now (replay .entry))) q (now (work64 .exit)) (now (work32 .exit)) ⌝ }
+    requires { ⌜ (now t ≡ rows) × Onward (picture-of (now bounds) (now recs) (now locs) (now vias) (now types) (m .sizes .regs) (now ops) (m .operands) (now pairs) (now targets) (now replay)) m k (now work64) (now work32) r ⌝ }
+    ensures { λ q. ⌜ GoneOn (picture-of (now (bounds .entry)) (now (recs .entry)) (now (locs .entry)) (now (vias .entry)) (now (types .entry)) (m .sizes .regs) (now (ops .entry)) (m .operands) (now (pairs .entry)) (now (targets .entry)) (now (replay .entry))) m k (now (work64 .entry)) (now (work32 .entry)) r (picture-of (now (bounds .exit)) (now (recs .exit)) (now (locs .exit)) (now (vias .exit)) (now (types .exit)) (q .sizes .regs) (now (ops .exit)) (q .operands) (now (pairs .entry)) (now (targets .entry)) (now (replay .entry))) q (now (work64 .exit)) (now (work32 .exit)) ⌝ }
 {
     let MaybeMove::Is(mv) = r else {
-        return pass_on(
-            bounds,
-            recs,
-            locs,
-            vias,
-            types,
-            ops,
-            pairs,
-            targets,
-            replay,
-            work64,
-            work32,
-            m,
-        );
+        return pass_on(bounds, recs, replay, work32, m, k.x);
     };
     let step = round(
         t,
@@ -130,20 +109,19 @@ pub fn go_on(
         m.operands,
         mv,
     );
+    let then = advance(m, step);
     open_round(
         t,
         bounds,
         recs,
-        locs,
-        vias,
-        types,
         ops,
         pairs,
         targets,
         replay,
         work64,
         work32,
-        advance(m, step),
+        then,
+        opens(then.rounds, step),
     )
 }
 
@@ -191,7 +169,7 @@ pub fn start<'a>(
             regs: regs,
             lent: 0,
         };
-        return at_first(false, a, none, opers);
+        return at_first(a, none, opers);
     }
     let s = Sizes {
         blocks: (bounds.len() / 2) as u32,
@@ -204,32 +182,18 @@ pub fn start<'a>(
         registers: regs,
         operands: opers,
     });
-    begin(
-        t,
-        bounds,
-        recs,
-        ops,
-        pairs,
-        targets,
-        work64,
-        work32,
-        types.len(),
-        locs.len(),
-        regs,
-    );
+    begin(t, bounds, recs, ops, pairs, targets, work64, work32, s);
     open_round(
         t,
         bounds,
         recs,
-        locs,
-        vias,
-        types,
         ops,
         pairs,
         targets,
         replay,
         work64,
         work32,
-        at_first(true, done, s, opers),
+        at_first(done, s, opers),
+        true,
     )
 }

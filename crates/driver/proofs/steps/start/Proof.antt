@@ -2,6 +2,7 @@
 use mathlib.Core.Path.{_∙_}
 use native.Mathlib.Omega.{arith}
 use Rattle.checks.specs.Causes.{picture-of}
+use Rattle.driver.proofs.Going.{opened-size}
 use Rattle.driver.proofs.Start.{started-ends, blocks-small, beginning, first-opening, started-opens}
 use borrow.Author.Needs.{needs}
 use Rattle.driver.proofs.steps.start.Statement.{statement}
@@ -39,7 +40,7 @@ open-round-requires c κs = let g = c .before .before .before .before .before .b
     (c .before .before .before .before .before .before .before .before .before .before .before .before .before .before .before .before .before .before .before .before .before .before .before .before .pre, first-opening P (g .work64 .now) (g .work32 .now) (g .records) (c .before .before .before .before .before .before .before .before .before .before .before .before .judge .ensures) (c .before .before .before .before .before .before .before .before .before .before .enum-told .given .1) (c .before .before .before .before .before .before .before .begin .ensures) (c .at-first2 .ensures))
 
 same-length : tie.Need-same-length
-same-length c = c .before .before .open-round .ensures .size ∙ c .before .before .before .before .before .before .before .before .before .before .begin .ensures .size64
+same-length c = opened-size (c .before .before .open-round .ensures) ∙ c .before .before .before .before .before .before .before .before .before .before .begin .ensures .size64
 
 same-length-2 : tie.Need-same-length-2
 same-length-2 c = c .before .before .before .before .before .before .before .before .before .before .begin .ensures .size32
