@@ -1,0 +1,1 @@
+"""What the pass did with a function: what tools/view.py is made of."""

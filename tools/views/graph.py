@@ -1,0 +1,90 @@
+"""The graph of blocks as SVG: blocks with their sizes before and after, branches, and the moves."""
+from listings.shape import blocks
+from views.layout import DROP, HIGH, WIDE, placed
+from views.why import Graph
+
+EDGE = 24  # room around the drawing; on the right the moves need more
+
+
+def curve(points):
+    """A path through points, upright at each."""
+    (x, y), *rest = points
+    out = f'M{x:.0f},{y:.0f}'
+    for to_x, to_y in rest:
+        half = (to_y - y) / 2
+        out += f' C{x:.0f},{y + half:.0f} {to_x:.0f},{to_y - half:.0f} {to_x:.0f},{to_y:.0f}'
+        x, y = to_x, to_y
+    return out
+
+
+def branch(way, turned, at, label):
+    """One edge, with its arrow at the block that it leads to."""
+    ends = [tuple(at[way[0]]), *(tuple(at[p]) for p in way[1:-1]), tuple(at[way[-1]])]
+    ends[0] = (ends[0][0], ends[0][1] + HIGH / 2)
+    ends[-1] = (ends[-1][0], ends[-1][1] - HIGH / 2)
+    shape = f'<path class="edge" d="{curve(ends)}" marker-{"start" if turned else "end"}="url(#arrow)"/>'
+    if not label:
+        return shape
+    (x, y), (to_x, _) = (ends[-1], ends[-2]) if turned else (ends[0], ends[1])
+    step = -1 if turned else 1
+    side = 1 if to_x >= x else -1
+    return shape + f'<text class="label" x="{x + side * 9 + (to_x - x) * 0.08:.0f}" y="{y + step * 15:.0f}">{label}</text>'
+
+
+def ring(b, at, label):
+    """An edge from a block to itself."""
+    x, y = at[b][0] - WIDE / 2, at[b][1]
+    shape = f'<path class="edge" d="M{x:.0f},{y + 9:.0f} c-26,8 -26,-26 0,-18" marker-end="url(#arrow)"/>'
+    return shape + (f'<text class="label" x="{x - 12:.0f}" y="{y - 16:.0f}">{label}</text>' if label else '')
+
+
+def move(x, into, n, at, order):
+    """A move, from the right of its block to the right of its target."""
+    (ax, ay), (bx, by) = at[x], at[into]
+    ax, bx = ax + WIDE / 2, bx + WIDE / 2
+    out = max(ax, bx) + 34 + 14 * order
+    shape = f'<path class="move" d="M{ax:.0f},{ay:.0f} C{out:.0f},{ay:.0f} {out:.0f},{by:.0f} {bx + 3:.0f},{by:.0f}" marker-end="url(#moved)"/>'
+    mid = (ax + 6 * out + bx) / 8
+    return shape + f'<text class="moved" x="{mid + 5:.0f}" y="{(ay + by) / 2 + 4:.0f}">{n}</text>'
+
+
+def box(b, size, now, at, link):
+    """A block, with its size before and after."""
+    x, y = at[b][0] - WIDE / 2, at[b][1] - HIGH / 2
+    many = f'{size} → {now}' if size != now else f'{size}'
+    state = ' came' if now > size else ' gone' if now < size else ''
+    return (f'<a href="#{link}-{b}"><rect class="box{state}" x="{x:.0f}" y="{y:.0f}" width="{WIDE}" height="{HIGH}" rx="5"/>'
+            f'<text class="name" x="{at[b][0]:.0f}" y="{y + 18:.0f}">block {b}</text>'
+            f'<text class="size" x="{at[b][0]:.0f}" y="{y + 34:.0f}">{many}</text></a>')
+
+
+def labels(graph, b):
+    """For each block that b leads to, the name of the way."""
+    out = {}
+    names = ['t', 'f'] if graph.end(b) == 'CondBr' else [''] * len(graph.succs[b])
+    for c, name in zip(graph.succs[b], names):
+        out[c] = f'{out[c]}, {name}' if out.get(c) else name
+    return out
+
+
+def svg(step, link):
+    """The graph of a step; a block's box leads to `link-NUMBER`."""
+    graph = Graph(step.before)
+    at, ways, wide, high = placed(graph.succs)
+    sizes = [[e - s for s, e in blocks(p)] for p in (step.before, step.after)]
+    moves = list(step.moves().items())
+    parts = []
+    for (b, c), (way, turned) in ways.items():
+        names = labels(graph, c if turned else b)
+        parts.append(branch(way, turned, at, names[b if turned else c]))
+        if turned and c in graph.succs[b]:
+            parts.append(branch(way, False, at, labels(graph, b)[c]))
+    parts += [ring(b, at, labels(graph, b)[b]) for b, to in enumerate(graph.succs) if b in to]
+    parts += [move(x, into, n, at, k) for k, ((x, into), n) in enumerate(moves)]
+    parts += [box(b, sizes[0][b], sizes[1][b], at, link) for b in range(len(graph.succs))]
+    right = EDGE + (40 + 14 * len(moves) if moves else 0)
+    size = f'{wide + EDGE + right + 10:.0f}', f'{high + 2 * EDGE:.0f}'
+    return (f'<svg class="graph" role="img" aria-label="the graph of blocks" width="{size[0]}" height="{size[1]}" viewBox="{-EDGE - 10} {-EDGE} {size[0]} {size[1]}">'
+            '<defs><marker id="arrow" viewBox="0 0 8 8" refX="7" refY="4" markerWidth="8" markerHeight="8" orient="auto-start-reverse"><path class="head" d="M0,0 L8,4 L0,8 z"/></marker>'
+            '<marker id="moved" viewBox="0 0 8 8" refX="7" refY="4" markerWidth="5" markerHeight="5" orient="auto"><path class="movehead" d="M0,0 L8,4 L0,8 z"/></marker></defs>'
+            + '\n'.join(parts) + '</svg>')
