@@ -3,7 +3,7 @@ those of tools/causes.txt."""
 import os
 from typing import NamedTuple
 
-from listings.shape import ABSENT, KINDS, SIZES, blocks, counts, forms, records, roles
+from listings.shape import ABSENT, KINDS, SIZES, blocks, counts, no_form, records, roles
 
 HERE = os.path.dirname(os.path.abspath(__file__))
 CAUSES = {int(n): text for n, text in (row.split(None, 1) for row in open(os.path.join(HERE, '../causes.txt'), encoding='utf-8').read().splitlines())}
@@ -32,7 +32,7 @@ def in_parts(p):
     if many not in (0, n):
         yield Fault(2, 'via word', 0, f'{many} via words for {n} instructions: one each, or none')
     if len(p['pairs']) % 2:
-        yield Fault(2, 'pair word', len(p['pairs']) - 1, f'{len(p["pairs"])} pair words: a start and a length each')
+        yield Fault(2, 'pair word', len(p['pairs']) - 1, f'{len(p["pairs"])} pair words, an odd number: a start and a length each')
     at = 0
     for b, (start, end) in enumerate(blocks(p)):
         if start != at or end < start:
@@ -43,6 +43,10 @@ def in_parts(p):
         yield Fault(3, 'bounds', len(blocks(p)) - 1, f'the blocks end at {at}, there are {n} instructions')
 
 
+def no_block(b, many):
+    return f'there is no block {b}; ' + (f'the last one is {many - 1}' if many else 'there is none at all')
+
+
 def in_tables(p):
     """Causes 6, 7 and 9, but for those of records."""
     many, regs = len(blocks(p)), len(p['types'])
@@ -51,7 +55,7 @@ def in_tables(p):
             yield Fault(6, 'operand', k, f'r{reg} in a list is not below the {regs} registers in use')
     for k, b in enumerate(p['targets']):
         if b >= many:
-            yield Fault(7, 'target', k, f'there is no block {b}; there are {many}')
+            yield Fault(7, 'target', k, no_block(b, many))
     for k, (start, n) in enumerate(zip(p['pairs'][::2], p['pairs'][1::2])):
         if not n or start + n > len(p['targets']):
             what = 'is empty' if not n else f'goes to target {start + n} of {len(p["targets"])}'
@@ -68,7 +72,7 @@ def in_kind(k, r):
         return
     kind = KINDS[r[0]]
     if not kind.least <= r[1] <= kind.most:
-        yield Fault(4, 'instruction', k, f'{kind.name} has no form {r[1]}; forms: {forms(kind)}')
+        yield Fault(4, 'instruction', k, no_form(kind, r[1]))
     if kind.name == 'Cat' and r[9] > 65535:
         yield Fault(4, 'instruction', k, f'scalars {r[9]} is above 65535')
 
@@ -102,7 +106,7 @@ def in_branch(k, r, many):
     """Cause 7."""
     for b in {'Br': r[9:10], 'CondBr': r[9:11]}.get(KINDS[r[0]].name, []):
         if b >= many:
-            yield Fault(7, 'instruction', k, f'there is no block {b}; there are {many}')
+            yield Fault(7, 'instruction', k, no_block(b, many))
 
 
 def in_records(p):

@@ -2,16 +2,20 @@
 import re
 import struct
 
-from listings.shape import ABSENT, BY_NAME, NAMED, READ, Wrong, forms, near, roles
+from listings.shape import ABSENT, BY_NAME, NAMED, READ, Wrong, near, no_form, roles
 
 WORD = re.compile(r'->|0x[0-9A-Fa-f]+|-?[0-9]+|[A-Za-z_]\w*|\S')
 # What may follow the registers.
 BEHIND = ('', '[', '{', '=', '->', 'table', 'scalars', 'loc', 'via')
 
 
+def missing(what, word):
+    return f'a {what} is missing before {word!r}' if word else f'a {what} is missing at the end'
+
+
 def number(word, most=ABSENT):
     if not re.fullmatch('[0-9]+', word):
-        raise Wrong(f'{word!r} is no number' if word else 'a number is missing')
+        raise Wrong(f'{word!r} is no number' if word.strip('-,:{}[]@=') else missing('number', word))
     if int(word) > most:
         raise Wrong(f'{word} is above {most}')
     return int(word)
@@ -19,7 +23,7 @@ def number(word, most=ABSENT):
 
 def register(word):
     if not re.fullmatch('r[0-9]+', word):
-        raise Wrong(f'{word!r} is no register (r0, r1, ..)' if word else 'a register is missing')
+        raise Wrong(f'{word!r} is no register (r0, r1, ..)' if word[:1].isalnum() else missing('register', word))
     return number(word[1:])
 
 
@@ -87,7 +91,7 @@ class Line:
             names = {n.lower(): f for f, n in kind.forms.items()}
             form = names[word.lower()] if word.lower() in names else number(word) if re.fullmatch('[0-9]+', word) else None
         if form is None or not self.as_is and not kind.least <= form <= kind.most:
-            raise Wrong(f'{kind.name} has no form {word}; forms: {forms(kind)} (cause 4)')
+            raise Wrong(f'{no_form(kind, word)} (cause 4)')
         return form
 
     def registers(self, kind, form):
@@ -96,6 +100,8 @@ class Line:
             given.append(self.take())
             if not self.follows(','):
                 break
+        if self.peek() == '-' or re.fullmatch('r[0-9]+', self.peek()):
+            raise Wrong(f'a comma is missing before {self.peek()!r}')
         want = [(k, role) for k, role in enumerate(roles(kind, form)) if role != 'off']
         least = max([n + 1 for n, (_, role) in enumerate(want) if role == 'must'], default=0)
         for word in given:
@@ -117,7 +123,7 @@ class Line:
             given.append(register(self.take()))
             while self.follows(','):
                 given.append(register(self.take()))
-            self.needs(']', f'{self.peek()!r} in a list: registers with commas, then ]')
+            self.needs(']', f'{self.peek()!r} in a list: registers with commas, then ]' if self.peek() else 'a list ends with ]')
         if self.follows('@'):
             place = number(self.take())
         if kind.listed:
@@ -142,6 +148,8 @@ class Line:
 
     def constant(self, name):
         word = self.take()
+        if not word:
+            raise Wrong(missing('number', ''))
         if name == 'Const':
             if not re.fullmatch('-?[0-9]+', word) or not -1 << 63 <= int(word) < 1 << 63:
                 raise Wrong(f'{word!r} is no whole number of 64 bits')
@@ -166,4 +174,4 @@ class Line:
             self.record[at] = number(self.take())
             if not self.follows(','):
                 break
-        self.needs('}', f'{self.peek()!r} among payload words: {{11: 5, 12: 6}}')
+        self.needs('}', f'{self.peek()!r} among payload words, which are given as {{11: 5, 12: 6}}' if self.peek() else 'payload words end with }')

@@ -43,7 +43,7 @@ class Listing:
     def not_with(self, word, *but):
         for other in but:
             if other in self.once:
-                raise Wrong(f'`{word}` goes with no `{other}`, which line {self.once[other]} has')
+                raise Wrong(f'`{word}` cannot go with `{other}`, which line {self.once[other]} has')
 
     def none(self, word, rest):
         if rest:

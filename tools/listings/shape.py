@@ -28,9 +28,10 @@ def roles(kind, form):
     return out + ['off'] * (5 - len(out))
 
 
-def forms(kind):
-    """The forms of a kind, in words."""
-    return ', '.join(f'{n} {kind.forms[n]}' if n in kind.forms else str(n) for n in range(kind.least, kind.most + 1))
+def no_form(kind, form):
+    """What is said of a form that a kind has not."""
+    there = ', '.join(f'{n} {kind.forms[n]}' if n in kind.forms else str(n) for n in range(kind.least, kind.most + 1))
+    return f'{kind.name} has no form {form}' + (f'; forms: {there}' if kind.most else ', only 0')
 
 
 def near(word, names):

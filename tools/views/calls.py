@@ -15,11 +15,12 @@ SHORT, REFUSED, UNREAD = 100, 200, 300
 
 
 def archive():
-    """libhost.a, where VIRDZEBA_LIB_DIR says, or where `rt staticlib host` writes it."""
-    path = os.path.join(os.environ.get('VIRDZEBA_LIB_DIR') or os.path.join(ROOT, 'target/staticlib'), 'libhost.a')
-    if not os.path.exists(path):
-        raise Wrong(f'{os.path.normpath(path)} is not there: `rt staticlib host` writes it, as `make run` does')
-    return path
+    """The pass, in the folder that VIRDZEBA_LIB_DIR names, else where `rt staticlib host` writes it."""
+    folder = os.environ.get('VIRDZEBA_LIB_DIR') or os.path.join(ROOT, 'target/staticlib')
+    found = [path for name in ('libhost.a', 'libvirdzeba.a') if os.path.exists(path := os.path.join(folder, name))]
+    if not found:
+        raise Wrong(f'the pass is not in {os.path.normpath(folder)}: `make lib` or `rt staticlib host` writes it')
+    return found[0]
 
 
 def shared():

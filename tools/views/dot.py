@@ -2,7 +2,7 @@
 from listings.shape import Wrong
 from listings.show import line
 from views.calls import REFUSED, said
-from views.steps import rows, whole
+from views.steps import all_moves, rows, whole
 from views.why import Graph
 
 MARK = {True: '+ ', False: '  '}
@@ -29,6 +29,6 @@ def view(p, number, found):
     for b, to in enumerate(graph.succs):
         names = ['t', 'f'] if graph.end(b) == 'CondBr' else [''] * len(to)
         out += [f'  b{b} -> b{c}' + (f' [label={name}]' if name else '') for c, name in zip(to, names)]
-    for (x, into), n in step.moves().items():
+    for (x, into), (n, _) in all_moves(found).items():
         out.append(f'  b{x} -> b{into} [label="{n} moved" style=dashed color="#2a8a2a" fontcolor="#2a8a2a" constraint=false]')
     return out + ['}']

@@ -1,9 +1,10 @@
 """The graph of blocks as SVG: blocks with their sizes before and after, branches, and the moves."""
 from listings.shape import blocks
-from views.layout import DROP, HIGH, WIDE, placed
+from views.layout import HIGH, WIDE, placed
+from views.steps import all_moves
 from views.why import Graph
 
-EDGE = 24  # room around the drawing; on the right the moves need more
+EDGE, SIDE = 24, 56  # room above and below the drawing, and beside it, where moves go round
 
 
 def curve(points):
@@ -38,14 +39,25 @@ def ring(b, at, label):
     return shape + (f'<text class="label" x="{x - 12:.0f}" y="{y - 16:.0f}">{label}</text>' if label else '')
 
 
-def move(x, into, n, at, order):
-    """A move, from the right of its block to the right of its target."""
+def beside(x, into, at, side):
+    """How far out, to the right (1) or left (-1), a way from one block to another stays clear of all that lies between; and how
+    many blocks it passes under to get there."""
+    low, high = sorted((at[x][1], at[into][1]))
+    out = max(side * px for px, py in at.values() if low <= py <= high) + WIDE / 2 + 16
+    under = sum(side * px > side * at[b][0] and py == at[b][1] for b in (x, into) for thing, (px, py) in at.items() if isinstance(thing, int))
+    return out, under
+
+
+def move(x, into, n, rounds, at):
+    """A move, round the outside of what lies between its block and its target."""
     (ax, ay), (bx, by) = at[x], at[into]
-    ax, bx = ax + WIDE / 2, bx + WIDE / 2
-    out = max(ax, bx) + 34 + 14 * order
-    shape = f'<path class="move" d="M{ax:.0f},{ay:.0f} C{out:.0f},{ay:.0f} {out:.0f},{by:.0f} {bx + 3:.0f},{by:.0f}" marker-end="url(#moved)"/>'
-    mid = (ax + 6 * out + bx) / 8
-    return shape + f'<text class="moved" x="{mid + 5:.0f}" y="{(ay + by) / 2 + 4:.0f}">{n}</text>'
+    side = min((1, -1), key=lambda s: (beside(x, into, at, s)[1], 2 * beside(x, into, at, s)[0] - s * (ax + bx)))
+    ax, bx = ax + side * WIDE / 2, bx + side * WIDE / 2
+    out = side * beside(x, into, at, side)[0]
+    far = (out - (ax + bx) / 8) / 0.75
+    shape = f'<path class="move" d="M{ax:.0f},{ay:.0f} C{far:.0f},{ay:.0f} {far:.0f},{by:.0f} {bx + 3 * side:.0f},{by:.0f}" marker-end="url(#moved)"/>'
+    anchor = 'start' if side > 0 else 'end'
+    return shape + f'<text class="moved" text-anchor="{anchor}" x="{out + 5 * side:.0f}" y="{(ay + by) / 2 + 4:.0f}">{n}<title>{n} moved in {rounds}</title></text>'
 
 
 def box(b, size, now, at, link):
@@ -67,12 +79,11 @@ def labels(graph, b):
     return out
 
 
-def svg(step, link):
-    """The graph of a step; a block's box leads to `link-NUMBER`."""
+def svg(step, found, link):
+    """The graph, with the moves of all steps; a block's box leads to `link-NUMBER`."""
     graph = Graph(step.before)
     at, ways, wide, high = placed(graph.succs)
     sizes = [[e - s for s, e in blocks(p)] for p in (step.before, step.after)]
-    moves = list(step.moves().items())
     parts = []
     for (b, c), (way, turned) in ways.items():
         names = labels(graph, c if turned else b)
@@ -80,11 +91,10 @@ def svg(step, link):
         if turned and c in graph.succs[b]:
             parts.append(branch(way, False, at, labels(graph, b)[c]))
     parts += [ring(b, at, labels(graph, b)[b]) for b, to in enumerate(graph.succs) if b in to]
-    parts += [move(x, into, n, at, k) for k, ((x, into), n) in enumerate(moves)]
+    parts += [move(x, into, n, ', '.join(rounds), at) for (x, into), (n, rounds) in all_moves(found).items()]
     parts += [box(b, sizes[0][b], sizes[1][b], at, link) for b in range(len(graph.succs))]
-    right = EDGE + (40 + 14 * len(moves) if moves else 0)
-    size = f'{wide + EDGE + right + 10:.0f}', f'{high + 2 * EDGE:.0f}'
-    return (f'<svg class="graph" role="img" aria-label="the graph of blocks" width="{size[0]}" height="{size[1]}" viewBox="{-EDGE - 10} {-EDGE} {size[0]} {size[1]}">'
+    size = f'{wide + 2 * SIDE:.0f}', f'{high + 2 * EDGE:.0f}'
+    return (f'<svg class="graph" role="img" aria-label="the graph of blocks" width="{size[0]}" height="{size[1]}" viewBox="{-SIDE} {-EDGE} {size[0]} {size[1]}">'
             '<defs><marker id="arrow" viewBox="0 0 8 8" refX="7" refY="4" markerWidth="8" markerHeight="8" orient="auto-start-reverse"><path class="head" d="M0,0 L8,4 L0,8 z"/></marker>'
             '<marker id="moved" viewBox="0 0 8 8" refX="7" refY="4" markerWidth="5" markerHeight="5" orient="auto"><path class="movehead" d="M0,0 L8,4 L0,8 z"/></marker></defs>'
             + '\n'.join(parts) + '</svg>')

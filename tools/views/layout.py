@@ -1,5 +1,5 @@
 """Where the blocks of a graph are drawn: in layers from the top, edges that span several go by points in between."""
-WIDE, HIGH, GAP, DROP = 124, 44, 30, 54
+WIDE, HIGH, GAP, DROP, POINT = 124, 44, 30, 54, 14
 
 
 def turned(succs):
@@ -26,9 +26,9 @@ def turned(succs):
     return edges
 
 
-def depths(n, edges):
+def depths(tied, edges):
     """The layer of each block: below all that lead to it."""
-    depth, changed = [0] * n, True
+    depth, changed = {b: 0 for b in tied}, True
     while changed:
         changed = False
         for b, c in edges:
@@ -37,11 +37,11 @@ def depths(n, edges):
     return depth
 
 
-def layered(n, edges):
+def layered(tied, edges):
     """The layers, with a point (b, c, layer) in each one that an edge passes; and the way of each edge."""
-    depth = depths(n, edges)
-    layers, ways = [[] for _ in range(max(depth, default=0) + 1)], {}
-    for b in range(n):
+    depth = depths(tied, edges)
+    layers, ways = [[] for _ in set(depth.values())], {}
+    for b in tied:
         layers[depth[b]].append(b)
     for b, c in edges:
         points = [(b, c, d) for d in range(depth[b] + 1, depth[c])]
@@ -69,20 +69,32 @@ def ordered(layers, ways):
     return layers
 
 
+def row(things, y, at):
+    """Puts things side by side, and gives the width."""
+    x = 0
+    for thing in things:
+        wide = WIDE if isinstance(thing, int) else POINT
+        at[thing] = [x + wide / 2, y + HIGH / 2]
+        x += wide + GAP
+    return x - GAP
+
+
 def placed(succs):
-    """The middle of each block and point, the way of each edge with whether it was turned, and the drawing's size."""
+    """The middle of each block and point, the way of each edge with whether it was turned, and the drawing's size. Blocks without
+    edges stand below the others, eight a row."""
     edges = turned(succs)
-    layers, ways = layered(len(succs), edges)
-    at, widths = {}, []
-    for d, layer in enumerate(ordered(layers, ways)):
-        x = 0
-        for thing in layer:
-            wide = WIDE if isinstance(thing, int) else 14
-            at[thing] = [x + wide / 2, d * (HIGH + DROP) + HIGH / 2]
-            x += wide + GAP
-        widths.append(x - GAP)
+    tied = {b for edge in edges for b in edge}
+    layers, ways = layered(sorted(tied), edges)
+    at, y, widths = {}, 0, []
+    for layer in ordered(layers, ways):
+        widths.append(row(layer, y, at))
+        y += HIGH + DROP
     whole = max(widths, default=0)
     for layer, wide in zip(layers, widths):
         for thing in layer:
             at[thing][0] += (whole - wide) / 2
-    return at, {edge: (way, edges[edge]) for edge, way in ways.items()}, whole, len(layers) * (HIGH + DROP) - DROP
+    alone = [b for b in range(len(succs)) if b not in tied]
+    for k in range(0, len(alone), 8):
+        whole = max(whole, row(alone[k:k + 8], y, at))
+        y += HIGH + GAP
+    return at, {edge: (way, edges[edge]) for edge, way in ways.items()}, whole, y - (GAP if alone else DROP)

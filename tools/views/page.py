@@ -42,17 +42,17 @@ def shown(row, p, after, link):
     return f'<{tag} class="line{kind}" id="{link}-{here}{row.number}"{to} title="{title}">{body}</{tag}>'
 
 
-def column(title, listing, p, after, link):
-    out = [f'<div><h3>{title}</h3>']
-    for b, block in enumerate(listing):
-        name = f' id="{link}-{b}"' if after else ''
-        out += [f'<div class="block"{name}><h4>block {b}</h4>', *(shown(row, p, after, link) for row in block), '</div>']
-    return out + ['</div>']
+def block(b, listing, p, after, link):
+    name, when = (f' id="{link}-{b}"', 'after') if after else ('', 'before')
+    return [f'<div class="block"{name}><h4>block {b} <i>{when}</i></h4>', *(shown(row, p, after, link) for row in listing), '</div>']
 
 
 def listings(step, link):
-    before, after = rows(step)
-    return ['<div class="two">', *column('before', before, step.before, False, link), *column('after', after, step.after, True, link), '</div>']
+    """Each block before and after, side by side."""
+    out = ['<div class="two">']
+    for b, (before, after) in enumerate(zip(*rows(step))):
+        out += block(b, before, step.before, False, link) + block(b, after, step.after, True, link)
+    return out + ['</div>']
 
 
 def section(step, title, link):
@@ -89,10 +89,10 @@ def view(p, number, found, name):
     first = 'All rounds' if many else heading(found[0]) if found else 'Nothing moved'
     links = ['<a href="#graph">blocks</a>', f'<a href="#all">{"all rounds" if many else "listings"}</a>']
     links += [f'<a href="#round{s.first}">round {s.first}</a>' for s in found if many] + ['<a href="#why">why no more</a>']
-    body = [f'<p>{escape(said(number))}. {arrows(summary(p, all_))}.</p>', f'<nav>{"".join(links)}</nav>',
+    body = [f'<p>{escape(said(number))}. {arrows(summary(found, all_))}.</p>', f'<nav>{"".join(links)}</nav>',
             '<p class="key"><span class="gone">− left its block</span><span class="came">+ came</span><span class="ren">~ registers renamed</span>'
             'Numbers on the left are places before; on the right source places (loc). A moved line leads to its other place.</p>',
-            '<section id="graph"><h2>Blocks</h2><div class="scroll">', svg(all_, 'all'), '</div></section>', *section(all_, first, 'all')]
+            '<section id="graph"><h2>Blocks</h2><div class="scroll">', svg(all_, found, 'all'), '</div></section>', *section(all_, first, 'all')]
     if many:
         for step in found:
             body += section(step, heading(step), f'round{step.first}')

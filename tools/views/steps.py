@@ -10,20 +10,31 @@ from views.calls import OPERANDS, REFUSED, REGISTERS
 
 
 class Step(NamedTuple):
-    """Rounds `first` to `last`, mostly one. Instruction i of the picture after was instruction `old[i]` of the one before."""
+    """Rounds `first` to `last`, mostly one. Instruction i of the picture after was instruction `old[i]` of the one before; `moved`
+    has the numbers before of those that moved, back to their block too."""
     first: int
     last: int
     before: dict
     after: dict
     old: list
+    moved: set
+
+    def name(self):
+        return f'round {self.first}' if self.first == self.last else f'rounds {self.first} to {self.last}'
 
     def moves(self):
         """(from, into): how many, in the order of the target's code."""
         found, was = {}, block_of(self.before)
         for i, b in enumerate(block_of(self.after)):
-            if was[self.old[i]] != b:
+            if self.old[i] in self.moved:
                 found[was[self.old[i]], b] = found.get((was[self.old[i]], b), 0) + 1
         return found
+
+
+def step_of(first, last, before, after, old):
+    """A step of one round, or of some that cannot be told apart."""
+    was, now = block_of(before), block_of(after)
+    return Step(first, last, before, after, old, {k for i, k in enumerate(old) if was[k] != now[i]})
 
 
 def block_of(p):
@@ -64,17 +75,28 @@ def steps(entry, p, registers=REGISTERS, operands=OPERANDS):
     while number < REFUSED and k < number % 100:
         there, after, old = sink(entry, p, *in_use(entry, p, k + 1, registers, operands))
         at = {tag: i for i, tag in enumerate(was)}
-        found.append(Step(k + 1, there % 100, before, after, [at[tag] for tag in old]))
+        found.append(step_of(k + 1, there % 100, before, after, [at[tag] for tag in old]))
         before, was, k = after, old, there % 100
     return number, found
 
 
 def whole(p, found):
     """All steps as one."""
-    old = list(range(len(p['locs'])))
+    old, moved = list(range(len(p['locs']))), set()
     for step in found:
-        old = [old[i] for i in step.old]
-    return Step(1, found[-1].last if found else 0, p, found[-1].after if found else p, old)
+        moved |= {old[k] for k in step.moved}
+        old = [old[k] for k in step.old]
+    return Step(1, found[-1].last if found else 0, p, found[-1].after if found else p, old, moved)
+
+
+def all_moves(found):
+    """(from, into): how many in all steps, and in which."""
+    out = {}
+    for step in found:
+        for edge, n in step.moves().items():
+            many, names = out.get(edge, (0, []))
+            out[edge] = many + n, names + [step.name()]
+    return out
 
 
 def registers_of(r, p):
@@ -103,7 +125,7 @@ def rows(step):
     before, after = [[] for _ in blocks(step.before)], [[] for _ in blocks(step.after)]
     for i, k in enumerate(step.old):
         pairs = list(zip(registers_of(old[k], step.before), registers_of(new[i], step.after)))
-        moved = was[k] != now[i]
+        moved = k in step.moved
         after[now[i]].append(Row(k, new[i], was[k] if moved else None, step.after['locs'][i], i, pairs))
         before[was[k]].append(Row(k, old[k], now[i] if moved else None, step.before['locs'][k], i, pairs))
     return [sorted(block) for block in before], after

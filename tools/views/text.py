@@ -18,9 +18,8 @@ def changed(step, what):
 
 def heading(step):
     """What a step did."""
-    rounds = f'round {step.first}' if step.first == step.last else f'rounds {step.first} to {step.last}'
     moved = ', '.join(f'{n} from block {x} into block {t}' for (x, t), n in step.moves().items())
-    return f'{rounds}: {moved}'
+    return f'{step.name()}: {moved}'
 
 
 def new_registers(step):
@@ -28,9 +27,11 @@ def new_registers(step):
     return ' '.join(f'r{k}={type_name(types[k])}' for k in range(len(step.before['types']), len(types)))
 
 
-def summary(p, step):
-    moved = sum(step.moves().values())
-    return f'{moved} of {plural(len(p["locs"]), "instruction")} moved; {changed(step, "registers")}, {changed(step, "operands")}'
+def summary(found, step):
+    """What all rounds did."""
+    moved, moves = len(step.moved), sum(len(s.moved) for s in found)
+    said = f'{moved} of {plural(len(step.old), "instruction")} moved' + (f', {moves} moves in all' if moves != moved else '')
+    return f'{said}; {changed(step, "registers")}, {changed(step, "operands")}'
 
 
 class Text:
@@ -104,7 +105,7 @@ def view(p, number, found, name, colour=False, each=False):
         return refused(p, number, name, colour)
     text, all_ = Text(colour), whole(p, found)
     text.say(f'{name}: {said(number)}')
-    text.say(summary(p, all_))
+    text.say(summary(found, all_))
     text.rounds(found, each)
     if not each or not found:
         text.say()
