@@ -71,7 +71,10 @@ def main(args):
         sys.exit(str(e))
     except OSError as e:
         sys.exit(f'{asked[2]}: {e.strerror}')
-    print('\n'.join(lines))
+    try:
+        print('\n'.join(lines), flush=True)
+    except BrokenPipeError:
+        os.dup2(os.open(os.devnull, os.O_WRONLY), sys.stdout.fileno())
     sys.exit(1 if number >= calls.REFUSED else 0)
 
 

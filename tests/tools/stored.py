@@ -106,16 +106,17 @@ def reasons(checks, n, name, number, p, found):
 
 
 class Page(HTMLParser):
-    """The ids, links and tags of a page, and whether tags close in order."""
+    """The ids, links and tags of a page, which id leads to which, and whether tags close in order."""
     def __init__(self, text_):
         super().__init__()
-        self.ids, self.links, self.tags, self.open, self.right = [], [], set(), [], True
+        self.ids, self.links, self.leads, self.tags, self.open, self.right = [], [], set(), set(), [], True
         self.feed(text_)
 
     def handle_starttag(self, tag, attrs):
         self.tags.add(tag)
         self.ids += [v for k, v in attrs if k == 'id']
         self.links += [v for k, v in attrs if k in ('href', 'src')]
+        self.leads.add((dict(attrs).get('id'), dict(attrs).get('href')))
         if tag != 'meta':
             self.open.append(tag)
 
@@ -136,7 +137,8 @@ def pages(checks, n, number, p, found):
     checks.holds(f'picture {n}: no script', not made.tags & {'script', 'link', 'img', 'iframe'})
     if number < REFUSED:
         moved = [row for block in rows(whole(p, found))[1] for row in block if row.other is not None]
-        checks.holds(f'picture {n}: moved lines', all(f'#all-b{row.number}' in made.links and f'#all-a{row.number}' in made.links for row in moved))
+        both = {(f'all-{x}{row.number}', f'#all-{y}{row.number}') for row in moved for x, y in ('ab', 'ba')}
+        checks.holds(f'picture {n}: moved lines lead to their other place', both <= made.leads)
         edges = sum(' -> ' in line and 'moved' in line for line in dot.view(p, number, found))
         checks.same(f'picture {n}: moves in the graph', edges, len({edge for step in found for edge in step.moves()}))
 

@@ -13,6 +13,7 @@ from listings.show import show, show_record
 from views import page, text
 from views.calls import REFUSED
 from views.steps import steps
+from views.why import verdicts
 
 # Lines that say the same.
 ALIKE = [
@@ -94,6 +95,13 @@ def forms(checks):
             checks.holds(f'{shown} of form {form}', shown in ('raw', kind.name if not form else f'{kind.name}.{kind.forms[form]}'))
 
 
+def long_chain(checks):
+    """A chain of 800 instructions is tried, one of 801 is not. No picture within the program's sizes has one."""
+    for many, want in (800, 'tried'), (801, 'long'):
+        text_ = 'as-is\nregisters 9\nblock 0\n' + 'Cmp r3, r1, r1\n' * (many - 2) + 'Cat r2, r1, r1\nCondBr r0 -> 1, 2\nblock 1\nRet\nblock 2\nRet\n'
+        checks.same(f'a chain of {many}', verdicts(parse(text_.split('\n')))[0].test, want)
+
+
 def command(*args, data=b''):
     ran = subprocess.run([sys.executable, *args], input=data, capture_output=True)
     return ran.returncode, ran.stdout, ran.stderr.decode()
@@ -154,6 +162,7 @@ def run(checks, entry):
     sizes(checks)
     alike(checks)
     forms(checks)
+    long_chain(checks)
     commands(checks)
     views(checks, entry, sorted(glob.glob('examples/*.txt')), 'examples/expected')
     views(checks, entry, sorted(glob.glob('tests/tools/views/*.txt')), 'tests/tools/views')

@@ -1,5 +1,6 @@
-"""The pass, called from here: the host's archive as a shared library, made anew when the archive is newer."""
+"""The pass, called from here: the host's archive as a shared library, made anew when the archive is another."""
 import ctypes
+import hashlib
 import os
 import shutil
 import struct
@@ -24,14 +25,16 @@ def archive():
 
 
 def shared():
-    """The archive as a shared library, in target/view."""
-    source, made = archive(), os.path.join(ROOT, 'target/view/libvirdzeba.so')
-    if os.path.exists(made) and os.path.getmtime(made) > os.path.getmtime(source):
+    """The archive as a shared library, in target/view, under its sum."""
+    source, folder = archive(), os.path.join(ROOT, 'target/view')
+    made = os.path.join(folder, hashlib.sha256(open(source, 'rb').read()).hexdigest()[:16] + '.so')
+    if os.path.exists(made):
         return made
     cc = os.environ.get('CC', 'cc')
     if not shutil.which(cc):
         raise Wrong(f'{cc} is not installed: a C compiler links the pass into a shared library')
-    os.makedirs(os.path.dirname(made), exist_ok=True)
+    shutil.rmtree(folder, ignore_errors=True)
+    os.makedirs(folder, exist_ok=True)
     new = f'{made}.{os.getpid()}'
     ran = subprocess.run([cc, '-shared', '-o', new, '-Wl,--whole-archive', source, '-Wl,--no-whole-archive'], capture_output=True, text=True)
     if ran.returncode:

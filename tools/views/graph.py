@@ -1,6 +1,6 @@
 """The graph of blocks as SVG: blocks with their sizes before and after, branches, and the moves."""
 from listings.shape import blocks
-from views.layout import HIGH, WIDE, placed
+from views.layout import HIGH, POINT, WIDE, placed
 from views.steps import all_moves
 from views.why import Graph
 
@@ -20,9 +20,8 @@ def curve(points):
 
 def branch(way, turned, at, label):
     """One edge, with its arrow at the block that it leads to."""
-    ends = [tuple(at[way[0]]), *(tuple(at[p]) for p in way[1:-1]), tuple(at[way[-1]])]
-    ends[0] = (ends[0][0], ends[0][1] + HIGH / 2)
-    ends[-1] = (ends[-1][0], ends[-1][1] - HIGH / 2)
+    between = [(at[point][0], at[point][1] + side * HIGH / 2) for point in way[1:-1] for side in (-1, 1)]
+    ends = [(at[way[0]][0], at[way[0]][1] + HIGH / 2), *between, (at[way[-1]][0], at[way[-1]][1] - HIGH / 2)]
     shape = f'<path class="edge" d="{curve(ends)}" marker-{"start" if turned else "end"}="url(#arrow)"/>'
     if not label:
         return shape
@@ -43,7 +42,8 @@ def beside(x, into, at, side):
     """How far out, to the right (1) or left (-1), a way from one block to another stays clear of all that lies between; and how
     many blocks it passes under to get there."""
     low, high = sorted((at[x][1], at[into][1]))
-    out = max(side * px for px, py in at.values() if low <= py <= high) + WIDE / 2 + 16
+    half = {True: WIDE / 2, False: POINT / 2}
+    out = max(side * px + half[isinstance(thing, int)] for thing, (px, py) in at.items() if low <= py <= high) + 16
     under = sum(side * px > side * at[b][0] and py == at[b][1] for b in (x, into) for thing, (px, py) in at.items() if isinstance(thing, int))
     return out, under
 

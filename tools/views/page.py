@@ -8,8 +8,12 @@ from views.calls import REFUSED, said
 from views.graph import svg
 from views.steps import rows, whole
 from views.style import STYLE
-from views.text import heading, new_registers, summary
+from views.text import heading, new_registers, place, summary
 from views.why import why
+
+
+KEY = ('<p class="key"><span class="gone">− left its block</span><span class="came">+ came</span><span class="ren">~ registers renamed</span>'
+       'Numbers on the left are places before; on the right source places (loc). A moved line leads to its other place.</p>')
 
 
 def arrows(text):
@@ -26,12 +30,12 @@ def code(row, p, after):
     return re.sub(r'\br[0-9]+\b', mark, escape(text))
 
 
-def shown(row, p, after, link):
+def shown(row, b, p, after, link):
     """One line. A moved one leads to its other place."""
     here, there = ('a', 'b') if after else ('b', 'a')
     kind, mark, note = '', '', ''
     if row.other is not None:
-        kind, mark, note = (' came', '+', f'from block {row.other}') if after else (' gone', '−', f'to block {row.other}')
+        kind, mark, note = (' came', '+', place('from', row, b)) if after else (' gone', '−', place('to', row, b))
     elif after and row.renamed():
         kind, mark, note = ' ren', '~', 'renamed'
     was = ', '.join(f'r{x} → r{y}' for x, y in row.renamed()) if after else ''
@@ -44,14 +48,15 @@ def shown(row, p, after, link):
 
 def block(b, listing, p, after, link):
     name, when = (f' id="{link}-{b}"', 'after') if after else ('', 'before')
-    return [f'<div class="block"{name}><h4>block {b} <i>{when}</i></h4>', *(shown(row, p, after, link) for row in listing), '</div>']
+    return [f'<div class="block"{name}><h4>block {b} <i>{when}</i></h4>', *(shown(row, b, p, after, link) for row in listing), '</div>']
 
 
 def listings(step, link):
-    """Each block before and after, side by side."""
-    out = ['<div class="two">']
+    """Each block before and after, side by side; once where nothing moved."""
+    out = [f'<div class="{"two" if step.moved else "one"}">']
     for b, (before, after) in enumerate(zip(*rows(step))):
-        out += block(b, before, step.before, False, link) + block(b, after, step.after, True, link)
+        out += block(b, before, step.before, False, link) if step.moved else []
+        out += block(b, after, step.after, True, link)
     return out + ['</div>']
 
 
@@ -62,9 +67,9 @@ def section(step, title, link):
     return out + listings(step, link) + ['</section>']
 
 
-def stops(p, number):
+def stops(p, number, found):
     all_, each = why(p, number)
-    out = ['<section id="why"><h2>Why no more</h2>']
+    out = [f'<section id="why"><h2>{"Why no more" if found else "Why nothing moved"}</h2>']
     if all_:
         out.append(f'<p>{escape(all_)}</p>')
     if each:
@@ -86,14 +91,14 @@ def view(p, number, found, name):
     if number >= REFUSED:
         return refused(p, number, name)
     all_, many = whole(p, found), len(found) > 1
-    first = 'All rounds' if many else heading(found[0]) if found else 'Nothing moved'
+    first = 'All rounds' if many else heading(found[0]) if found else 'The function'
+    ends = stops(all_.after, number, found)
     links = ['<a href="#graph">blocks</a>', f'<a href="#all">{"all rounds" if many else "listings"}</a>']
-    links += [f'<a href="#round{s.first}">round {s.first}</a>' for s in found if many] + ['<a href="#why">why no more</a>']
+    links += [f'<a href="#round{s.first}">round {s.first}</a>' for s in found if many] + [f'<a href="#why">why {"no more" if found else "nothing moved"}</a>']
     body = [f'<p>{escape(said(number))}. {arrows(summary(found, all_))}.</p>', f'<nav>{"".join(links)}</nav>',
-            '<p class="key"><span class="gone">− left its block</span><span class="came">+ came</span><span class="ren">~ registers renamed</span>'
-            'Numbers on the left are places before; on the right source places (loc). A moved line leads to its other place.</p>',
-            '<section id="graph"><h2>Blocks</h2><div class="scroll">', svg(all_, found, 'all'), '</div></section>', *section(all_, first, 'all')]
+            KEY if found else '',
+            *([] if found else ends), '<section id="graph"><h2>Blocks</h2><div class="scroll">', svg(all_, found, 'all'), '</div></section>', *section(all_, first, 'all')]
     if many:
         for step in found:
             body += section(step, heading(step), f'round{step.first}')
-    return whole_page(name, body + stops(all_.after, number))
+    return whole_page(name, body + (ends if found else []))

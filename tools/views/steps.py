@@ -5,7 +5,7 @@ pass reads no loc word. The picture after a round comes from lending exactly the
 which are found by lending less and less. Rounds that take neither cannot be told apart in this way, and are one step."""
 from typing import NamedTuple
 
-from listings.shape import blocks, counts, pack, records, unpack
+from listings.shape import ABSENT, Wrong, blocks, counts, pack, records, unpack
 from views.calls import OPERANDS, REFUSED, REGISTERS
 
 
@@ -74,6 +74,8 @@ def steps(entry, p, registers=REGISTERS, operands=OPERANDS):
     found, before, was, k = [], p, list(range(len(p['locs']))), 0
     while number < REFUSED and k < number % 100:
         there, after, old = sink(entry, p, *in_use(entry, p, k + 1, registers, operands))
+        if not k < there % 100 <= number % 100:
+            raise Wrong(f'with the room of round {k + 1} the pass answers {there}, with all {number}')
         at = {tag: i for i, tag in enumerate(was)}
         found.append(step_of(k + 1, there % 100, before, after, [at[tag] for tag in old]))
         before, was, k = after, old, there % 100
@@ -101,7 +103,7 @@ def all_moves(found):
 
 def registers_of(r, p):
     """The registers of a record as its text has them: slots, then the list."""
-    return [reg for reg in r[2:7] if reg != 0xFFFFFFFF] + p['ops'][r[7]:r[7] + r[8]]
+    return [reg for reg in r[2:7] if reg != ABSENT] + p['ops'][r[7]:r[7] + r[8]]
 
 
 class Row(NamedTuple):

@@ -16,6 +16,8 @@ code, .line, .regs { font: 13px/1.5 ui-monospace, "DejaVu Sans Mono", monospace;
 .regs { overflow-wrap: anywhere; color: var(--dim); }
 .key span { padding: .05rem .45rem; border-radius: 3px; margin-right: .4rem; white-space: nowrap; }
 .two { display: grid; grid-template-columns: minmax(0, 1fr) minmax(0, 1fr); gap: .7rem 1rem; align-items: start; }
+.one { display: grid; gap: .7rem; max-width: 60rem; }
+.one h4 i { display: none; }
 .block { background: var(--panel); border: 1px solid var(--rule); border-radius: 6px; padding: .25rem 0 .35rem; }
 .block h4 { font-size: .85rem; margin: 0; padding: .1rem .6rem .25rem; }
 .block h4 i { font-style: normal; font-weight: normal; color: var(--dim); }

@@ -34,6 +34,11 @@ def summary(found, step):
     return f'{said}; {changed(step, "registers")}, {changed(step, "operands")}'
 
 
+def place(way, row, b):
+    """Where a moved instruction of block b is from, or goes."""
+    return f'{way} block {row.other}' if row.other != b else 'out and back'
+
+
 class Text:
     def __init__(self, colour):
         self.colour, self.out = colour, []
@@ -59,11 +64,11 @@ class Text:
         self.say(self.paint('bold', f'block {b}'))
         for row in after:
             if row.other is not None:
-                self.row('+', row, step.after, f'{self.paint("place", f"from block {row.other}")}  {self.renames(row)}'.rstrip())
+                self.row('+', row, step.after, f'{self.paint("place", place("from", row, b))}  {self.renames(row)}'.rstrip())
         own = {row.number: row for row in after if row.other is None}
         for row in before:
             if row.other is not None:
-                self.row('-', row, step.before, self.paint('place', f'to block {row.other}'))
+                self.row('-', row, step.before, self.paint('place', place('to', row, b)))
             else:
                 now = own[row.number]
                 self.row('~' if now.renamed() else ' ', now, step.after, self.renames(now))
@@ -82,9 +87,9 @@ class Text:
                 self.step(step)
                 self.say()
 
-    def stops(self, p, number):
+    def stops(self, p, number, found):
         all_, each = why(p, number)
-        self.say(self.paint('bold', 'why no more'))
+        self.say(self.paint('bold', 'why no more' if found else 'why nothing moved'))
         if all_:
             self.say(f'  {all_}')
         for b, verdict in enumerate(each):
@@ -111,5 +116,5 @@ def view(p, number, found, name, colour=False, each=False):
         text.say()
         text.step(all_)
         text.say()
-    text.stops(all_.after, number)
+    text.stops(all_.after, number, found)
     return text.out
