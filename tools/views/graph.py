@@ -7,6 +7,12 @@ from views.why import Graph
 EDGE, SIDE = 24, 56  # room above and below the drawing, and beside it, where moves go round
 
 
+def marker(name, style, size):
+    """An arrow's head."""
+    return (f'<marker id="{name}" viewBox="0 0 8 8" refX="7" refY="4" markerWidth="{size}" markerHeight="{size}" orient="auto-start-reverse">'
+            f'<path class="{style}" d="M0,0 L8,4 L0,8 z"/></marker>')
+
+
 def curve(points):
     """A path through points, upright at each."""
     (x, y), *rest = points
@@ -93,8 +99,7 @@ def svg(step, found, link):
     parts += [ring(b, at, labels(graph, b)[b]) for b, to in enumerate(graph.succs) if b in to]
     parts += [move(x, into, n, ', '.join(rounds), at) for (x, into), (n, rounds) in all_moves(found).items()]
     parts += [box(b, sizes[0][b], sizes[1][b], at, link) for b in range(len(graph.succs))]
-    size = f'{wide + 2 * SIDE:.0f}', f'{high + 2 * EDGE:.0f}'
-    return (f'<svg class="graph" role="img" aria-label="the graph of blocks" width="{size[0]}" height="{size[1]}" viewBox="{-SIDE} {-EDGE} {size[0]} {size[1]}">'
-            '<defs><marker id="arrow" viewBox="0 0 8 8" refX="7" refY="4" markerWidth="8" markerHeight="8" orient="auto-start-reverse"><path class="head" d="M0,0 L8,4 L0,8 z"/></marker>'
-            '<marker id="moved" viewBox="0 0 8 8" refX="7" refY="4" markerWidth="5" markerHeight="5" orient="auto"><path class="movehead" d="M0,0 L8,4 L0,8 z"/></marker></defs>'
-            + '\n'.join(parts) + '</svg>')
+    x, y = round(wide + 2 * SIDE), round(high + 2 * EDGE)
+    size = f'width="{x}" height="{y}" viewBox="{-SIDE} {-EDGE} {x} {y}" style="min-width: {x * 6 // 10}px"'
+    heads = marker('arrow', 'head', 8) + marker('moved', 'movehead', 5)
+    return f'<svg class="graph" role="img" aria-label="the graph of blocks" {size}><defs>{heads}</defs>' + '\n'.join(parts) + '</svg>'

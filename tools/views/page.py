@@ -12,7 +12,7 @@ from views.text import heading, new_registers, place, summary
 from views.why import why
 
 
-KEY = ('<p class="key"><span class="gone">− left its block</span><span class="came">+ came</span><span class="ren">~ registers renamed</span>'
+KEY = ('<p class="key"><span class="gone">− left its block</span> <span class="came">+ came</span> <span class="ren">~ registers renamed</span> '
        'Numbers on the left are places before; on the right source places (loc). A moved line leads to its other place.</p>')
 
 
@@ -96,8 +96,8 @@ def view(p, number, found, name):
     links = ['<a href="#graph">blocks</a>', f'<a href="#all">{"all rounds" if many else "listings"}</a>']
     links += [f'<a href="#round{s.first}">round {s.first}</a>' for s in found if many] + [f'<a href="#why">why {"no more" if found else "nothing moved"}</a>']
     body = [f'<p>{escape(said(number))}. {arrows(summary(found, all_))}.</p>', f'<nav>{"".join(links)}</nav>',
-            KEY if found else '',
-            *([] if found else ends), '<section id="graph"><h2>Blocks</h2><div class="scroll">', svg(all_, found, 'all'), '</div></section>', *section(all_, first, 'all')]
+            *([KEY] if found else ends),
+            '<section id="graph"><h2>Blocks</h2><div class="scroll">', svg(all_, found, 'all'), '</div></section>', *section(all_, first, 'all')]
     if many:
         for step in found:
             body += section(step, heading(step), f'round{step.first}')

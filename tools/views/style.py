@@ -11,17 +11,17 @@ h1 { font-size: 1.35rem; margin: 0 0 .2rem; overflow-wrap: anywhere; }
 h2 { font-size: 1.1rem; margin: 2rem 0 .5rem; padding-top: .6rem; border-top: 1px solid var(--rule); }
 p { margin: .25rem 0; }
 a { color: var(--link); }
-nav a { margin-right: .9rem; white-space: nowrap; }
+nav a { display: inline-block; margin-right: .9rem; }
 code, .line, .regs { font: 13px/1.5 ui-monospace, "DejaVu Sans Mono", monospace; }
 .regs { overflow-wrap: anywhere; color: var(--dim); }
-.key span { padding: .05rem .45rem; border-radius: 3px; margin-right: .4rem; white-space: nowrap; }
+.key span { padding: .05rem .45rem; border-radius: 3px; margin-right: .15rem; white-space: nowrap; }
 .two { display: grid; grid-template-columns: minmax(0, 1fr) minmax(0, 1fr); gap: .7rem 1rem; align-items: start; }
 .one { display: grid; gap: .7rem; max-width: 60rem; }
 .one h4 i { display: none; }
 .block { background: var(--panel); border: 1px solid var(--rule); border-radius: 6px; padding: .25rem 0 .35rem; }
 .block h4 { font-size: .85rem; margin: 0; padding: .1rem .6rem .25rem; }
 .block h4 i { font-style: normal; font-weight: normal; color: var(--dim); }
-.line { display: flex; gap: .6rem; padding: 0 .6rem; color: inherit; text-decoration: none; border-left: 3px solid transparent; }
+.line { scroll-margin: 6rem; display: flex; gap: .6rem; padding: 0 .6rem; color: inherit; text-decoration: none; border-left: 3px solid transparent; }
 .line .n { flex: none; width: 2.2rem; text-align: right; color: var(--dim); }
 .line .m { flex: none; width: .6rem; text-align: center; }
 .line .c { flex: 1 1 auto; min-width: 0; overflow-wrap: anywhere; padding-left: 1.4em; text-indent: -1.4em; }
@@ -36,7 +36,7 @@ a.line:hover { text-decoration: underline; }
 .why { border-collapse: collapse; } .why td { padding: .1rem .8rem .1rem 0; vertical-align: top; } .why td:first-child { white-space: nowrap; color: var(--dim); }
 .scroll { overflow-x: auto; }
 pre { background: var(--panel); border: 1px solid var(--rule); border-radius: 6px; padding: .6rem; overflow-x: auto; font: 13px/1.5 ui-monospace, "DejaVu Sans Mono", monospace; }
-svg.graph { display: block; } svg text { font: 12px system-ui, sans-serif; fill: var(--ink); } svg .name, svg .size, svg .label { text-anchor: middle; }
+svg.graph { display: block; max-width: 100%; height: auto; } svg text { font: 12px system-ui, sans-serif; fill: var(--ink); } svg .name, svg .size, svg .label { text-anchor: middle; }
 svg .box { fill: var(--panel); stroke: var(--dim); } svg .box.came { fill: var(--came); stroke: var(--came-ink); } svg .box.gone { fill: var(--gone); stroke: var(--gone-ink); }
 svg .name { font-weight: 600; } svg .size, svg .label { fill: var(--dim); }
 svg .edge { fill: none; stroke: var(--dim); stroke-width: 1.2; } svg .head { fill: var(--dim); }
