@@ -1,9 +1,11 @@
 """What the tools print: messages on bad listings, other ways to write the same, the commands, the examples."""
 import glob
 import os
+import random
 import re
 import subprocess
 import sys
+import tempfile
 
 from kinds import KINDS
 from listings.line import Line
@@ -30,6 +32,9 @@ ALIKE = [
     ('ConstF r1 = 0x3FF0000000000000', 'ConstF r1 = 0x3ff0000000000000'),
     ('raw 55 0 1 4294967295 4294967295 4294967295 4294967295 0 0 0 0 0 0 0 0 0', 'Ret r1'),
 ]
+# What is put into a listing to alter it.
+WORDS = ['', 'r1', 'r99', '-', '->', '[', ']', '{', '}', ',', '@', '0', '1', '7', '-5', '4294967296', 'loc', 'via', 'vias', 'types', 'block', 'bounds',
+         'raw', 'Cat', 'Const', 'CondBr', '=', '.', '\t', '#', 'scalars', 'table', 'registers', 'operands', '0x10', 'é']
 HEADS = [
     ('registers 4\ntypes r1=Ptr r2=Sig', 'registers 4\ntypes r1=ptr\ntypes r2 = SIG r3=i64'),
     ('registers 4\nreplay 0 1', '\ufeffregisters\t4\r\nreplay 0\nreplay 1 # twice'),
@@ -102,6 +107,31 @@ def long_chain(checks):
         checks.same(f'a chain of {many}', verdicts(parse(text_.split('\n')))[0].test, want)
 
 
+def altered(random_, text_):
+    """A listing with some places altered."""
+    for _ in range(random_.randint(1, 3)):
+        at = random_.randrange(len(text_) + 1)
+        text_ = text_[:at] + random_.choice(WORDS) + random_.choice(('', ' ', '\n')) + text_[at + random_.choice((0, 0, 1, 2, 5, 20)):]
+    return text_
+
+
+def strict(checks, entry):
+    """Of altered listings, what is taken is never refused by the pass, and reads back; of the others a line is named."""
+    random_, taken = random.Random(1), 0
+    good = [open(path, encoding='utf-8').read() for path in sorted(glob.glob('examples/*.txt')) if 'refused' not in path]
+    for _ in range(3000):
+        made = altered(random_, random_.choice(good))
+        try:
+            p = picture_of(made.encode(), 'listing')
+        except Wrong as e:
+            checks.holds(f'a line is named: {e}', all(re.match(r'listing:\d+: ', line) for line in str(e).split('\n')))
+            continue
+        taken += 1
+        checks.holds(f'taken, but refused:\n{made}', entry.call(pack(p))[0] < REFUSED)
+        checks.holds(f'reads back otherwise:\n{made}', parse(show(p).split('\n')) == p)
+    checks.holds(f'{taken} altered listings are taken', 200 < taken < 2800)
+
+
 def command(*args, data=b''):
     ran = subprocess.run([sys.executable, *args], input=data, capture_output=True)
     return ran.returncode, ran.stdout, ran.stderr.decode()
@@ -129,6 +159,17 @@ def commands(checks):
     checks.holds('colour where it is asked for', b'\033[' in command('tools/view.py', '--color', listing)[1] and b'\033[' not in command('tools/view.py', listing)[1])
     checks.same('a room that is too large', command('tools/view.py', '--registers', '513', listing)[0], 2)
     checks.holds('less room', b'short: no room after 0 rounds' in command('tools/view.py', '--registers', '11', listing)[1])
+
+
+def make_view(checks):
+    """`make view` takes any file name, and a picture's bytes too."""
+    with tempfile.TemporaryDirectory() as folder:
+        path = os.path.join(folder, 'it\'s my "file" $x.txt')
+        for data in open('examples/listing.txt', 'rb').read(), picture(open('examples/listing.txt', encoding='utf-8').read()):
+            open(path, 'wb').write(data)
+            ran = subprocess.run(['make', '-s', 'view', 'FILE=' + path.replace('$', '$$')], capture_output=True, text=True)
+            want = open('examples/expected/listing.view', encoding='utf-8').read()
+            checks.same('make view', (ran.returncode, ran.stdout.split('\n')[1:], ran.stderr), (0, want.split('\n')[1:], ''))
 
 
 def run_text(entry, p):
@@ -163,7 +204,9 @@ def run(checks, entry):
     alike(checks)
     forms(checks)
     long_chain(checks)
+    strict(checks, entry)
     commands(checks)
+    make_view(checks)
     views(checks, entry, sorted(glob.glob('examples/*.txt')), 'examples/expected')
     views(checks, entry, sorted(glob.glob('tests/tools/views/*.txt')), 'tests/tools/views')
     readme(checks, entry)
