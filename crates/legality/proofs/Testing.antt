@@ -106,11 +106,15 @@ module _ (f : ℕ → Bool) (xs : List ℕ) (k sc : ℕ) where
       go true = refl
       go false = refl
 
-  pub pick-no : {b : Bool} {n : Bool} → k < length xs → 2 ≤ length xs - k → all f (picked sc (drop k xs)) ≡ n → b ≡ (not (eqb (sc % 2) 0) || f (getD xs k 0)) → not b ≡ true → false ≡ n
-  pick-no {b} l h i e t = ap (λ (x : Bool). x && all f (picked (sc / 2) (drop (k + 2) xs))) (sym (not-true b t)) ∙ sym (both (omega arith) e) ∙ i
+  -- register r stands there
+  at : {b : Bool} {r : ℕ} → getD xs k 0 ≡ r → b ≡ (not (eqb (sc % 2) 0) || f r) → b ≡ (not (eqb (sc % 2) 0) || f (getD xs k 0))
+  at q e = e ∙ sym (ap (λ (r : ℕ). not (eqb (sc % 2) 0) || f r) q)
 
-  pub pick-on : {b : Bool} {n : Bool} → k < length xs → 2 ≤ length xs - k → all f (picked sc (drop k xs)) ≡ n → b ≡ (not (eqb (sc % 2) 0) || f (getD xs k 0)) → not b ≡ false → all f (picked (sc / 2) (drop (k + 2) xs)) ≡ n
-  pick-on {b} l h i e t = ap (λ (x : Bool). x && all f (picked (sc / 2) (drop (k + 2) xs))) (sym (not-false b t)) ∙ sym (both (omega arith) e) ∙ i
+  pub pick-no : {b n : Bool} {r : ℕ} → k < length xs → 2 ≤ length xs - k → all f (picked sc (drop k xs)) ≡ n → getD xs k 0 ≡ r → b ≡ (not (eqb (sc % 2) 0) || f r) → not b ≡ true → false ≡ n
+  pick-no {b} l h i q e t = ap (λ (x : Bool). x && all f (picked (sc / 2) (drop (k + 2) xs))) (sym (not-true b t)) ∙ sym (both (omega arith) (at q e)) ∙ i
+
+  pub pick-on : {b n : Bool} {r : ℕ} → k < length xs → 2 ≤ length xs - k → all f (picked sc (drop k xs)) ≡ n → getD xs k 0 ≡ r → b ≡ (not (eqb (sc % 2) 0) || f r) → not b ≡ false → all f (picked (sc / 2) (drop (k + 2) xs)) ≡ n
+  pick-on {b} l h i q e t = ap (λ (x : Bool). x && all f (picked (sc / 2) (drop (k + 2) xs))) (sym (not-false b t)) ∙ sym (both (omega arith) (at q e)) ∙ i
 
   pub pick-last : {n : Bool} → k < length xs → length xs - k < 2 → all f (picked sc (drop k xs)) ≡ n → true ≡ n
   unfolding picked

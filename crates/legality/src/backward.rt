@@ -5,6 +5,7 @@ use crate::rules::rule1;
 use facts::Fact;
 use summary::notes::note_at;
 use summary::stamps::AWAITED;
+use summary::stamps::Stamp;
 use summary::stamps::put_reads;
 use summary::stamps::put_writes;
 ghost use mathlib.Core.Path.{_≡_};
@@ -47,7 +48,12 @@ fn await_reads(t: &[u32; 202], ops: &[u32], recs: &[u32], f: Fact, member: bool,
     if member {
         return;
     }
-    put_reads(t, ops, recs, f, st, AWAITED, 0, AWAITED);
+    let d = Stamp {
+        keep: AWAITED,
+        lo: 0,
+        v: AWAITED,
+    };
+    put_reads(t, ops, recs, f, st, d);
 }
 
 // Position q, of fact f: dropped if it is a member that writes what is awaited. Says whether it is in the set.
@@ -65,8 +71,12 @@ pub fn back(
 {
     let stays = may_stay(t, recs, f, st);
     note_at(f, stays, lasts, q);
-    let v = kept_at(stays, q);
-    put_writes(t, recs, f.rec, f.def, f.more, st, AWAITED, v, 0);
+    let d = Stamp {
+        keep: AWAITED,
+        lo: kept_at(stays, q),
+        v: 0,
+    };
+    put_writes(t, recs, f, st, d);
     await_reads(t, ops, recs, f, stays, st);
     stays
 }

@@ -7,6 +7,7 @@ use facts::Fact;
 use summary::notes::forget;
 use summary::stamps::MEMBER_AT;
 use summary::stamps::ORIGIN;
+use summary::stamps::Stamp;
 use summary::stamps::WRITER;
 use summary::stamps::put_writes;
 ghost use mathlib.Core.Path.{_≡_};
@@ -80,7 +81,11 @@ pub fn forth(
 {
     let stays = may_stay(t, ops, recs, f, regs, st, lasts, sus, bar, p);
     forget(lasts, f.member & !stays, p);
-    let v = stamp_of(f, stays);
-    put_writes(t, recs, f.rec, f.def, f.more, st, WRITER, 0, v);
+    let d = Stamp {
+        keep: WRITER,
+        lo: 0,
+        v: stamp_of(f, stays),
+    };
+    put_writes(t, recs, f, st, d);
     stays
 }

@@ -4,7 +4,9 @@
 // `sus`, `bar` and `lasts` are of `notes`. Rules 1 to 3 ask of the fact where it has all that the position writes and reads, else of the record.
 use effects::arms::PIECES;
 use facts::Fact;
-use model::ABSENT;
+use inst::index::MaybeReg;
+use inst::index::Reg;
+use regfacts::flags;
 use summary::chain::places;
 use summary::chain::read_place;
 use summary::notes::MEMBER;
@@ -21,6 +23,7 @@ ghost use lib.Dec.{eqb, leb};
 ghost use Rattle.words.specs.Lists.{all};
 ghost use Rattle.model.specs.Picture.{inst, absent, reads, writes};
 ghost use Rattle.inst.specs.Table.{rows};
+ghost use Rattle.inst.specs.Index.{word-of, Among};
 ghost use Rattle.inst.specs.Record.{Used};
 ghost use Rattle.legalset.specs.Chain.{picked, Fits, Good};
 ghost use Rattle.legalset.specs.Rules.{still-fine};
@@ -29,16 +32,18 @@ ghost use Rattle.summary.specs.Passes.{result-test, read-test, place-test, word
 // The greatest word of a register that is not awaited.
 const NOT_AWAITED: u64 = AWAITED - 1;
 
+// As in regfacts.
+const FLAGS: u32 = flags::FLAGS as u32;
+
 // Is register r, if it is one, not awaited?
-fn free(st: &[u64], r: u32) -> bool
-    requires { ⌜ (r ≡ absent) ⊎ (r < length (now st)) ⌝ }
-    ensures { λ b. ⌜ b ≡ (eqb r absent || leb (getD (now (st .entry)) r 0) 1023) ⌝ }
+fn free(st: &[u64], r: MaybeReg) -> bool
+    requires { ⌜ Among (length (now st)) r ⌝ }
+    ensures { λ b. ⌜ b ≡ (eqb (word-of r) absent || leb (getD (now (st .entry)) (word-of r) 0) 1023) ⌝ }
 {
-    if r == ABSENT {
+    let MaybeReg::Is(k) = r else {
         return true;
-    }
-    let k = words::numbers::wide(r);
-    st[k] <= NOT_AWAITED
+    };
+    st[k.at()] <= NOT_AWAITED
 }
 
 // Rule 1 for what record g writes, slot by slot.
@@ -48,8 +53,7 @@ fn free_slots(recs: &[u32], g: usize, uses: u32, st: &[u64]) -> bool
 {
     let mut s = 0usize;
     while s < 5 {
-        let r = inst::access::write_at(recs, g, uses, s);
-        if !free(st, r) {
+        if !free(st, inst::access::write_at(recs, g, uses, s, st.len())) {
             return false;
         }
         s += 1;
@@ -63,22 +67,22 @@ pub fn rule1(t: &[u32; 202], recs: &[u32], f: Fact, st: &[u64]) -> bool
     ensures { λ b. ⌜ b ≡ all (λ x. leb (getD (now (st .entry)) x 0) 1023) (writes (inst (now (recs .entry)) (f .rec))) ⌝ }
 {
     if !f.more {
-        return free(st, f.def);
+        return free(st, Reg::new(f.def, st.len()));
     }
     let g = words::numbers::wide(f.rec);
     free_slots(recs, g, inst::access::uses(t, recs, g), st)
 }
 
 // Rule 2 for register r, if it is one: p does not write it last in the chain, or it is not needed elsewhere.
-fn unneeded(regs: &[u32], bits: &[u64], o: usize, r: u32, p: usize) -> bool
-    requires { ⌜ ((r ≡ absent) ⊎ (r < length (now regs))) × (p < 800) × (o ≤ length (now bits)) ⌝ }
-    ensures { λ b. ⌜ b ≡ (eqb r absent || result-test (now (regs .entry)) (now (bits .entry)) o p r) ⌝ }
+fn unneeded(regs: &[u32], bits: &[u64], o: usize, r: MaybeReg, p: usize) -> bool
+    requires { ⌜ Among (length (now regs)) r × (p < 800) × (o ≤ length (now bits)) ⌝ }
+    ensures { λ b. ⌜ b ≡ (eqb (word-of r) absent || result-test (now (regs .entry)) (now (bits .entry)) o p (word-of r)) ⌝ }
 {
-    if r == ABSENT {
+    let MaybeReg::Is(w) = r else {
         return true;
-    }
-    let k = words::numbers::wide(r);
-    !(words::bits::bit_in(bits, o, k) & (regs[k] / 16 == p as u32 + 1))
+    };
+    let k = w.at();
+    !(words::bits::bit_in(bits, o, k) & (regs[k] / FLAGS == p as u32 + 1))
 }
 
 // Rule 2 for what record g, at p, writes, slot by slot.
@@ -96,7 +100,7 @@ pub fn unneeded_slots(
 {
     let mut s = 0usize;
     while s < 5 {
-        let r = inst::access::write_at(recs, g, uses, s);
+        let r = inst::access::write_at(recs, g, uses, s, regs.len());
         if !unneeded(regs, bits, o, r, p) {
             return false;
         }
@@ -119,22 +123,21 @@ pub fn rule2(
     ensures { λ b. ⌜ b ≡ all (result-test (now (regs .entry)) (now (bits .entry)) o p) (writes (inst (now (recs .entry)) (f .rec))) ⌝ }
 {
     if !f.more {
-        return unneeded(regs, bits, o, f.def, p);
+        return unneeded(regs, bits, o, Reg::new(f.def, regs.len()), p);
     }
     let g = words::numbers::wide(f.rec);
     unneeded_slots(recs, g, inst::access::uses(t, recs, g), regs, bits, o, p)
 }
 
 // Rule 3 for register r, if it is one.
-fn read_ok(st: &[u64], r: u32, p: usize) -> bool
-    requires { ⌜ ((r ≡ absent) ⊎ (r < length (now st))) × (p < 800) ⌝ }
-    ensures { λ b. ⌜ b ≡ place-test (now (st .entry)) p r ⌝ }
+fn read_ok(st: &[u64], r: MaybeReg, p: usize) -> bool
+    requires { ⌜ Among (length (now st)) r × (p < 800) ⌝ }
+    ensures { λ b. ⌜ b ≡ place-test (now (st .entry)) p (word-of r) ⌝ }
 {
-    if r == ABSENT {
+    let MaybeReg::Is(k) = r else {
         return true;
-    }
-    let k = words::numbers::wide(r);
-    let v = st[k];
+    };
+    let v = st[k.at()];
     (v / MEMBER_AT % 2 == 1) | (v % AWAITED <= p as u64 + 1)
 }
 
@@ -146,8 +149,7 @@ fn places_ok(ops: &[u32], recs: &[u32], g: usize, uses: u32, st: &[u64], p: usiz
     let n = places(ops, recs, g);
     let mut k = 0usize;
     while k < n {
-        let r = read_place(ops, recs, g, uses, k);
-        if !read_ok(st, r, p) {
+        if !read_ok(st, read_place(ops, recs, g, uses, k, st.len()), p) {
             return false;
         }
         k += 1;
@@ -161,7 +163,8 @@ pub fn rule3(t: &[u32; 202], ops: &[u32], recs: &[u32], f: Fact, st: &[u64], p: 
     ensures { λ b. ⌜ b ≡ all (read-test (now (st .entry)) p) (reads (now (ops .entry)) (inst (now (recs .entry)) (f .rec))) ⌝ }
 {
     if !f.more {
-        return read_ok(st, f.use0, p) & read_ok(st, f.use1, p);
+        let n = st.len();
+        return read_ok(st, Reg::new(f.use0, n), p) & read_ok(st, Reg::new(f.use1, n), p);
     }
     let g = words::numbers::wide(f.rec);
     places_ok(ops, recs, g, inst::access::uses(t, recs, g), st, p)
@@ -189,11 +192,11 @@ fn org_ok(lasts: &[u32; 2008], bar: u32, p: usize, o: u32) -> bool
 }
 
 // Where register r points that is read at this place.
-fn reg_org(regs: &[u32], st: &[u64], r: u32) -> u32
-    requires { ⌜ Near (now st) × (r < length (now st)) × (length (now regs) ≡ length (now st)) ⌝ }
-    ensures { λ o. ⌜ (o ≡ word-org (now (regs .entry)) r (getD (now (st .entry)) r 0)) × (o < 2005) ⌝ }
+fn reg_org(regs: &[u32], st: &[u64], r: Reg) -> u32
+    requires { ⌜ Near (now st) × (r .0 < length (now st)) × (length (now regs) ≡ length (now st)) ⌝ }
+    ensures { λ o. ⌜ (o ≡ word-org (now (regs .entry)) (r .0) (getD (now (st .entry)) (r .0) 0)) × (o < 2005) ⌝ }
 {
-    let k = words::numbers::wide(r);
+    let k = r.at();
     let v = st[k];
     if WRITER <= v {
         return (v / ORIGIN) as u32;
@@ -215,10 +218,10 @@ fn piece_ok(
     bar: u32,
     p: usize,
     sc: u32,
-    r: u32,
+    r: Reg,
 ) -> bool
-    requires { ⌜ Near (now st) × (r < length (now st)) × (length (now regs) ≡ length (now st)) × (p < 800) ⌝ }
-    ensures { λ b. ⌜ b ≡ (not (eqb (sc % 2) 0) || piece-test (now (regs .entry)) (now (st .entry)) (now (lasts .entry)) bar p r) ⌝ }
+    requires { ⌜ Near (now st) × (r .0 < length (now st)) × (length (now regs) ≡ length (now st)) × (p < 800) ⌝ }
+    ensures { λ b. ⌜ b ≡ (not (eqb (sc % 2) 0) || piece-test (now (regs .entry)) (now (st .entry)) (now (lasts .entry)) bar p (r .0)) ⌝ }
 {
     if sc % 2 != 0 {
         return true;
@@ -245,7 +248,10 @@ fn pieces_ok(
         if xs.len() - k < 2 {
             return true;
         }
-        if !piece_ok(regs, st, lasts, bar, p, sc, xs[k]) {
+        let MaybeReg::Is(r) = Reg::new(xs[k], st.len()) else {
+            return false;
+        };
+        if !piece_ok(regs, st, lasts, bar, p, sc, r) {
             return false;
         }
         k += 2;

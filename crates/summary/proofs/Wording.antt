@@ -74,8 +74,8 @@ module _ {recs : List ℕ} {R n d : ℕ} {more : Bool} (a : Written recs R n d m
     word-low : (d ≡ absent) ⊎ (d < R)
     word-low = low-at {k = 0} word-placed (writes-low recs R n (a .fits)) (omega arith) refl
 
-    pub word-tested : (h : ℕ → Bool) {b : Bool} → b ≡ (eqb d absent || h d) → b ≡ all h (writes (inst recs n))
-    word-tested h k = k ∙ sym (and-true (eqb d absent || h d)) ∙ sym (all-placed word-placed h)
+    pub word-tested : (h : ℕ → Bool) {count : ℕ} {m : MaybeReg} → AsReg count d m → {b : Bool} → b ≡ (eqb (word-of m) absent || h (word-of m)) → b ≡ all h (writes (inst recs n))
+    word-tested h made k = k ∙ ap (λ (r : ℕ). eqb r absent || h r) (made .word) ∙ sym (and-true (eqb d absent || h d)) ∙ sym (all-placed word-placed h)
 
     pub word-made : {count : ℕ} → count ≡ R → {m : MaybeReg} → m ≡ reg-of d count → AsReg count d m
     word-made e q = as-reg (a .fits .few) e word-low q
@@ -117,10 +117,11 @@ module _ {recs ops : List ℕ} {R : ℕ} {d : Fact} (a : Readable recs ops R d) 
     pub words-made : (k : ℕ) → k < 2 → {count : ℕ} → count ≡ R → {m : MaybeReg} → m ≡ reg-of (two k) count → AsReg count (two k) m
     words-made k h e q = as-reg (a .good .fits .few) e (words-low k h) q
 
-    pub words-tested : (h : ℕ → Bool) {b c : Bool} → b ≡ (eqb (d .use0) absent || h (d .use0)) → c ≡ (eqb (d .use1) absent || h (d .use1)) → (b && c) ≡ all h (reads ops (inst recs (d .rec)))
-    words-tested h k l =
-        ap₂ (λ (i j : Bool). i && j) k (l ∙ sym (and-true (eqb (d .use1) absent || h (d .use1))))
-        ∙ sym (all-placed words-placed h)
+    module _ (h : ℕ → Bool) {n m : ℕ} {x y : MaybeReg} (made : AsReg n (d .use0) x) (made₁ : AsReg m (d .use1) y) where
+      pub words-tested : {b c : Bool} → b ≡ (eqb (word-of x) absent || h (word-of x)) → c ≡ (eqb (word-of y) absent || h (word-of y)) → (b && c) ≡ all h (reads ops (inst recs (d .rec)))
+      words-tested k l =
+          ap₂ (λ (i j : Bool). i && j) (k ∙ ap (λ (r : ℕ). eqb r absent || h r) (made .word)) (l ∙ ap (λ (r : ℕ). eqb r absent || h r) (made₁ .word) ∙ sym (and-true (eqb (d .use1) absent || h (d .use1))))
+          ∙ sym (all-placed words-placed h)
 
     module _ (st : List ℕ) {keep lo v : ℕ} (b : Beside keep lo v) (s : length st ≡ R) where
       few : length st ≤ 65536

@@ -1,7 +1,6 @@
 -- `legality::rules::free_slots` meets its contract. Assumes nothing.
-use borrow.Author.Needs.{needs}
-use mathlib.Core.Path.{_≡_, refl, sym, ap, _∙_}
-use mathlib.Core.Bool.{Bool, true, _||_}
+use mathlib.Core.Path.{_≡_, refl, ap, _∙_}
+use mathlib.Core.Bool.{true, _||_}
 use Prim.Native.Nat.{ℕ, _≤_, _-_}
 use lib.Dec.{eqb, leb}
 use lib.ListN.{getD}
@@ -10,8 +9,9 @@ use Rattle.words.specs.Lists.{all, upto}
 use Rattle.words.proofs.Alls.{loop-no, loop-on, loop-yes}
 use Rattle.model.specs.Picture.{inst, absent}
 use Rattle.inst.specs.Record.{write-at}
-use Rattle.summary.proofs.Places.{slot-low}
+use Rattle.summary.proofs.Places.{slot-made}
 use Rattle.summary.proofs.Backing.{writes-all}
+use borrow.Author.Needs.{needs}
 use Rattle.legality.proofs.rules.free_slots.Statement.{statement}
 use Rattle.legality.proofs.rules.free_slots.Tie as tie
 
@@ -28,10 +28,18 @@ write-at-requires : tie.Need-write-at-requires Inv-loop μ-loop
 write-at-requires c κs = search needs
 
 free-requires : tie.Need-free-requires Inv-loop μ-loop
-free-requires c κs = slot-low (c .before .before .before .before .before .args .st .now) (c .before .before .before .before .before .pre .1) refl (c .before .loop-test .taken) (c .write-at .ensures)
+free-requires c κs = slot-made (c .before .before .before .before .before .pre .1) refl (c .before .loop-test .taken) (c .write-at .ensures) .among
 
 returns : tie.Need-returns Inv-loop μ-loop
-returns c = loop-no (λ (k : ℕ). eqb (write-at (inst (c .before .before .before .before .before .before .before .args .recs .now) (c .before .before .before .before .before .before .before .args .g)) k) absent || leb (getD (c .before .before .before .before .before .before .before .args .st .now) (write-at (inst (c .before .before .before .before .before .before .before .args .recs .now) (c .before .before .before .before .before .before .before .args .g)) k) 0) 1023) (c .before .before .before .loop-test .taken) (c .before .free .ensures ∙ ap (λ (r : ℕ). eqb r absent || leb (getD (c .before .before .before .before .before .before .before .args .st .now) r 0) 1023) (c .before .before .write-at .ensures)) (c .if1 .taken) ∙ writes-all (c .before .before .before .before .before .before .before .args .st .now) (c .before .before .before .before .before .before .before .pre .1)
+returns c =
+    let at-entry = c .before .before .before .before .before .before .before in
+    let i = inst (at-entry .args .recs .now) (at-entry .args .g) in
+    let st = at-entry .args .st .now in
+    let more = c .before .before .before .loop-test .taken in
+    let made = slot-made (at-entry .pre .1) refl more (c .before .before .write-at .ensures) in
+    loop-no (λ (k : ℕ). eqb (write-at i k) absent || leb (getD st (write-at i k) 0) 1023) more
+    (c .before .free .ensures ∙ ap (λ (r : ℕ). eqb r absent || leb (getD st r 0) 1023) (made .word)) (c .if1 .taken)
+    ∙ writes-all st (at-entry .pre .1)
 
 add-s : tie.Need-add-s Inv-loop μ-loop
 add-s c = search needs
@@ -40,10 +48,24 @@ loop-less : tie.Need-loop-less Inv-loop μ-loop
 loop-less c = search needs
 
 loop-again : tie.Need-loop-again Inv-loop μ-loop
-loop-again c = (omega arith, loop-on (λ (k : ℕ). eqb (write-at (inst (c .before .before .before .before .before .before .before .args .recs .now) (c .before .before .before .before .before .before .before .args .g)) k) absent || leb (getD (c .before .before .before .before .before .before .before .args .st .now) (write-at (inst (c .before .before .before .before .before .before .before .args .recs .now) (c .before .before .before .before .before .before .before .args .g)) k) 0) 1023) (c .before .before .before .before .loop .inv .1) (c .before .free .ensures ∙ ap (λ (r : ℕ). eqb r absent || leb (getD (c .before .before .before .before .before .before .before .args .st .now) r 0) 1023) (c .before .before .write-at .ensures)) (c .if1 .left))
+loop-again c =
+    let at-entry = c .before .before .before .before .before .before .before in
+    let i = inst (at-entry .args .recs .now) (at-entry .args .g) in
+    let st = at-entry .args .st .now in
+    let made = slot-made (at-entry .pre .1) refl (c .before .before .before .loop-test .taken) (c .before .before .write-at .ensures) in (
+      omega arith,
+      loop-on (λ (k : ℕ). eqb (write-at i k) absent || leb (getD st (write-at i k) 0) 1023) (c .before .before .before .before .loop .inv .1)
+          (c .before .free .ensures ∙ ap (λ (r : ℕ). eqb r absent || leb (getD st r 0) 1023) (made .word)) (c .if1 .left),
+    )
 
 returns-2 : tie.Need-returns-2 Inv-loop μ-loop
-returns-2 c = loop-yes (λ (k : ℕ). eqb (write-at (inst (c .before .before .before .before .args .recs .now) (c .before .before .before .before .args .g)) k) absent || leb (getD (c .before .before .before .before .args .st .now) (write-at (inst (c .before .before .before .before .args .recs .now) (c .before .before .before .before .args .g)) k) 0) 1023) (c .before .loop .inv .0) (c .loop-test .left) (c .before .loop .inv .1) ∙ writes-all (c .before .before .before .before .args .st .now) (c .before .before .before .before .pre .1)
+returns-2 c =
+    let at-entry = c .before .before .before .before in
+    let i = inst (at-entry .args .recs .now) (at-entry .args .g) in
+    let st = at-entry .args .st .now in
+    let all-of = c .before .loop .inv in
+    loop-yes (λ (k : ℕ). eqb (write-at i k) absent || leb (getD st (write-at i k) 0) 1023) (all-of .0) (c .loop-test .left) (all-of .1)
+    ∙ writes-all st (at-entry .pre .1)
 
 pub free-slots-spec : {M : Type 1} → statement M
 free-slots-spec =

@@ -1,13 +1,14 @@
 -- `legality::rules::pieces_ok` meets its contract. Assumes nothing.
-use borrow.Author.Needs.{needs}
-use mathlib.Core.Path.{_≡_, refl}
-use Prim.Native.Nat.{ℕ, _≤_, _-_}
+use mathlib.Core.Path.{_≡_, refl, sym, _∙_}
+use Prim.Native.Nat.{_≤_, _-_}
 use lib.ListN.{length, drop}
 use native.Mathlib.Omega.{arith}
 use Rattle.words.specs.Lists.{all}
+use Rattle.inst.proofs.Indices.{is-reg, not-reg}
 use Rattle.legalset.specs.Chain.{picked}
 use Rattle.summary.specs.Passes.{piece-test}
 use Rattle.legality.proofs.Testing.{pick-no, pick-on, pick-last, pick-end}
+use borrow.Author.Needs.{needs}
 use Rattle.legality.proofs.rules.pieces_ok.Statement.{statement}
 use Rattle.legality.proofs.rules.pieces_ok.Tie as tie
 
@@ -26,17 +27,38 @@ sub-if1 c = search needs
 returns : tie.Need-returns Inv-loop μ-loop
 returns c = pick-last _ _ _ _ (c .before .loop-test .taken) (c .if1 .taken) (c .before .before .loop .inv .1)
 
-mul-piece-ok : tie.Need-mul-piece-ok Inv-loop μ-loop
-mul-piece-ok c = search needs
+mul-new : tie.Need-mul-new Inv-loop μ-loop
+mul-new c = search needs
 
-shared-slice-read-piece-ok : tie.Need-shared-slice-read-piece-ok Inv-loop μ-loop
-shared-slice-read-piece-ok c = search needs
+shared-slice-read-new : tie.Need-shared-slice-read-new Inv-loop μ-loop
+shared-slice-read-new c = search needs
 
-piece-ok-requires : tie.Need-piece-ok-requires Inv-loop μ-loop
-piece-ok-requires c κs = (c .before .before .before .before .before .before .before .pre .0, c .before .before .before .before .before .before .before .pre .1 _ (c .before .before .loop-test .taken), c .before .before .before .before .before .before .before .pre .2, c .before .before .before .before .before .before .before .pre .3)
+new-requires : tie.Need-new-requires Inv-loop μ-loop
+new-requires c κs = search needs
+
+enum-known-r : tie.Need-enum-known-r Inv-loop μ-loop
+enum-known-r c = search needs
+
+enum-told : tie.Need-enum-told Inv-loop μ-loop
+enum-told c = search needs
 
 returns-2 : tie.Need-returns-2 Inv-loop μ-loop
-returns-2 c = pick-no _ (c .before .before .before .before .before .before .before .before .before .args .xs .now) (c .before .before .before .before .before .loop .k) (c .before .before .before .before .before .loop .sc) (c .before .before .before .before .loop-test .taken) (c .before .before .before .if1 .left) (c .before .before .before .before .before .loop .inv .1) (c .before .piece-ok .ensures) (c .if2 .taken)
+returns-2 c =
+    let none = not-reg _ _ (sym (c .before .before .new .ensures) ∙ c .enum-told .given .1) in
+    let there = c .before .before .before .before .before .before .before .before .before .before .pre .1 _ (c .before .before .before .before .before .loop-test .taken) in
+    absurd (omega (arith, none, there))
+
+piece-ok-requires : tie.Need-piece-ok-requires Inv-loop μ-loop
+piece-ok-requires c κs =
+    let at-entry = c .before .before .before .before .before .before .before .before .before .before .before in
+    let r = is-reg _ _ _ (sym (c .before .before .before .new .ensures) ∙ c .before .r .given .1) in
+    (at-entry .pre .0, omega (arith, r .0, r .1), at-entry .pre .2, at-entry .pre .3)
+
+returns-3 : tie.Need-returns-3 Inv-loop μ-loop
+returns-3 c =
+    let a = c .before .before .before .before .before .before .before .before .before .before .before .before .before .args in
+    let r = is-reg _ _ _ (sym (c .before .before .before .before .before .new .ensures) ∙ c .before .before .before .r .given .1) in
+    pick-no _ (a .xs .now) (c .before .before .before .before .before .before .before .before .before .loop .k) (c .before .before .before .before .before .before .before .before .before .loop .sc) (c .before .before .before .before .before .before .before .before .loop-test .taken) (c .before .before .before .before .before .before .before .if1 .left) (c .before .before .before .before .before .before .before .before .before .loop .inv .1) (r .0) (c .before .piece-ok .ensures) (c .if2 .taken)
 
 add-k : tie.Need-add-k Inv-loop μ-loop
 add-k c = search needs
@@ -45,10 +67,13 @@ loop-less : tie.Need-loop-less Inv-loop μ-loop
 loop-less c = search needs
 
 loop-again : tie.Need-loop-again Inv-loop μ-loop
-loop-again c = (omega arith, pick-on _ (c .before .before .before .before .before .before .before .before .before .args .xs .now) (c .before .before .before .before .before .loop .k) (c .before .before .before .before .before .loop .sc) (c .before .before .before .before .loop-test .taken) (c .before .before .before .if1 .left) (c .before .before .before .before .before .loop .inv .1) (c .before .piece-ok .ensures) (c .if2 .left))
+loop-again c =
+    let a = c .before .before .before .before .before .before .before .before .before .before .before .before .before .args in
+    let r = is-reg _ _ _ (sym (c .before .before .before .before .before .new .ensures) ∙ c .before .before .before .r .given .1) in
+    (omega arith, pick-on _ (a .xs .now) (c .before .before .before .before .before .before .before .before .before .loop .k) (c .before .before .before .before .before .before .before .before .before .loop .sc) (c .before .before .before .before .before .before .before .before .loop-test .taken) (c .before .before .before .before .before .before .before .if1 .left) (c .before .before .before .before .before .before .before .before .before .loop .inv .1) (r .0) (c .before .piece-ok .ensures) (c .if2 .left))
 
-returns-3 : tie.Need-returns-3 Inv-loop μ-loop
-returns-3 c = pick-end _ (c .before .before .before .before .before .args .xs .now) (c .before .loop .k) (c .before .loop .sc) (c .loop-test .left) (c .before .loop .inv .1)
+returns-4 : tie.Need-returns-4 Inv-loop μ-loop
+returns-4 c = pick-end _ (c .before .before .before .before .before .args .xs .now) (c .before .loop .k) (c .before .loop .sc) (c .loop-test .left) (c .before .loop .inv .1)
 
 pub pieces-ok-spec : {M : Type 1} → statement M
 pieces-ok-spec =
@@ -59,11 +84,15 @@ pieces-ok-spec =
     loop-holds
     sub-if1
     returns
-    mul-piece-ok
-    shared-slice-read-piece-ok
-    piece-ok-requires
+    mul-new
+    shared-slice-read-new
+    new-requires
+    enum-known-r
+    enum-told
     returns-2
+    piece-ok-requires
+    returns-3
     add-k
     loop-less
     loop-again
-    returns-3)
+    returns-4)

@@ -5,8 +5,8 @@ use borrow.Author.Needs.{needs}
 use Rattle.legality.proofs.rules.reg_org.Statement.{statement}
 use Rattle.legality.proofs.rules.reg_org.Tie as tie
 
-wide-requires : tie.Need-wide-requires
-wide-requires c κs = search needs
+at-requires : tie.Need-at-requires
+at-requires c κs = search needs
 
 mul-v : tie.Need-mul-v
 mul-v c = search needs
@@ -15,10 +15,10 @@ shared-slice-read-v : tie.Need-shared-slice-read-v
 shared-slice-read-v c = search needs
 
 cast-result : tie.Need-cast-result
-cast-result c = omega (arith, reg-yes (c .before .before .before .before .before .args .regs .now) (c .before .before .before .before .before .pre .0) (c .before .before .before .before .before .pre .1) (c .before .before .wide .ensures) (c .if1 .taken) .1)
+cast-result c = omega (arith, reg-yes (c .before .before .before .before .before .args .regs .now) (c .before .before .before .before .before .pre .0) (c .before .before .before .before .before .pre .1) (c .before .before .at .ensures) (c .if1 .taken) .1)
 
 returns : tie.Need-returns
-returns c = reg-yes _ (c .before .before .before .before .before .pre .0) (c .before .before .before .before .before .pre .1) (c .before .before .wide .ensures) (c .if1 .taken)
+returns c = reg-yes _ (c .before .before .before .before .before .pre .0) (c .before .before .before .before .before .pre .1) (c .before .before .at .ensures) (c .if1 .taken)
 
 mul-if2 : tie.Need-mul-if2
 mul-if2 c = search needs
@@ -27,7 +27,7 @@ shared-slice-read-if2 : tie.Need-shared-slice-read-if2
 shared-slice-read-if2 c = search needs
 
 returns-2 : tie.Need-returns-2
-returns-2 c = reg-ro _ (c .before .before .before .before .before .before .before .pre .0) (c .before .before .before .before .before .before .before .pre .1) (c .before .before .before .before .wide .ensures) (c .before .before .if1 .left) (c .if2 .taken)
+returns-2 c = reg-ro _ (c .before .before .before .before .before .before .before .pre .0) (c .before .before .before .before .before .before .before .pre .1) (c .before .before .before .before .at .ensures) (c .before .before .if1 .left) (c .if2 .taken)
 
 mul-if3 : tie.Need-mul-if3
 mul-if3 c = search needs
@@ -36,16 +36,16 @@ shared-slice-read-if3 : tie.Need-shared-slice-read-if3
 shared-slice-read-if3 c = search needs
 
 returns-3 : tie.Need-returns-3
-returns-3 c = reg-frame _ (c .before .before .before .before .before .before .before .before .before .pre .0) (c .before .before .before .before .before .before .before .before .before .pre .1) (c .before .before .before .before .before .before .wide .ensures) (c .before .before .before .before .if1 .left) (c .before .before .if2 .left) (c .if3 .taken)
+returns-3 c = reg-frame _ (c .before .before .before .before .before .before .before .before .before .pre .0) (c .before .before .before .before .before .before .before .before .before .pre .1) (c .before .before .before .before .before .before .at .ensures) (c .before .before .before .before .if1 .left) (c .before .before .if2 .left) (c .if3 .taken)
 
 returns-4 : tie.Need-returns-4
-returns-4 c = reg-none _ (c .before .before .before .before .before .before .before .before .before .pre .0) (c .before .before .before .before .before .before .before .before .before .pre .1) (c .before .before .before .before .before .before .wide .ensures) (c .before .before .before .before .if1 .left) (c .before .before .if2 .left) (c .if3 .left)
+returns-4 c = reg-none _ (c .before .before .before .before .before .before .before .before .before .pre .0) (c .before .before .before .before .before .before .before .before .before .pre .1) (c .before .before .before .before .before .before .at .ensures) (c .before .before .before .before .if1 .left) (c .before .before .if2 .left) (c .if3 .left)
 
 pub reg-org-spec : {M : Type 1} → statement M
 reg-org-spec =
     tie.close
     (tie.spec
-    wide-requires
+    at-requires
     mul-v
     shared-slice-read-v
     cast-result

@@ -1,23 +1,25 @@
 -- `legality::rules::rule1` meets its contract. Assumes nothing.
+use mathlib.Core.Path.{refl}
 use Prim.Native.Nat.{ℕ}
 use lib.Dec.{leb}
 use lib.ListN.{getD}
-use Rattle.summary.proofs.Wording.{known-at, slots-at, slots-tested, word-low, word-tested}
+use Rattle.summary.proofs.Wording.{known-at, slots-at, slots-tested, word-made, word-tested}
 use borrow.Author.Needs.{needs}
 use Rattle.legality.proofs.rules.rule1.Statement.{statement}
 use Rattle.legality.proofs.rules.rule1.Tie as tie
-use Rattle.legality.proofs.rules.rule1.Reads as reads
-use Rattle.legality.proofs.rules.rule1.Lts as lts
-use Rattle.inst.proofs.access.uses.Reads as uses-reads
-use Rattle.words.proofs.numbers.wide.Reads as wide-reads
-use Rattle.legality.proofs.rules.free.Reads as free-reads
-use Rattle.legality.proofs.rules.free_slots.Reads as free-slots-reads
+
+new-requires : tie.Need-new-requires
+new-requires c κs = search needs
 
 free-requires : tie.Need-free-requires
-free-requires c κs = word-low (c .before .before .before .before .pre .1) (c .if1 .taken)
+free-requires c κs = word-made (c .before .before .before .before .before .pre .1) (c .before .if1 .taken) refl (c .new .ensures) .among
 
 returns : tie.Need-returns
-returns c = word-tested (c .before .before .before .before .before .pre .1) (c .before .if1 .taken) (λ (x : ℕ). leb (getD (c .before .before .before .before .before .args .st .now) x 0) 1023) (c .free .ensures)
+returns c =
+    let at-entry = c .before .before .before .before .before .before in
+    let brief = c .before .before .if1 .taken in
+    let made = word-made (at-entry .pre .1) brief refl (c .before .new .ensures) in
+    word-tested (at-entry .pre .1) brief (λ (x : ℕ). leb (getD (at-entry .args .st .now) x 0) 1023) made (c .free .ensures)
 
 wide-requires : tie.Need-wide-requires
 wide-requires c κs = search needs
@@ -34,4 +36,4 @@ returns-2 c = slots-tested (c .before .before .before .before .before .before .b
 pub rule1-spec : {M : Type 1} → statement M
 rule1-spec =
     tie.close
-    (tie.spec free-requires returns wide-requires uses-requires free-slots-requires returns-2)
+    (tie.spec new-requires free-requires returns wide-requires uses-requires free-slots-requires returns-2)

@@ -1,21 +1,26 @@
 -- `legality::rules::rule2` meets its contract. Assumes nothing.
+use mathlib.Core.Path.{refl}
 use Rattle.summary.specs.Passes.{result-test}
-use Rattle.summary.proofs.Wording.{known-at, slots-at, slots-tested, word-low, word-tested}
+use Rattle.summary.proofs.Wording.{known-at, slots-at, slots-tested, word-made, word-tested}
 use borrow.Author.Needs.{needs}
 use Rattle.legality.proofs.rules.rule2.Statement.{statement}
 use Rattle.legality.proofs.rules.rule2.Tie as tie
-use Rattle.legality.proofs.rules.rule2.Reads as reads
-use Rattle.legality.proofs.rules.rule2.Lts as lts
-use Rattle.inst.proofs.access.uses.Reads as uses-reads
-use Rattle.words.proofs.numbers.wide.Reads as wide-reads
-use Rattle.legality.proofs.rules.unneeded.Reads as unneeded-reads
-use Rattle.legality.proofs.rules.unneeded_slots.Reads as unneeded-slots-reads
+
+new-requires : tie.Need-new-requires
+new-requires c κs = search needs
 
 unneeded-requires : tie.Need-unneeded-requires
-unneeded-requires c κs = (word-low (c .before .before .before .before .before .pre .1) (c .if1 .taken), c .before .before .before .before .before .pre .2, c .before .before .before .before .before .pre .3)
+unneeded-requires c κs =
+    let at-entry = c .before .before .before .before .before .before in
+    (word-made (at-entry .pre .1) (c .before .if1 .taken) refl (c .new .ensures) .among, at-entry .pre .2, at-entry .pre .3)
 
 returns : tie.Need-returns
-returns c = let a = c .before .before .before .before .before .before .args in word-tested (c .before .before .before .before .before .before .pre .1) (c .before .if1 .taken) (result-test (a .regs .now) (a .bits .now) (a .o) (a .p)) (c .unneeded .ensures)
+returns c =
+    let at-entry = c .before .before .before .before .before .before .before in
+    let a = at-entry .args in
+    let brief = c .before .before .if1 .taken in
+    let made = word-made (at-entry .pre .1) brief refl (c .before .new .ensures) in
+    word-tested (at-entry .pre .1) brief (result-test (a .regs .now) (a .bits .now) (a .o) (a .p)) made (c .unneeded .ensures)
 
 wide-requires : tie.Need-wide-requires
 wide-requires c κs = search needs
@@ -33,6 +38,7 @@ pub rule2-spec : {M : Type 1} → statement M
 rule2-spec =
     tie.close
     (tie.spec
+    new-requires
     unneeded-requires
     returns
     wide-requires

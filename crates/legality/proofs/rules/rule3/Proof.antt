@@ -1,26 +1,33 @@
 -- `legality::rules::rule3` meets its contract. Assumes nothing.
+use mathlib.Core.Path.{refl}
 use native.Mathlib.Omega.{arith}
 use Rattle.summary.specs.Passes.{read-test}
 use Rattle.legality.proofs.Testing.{place-is}
-use Rattle.summary.proofs.Wording.{good-at, places-at, places-tested, words-low, words-tested}
+use Rattle.summary.proofs.Wording.{good-at, places-at, places-tested, words-made, words-tested}
 use borrow.Author.Needs.{needs}
 use Rattle.legality.proofs.rules.rule3.Statement.{statement}
 use Rattle.legality.proofs.rules.rule3.Tie as tie
-use Rattle.legality.proofs.rules.rule3.Reads as reads
-use Rattle.legality.proofs.rules.rule3.Lts as lts
-use Rattle.inst.proofs.access.uses.Reads as uses-reads
-use Rattle.words.proofs.numbers.wide.Reads as wide-reads
-use Rattle.legality.proofs.rules.places_ok.Reads as places-ok-reads
-use Rattle.legality.proofs.rules.read_ok.Reads as read-ok-reads
+
+new-requires : tie.Need-new-requires
+new-requires c κs = search needs
 
 read-ok-requires : tie.Need-read-ok-requires
-read-ok-requires c κs = (words-low (c .before .before .before .before .before .pre .1) (c .if1 .taken) 0 (omega arith), c .before .before .before .before .before .pre .2)
+read-ok-requires c κs = (words-made (c .before .before .before .before .before .before .pre .1) (c .before .if1 .taken) 0 (omega arith) refl (c .new .ensures) .among, c .before .before .before .before .before .before .pre .2)
+
+new-requires-2 : tie.Need-new-requires-2
+new-requires-2 c κs = search needs
 
 read-ok-requires-2 : tie.Need-read-ok-requires-2
-read-ok-requires-2 c κs = (words-low (c .before .before .before .before .before .before .pre .1) (c .before .if1 .taken) 1 (omega arith), c .before .before .before .before .before .before .pre .2)
+read-ok-requires-2 c κs = (words-made (c .before .before .before .before .before .before .before .before .pre .1) (c .before .before .before .if1 .taken) 1 (omega arith) refl (c .new2 .ensures) .among, c .before .before .before .before .before .before .before .before .pre .2)
 
 returns : tie.Need-returns
-returns c = let a = c .before .before .before .before .before .before .before .args in words-tested (c .before .before .before .before .before .before .before .pre .1) (c .before .before .if1 .taken) (read-test (a .st .now) (a .p)) (place-is _ _ _ (c .before .read-ok .ensures)) (place-is _ _ _ (c .read-ok2 .ensures))
+returns c =
+    let at-entry = c .before .before .before .before .before .before .before .before .before in
+    let a = at-entry .args in
+    let brief = c .before .before .before .before .if1 .taken in
+    let first = words-made (at-entry .pre .1) brief 0 (omega arith) refl (c .before .before .before .new .ensures) in
+    let second = words-made (at-entry .pre .1) brief 1 (omega arith) refl (c .before .new2 .ensures) in
+    words-tested (at-entry .pre .1) brief (read-test (a .st .now) (a .p)) first second (place-is _ _ _ (c .before .before .read-ok .ensures)) (place-is _ _ _ (c .read-ok2 .ensures))
 
 wide-requires : tie.Need-wide-requires
 wide-requires c κs = search needs
@@ -38,7 +45,9 @@ pub rule3-spec : {M : Type 1} → statement M
 rule3-spec =
     tie.close
     (tie.spec
+    new-requires
     read-ok-requires
+    new-requires-2
     read-ok-requires-2
     returns
     wide-requires

@@ -1,15 +1,24 @@
 -- `legality::rules::unneeded` meets its contract. Assumes nothing.
-use Rattle.summary.proofs.Stamping.{put-room}
+use mathlib.Core.Path.{sym, ap, _∙_}
+use native.Mathlib.Omega.{arith}
+use Rattle.inst.specs.Index.{word-of}
+use Rattle.inst.proofs.Indices.{a-reg}
 use Rattle.legality.proofs.Starting.{result-absent, result-there}
 use borrow.Author.Needs.{needs}
 use Rattle.legality.proofs.rules.unneeded.Statement.{statement}
 use Rattle.legality.proofs.rules.unneeded.Tie as tie
 
-returns : tie.Need-returns
-returns c = result-absent _ _ _ _ _ (c .if1 .taken)
+enum-known-r : tie.Need-enum-known-r
+enum-known-r c = search needs
 
-wide-requires : tie.Need-wide-requires
-wide-requires c κs = search needs
+enum-told : tie.Need-enum-told
+enum-told c = search needs
+
+returns : tie.Need-returns
+returns c = result-absent _ _ _ _ _ (ap word-of (c .enum-told .given .1))
+
+at-requires : tie.Need-at-requires
+at-requires c κs = search needs
 
 bit-in-requires : tie.Need-bit-in-requires
 bit-in-requires c κs = search needs
@@ -18,7 +27,9 @@ mul-result : tie.Need-mul-result
 mul-result c = search needs
 
 shared-slice-read-result : tie.Need-shared-slice-read-result
-shared-slice-read-result c = put-room (c .before .before .before .before .before .before .args .regs .now) (c .before .before .before .before .before .before .pre .0) (c .before .before .before .if1 .left) (c .before .before .wide .ensures)
+shared-slice-read-result c =
+    let is = c .before .before .before .before .r .given .1 in
+    omega (arith, a-reg is (c .before .before .before .before .before .before .before .before .pre .0) .0, ap word-of is, c .before .before .at .ensures)
 
 cast-result : tie.Need-cast-result
 cast-result c = search needs
@@ -27,14 +38,18 @@ add-result : tie.Need-add-result
 add-result c = search needs
 
 returns-2 : tie.Need-returns-2
-returns-2 c = result-there _ _ _ _ _ (c .before .before .before .if1 .left) (c .before .before .wide .ensures) (c .before .bit-in .ensures)
+returns-2 c =
+    let is = c .before .before .before .before .r .given .1 in
+    result-there _ _ _ _ _ (a-reg is (c .before .before .before .before .before .before .before .before .pre .0) .1) (c .before .before .at .ensures ∙ sym (ap word-of is)) (c .before .bit-in .ensures)
 
 pub unneeded-spec : {M : Type 1} → statement M
 unneeded-spec =
     tie.close
     (tie.spec
+    enum-known-r
+    enum-told
     returns
-    wide-requires
+    at-requires
     bit-in-requires
     mul-result
     shared-slice-read-result
