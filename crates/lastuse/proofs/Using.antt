@@ -22,7 +22,6 @@ use Rattle.legalset.proofs.Lasting.{writer-low}
 use Rattle.summary.specs.Passes.{over, stamp}
 use Rattle.lastuse.specs.Uses.{note-in, Noticed, ReadOn, reads-value, or-own, last-reader, Readers}
 use Rattle.summary.proofs.Places.{Placed}
-use Rattle.summary.proofs.Stamping.{put-room}
 use Rattle.summary.proofs.Summing.{zero-at}
 
 -- ---- one register
@@ -68,8 +67,8 @@ module _ (st : List ℕ) (r q : ℕ) (ls : List ℕ) where
       go false true = refl
       go false false = length-set ls (getD st r 0 - 1) q
 
-pub note-low : (st : List ℕ) {r k : ℕ} → (r ≡ absent) ⊎ (r < length st) → (r ≡ absent → ⊥) → k ≡ r → ((x : ℕ) → x < length st → getD st x 0 ≤ 800) → (getD st k 0 ≡ 0 → ⊥) → getD st k 0 - 1 < 800
-note-low st {r} {k} a n e b z = let h = b k (put-room st a n e) in omega arith
+pub note-low : (st : List ℕ) {k : ℕ} → k < length st → ((x : ℕ) → x < length st → getD st x 0 ≤ 800) → (getD st k 0 ≡ 0 → ⊥) → getD st k 0 - 1 < 800
+note-low st {k} l b z = let h = b k l in omega arith
 
 -- ---- a record's reads
 

@@ -3,35 +3,35 @@
 use chains::chain::Chain;
 use chains::cursor::first;
 use chains::cursor::next;
+use inst::index::MaybeReg;
 use legality::rules::unneeded_slots;
-use model::ABSENT;
 use model::RECORDS;
 use summary::chain::places;
 use summary::chain::read_place;
+use summary::stamps::Stamp;
 use summary::stamps::put_slots;
 ghost use mathlib.Core.Path.{_≡_};
-ghost use mathlib.Core.Logic.{_⊎_};
 ghost use mathlib.Core.Bool.{cond};
 ghost use Prim.Native.Nat.{ℕ, _<_, _≤_};
 ghost use Rattle.words.specs.Lists.{all};
 ghost use Rattle.summary.specs.Passes.{result-test};
 ghost use lib.ListN.{length, getD};
-ghost use Rattle.model.specs.Picture.{inst, absent, reads, writes};
+ghost use Rattle.model.specs.Picture.{inst, reads, writes};
 ghost use Rattle.inst.specs.Table.{rows};
+ghost use Rattle.inst.specs.Index.{word-of, Among};
 ghost use Rattle.inst.specs.Record.{Known, Used};
 ghost use Rattle.legalset.specs.Chain.{Fits, Good};
 ghost use Rattle.lastuse.specs.Uses.{note-in, Noticed, ReadOn, Legible, ReadersAlong};
 
 // Position q reads register r, if it is one: r's writer has a reader.
-fn note(st: &[u64], lasts: &mut [u32; RECORDS], r: u32, q: u32)
-    requires { ⌜ ((r ≡ absent) ⊎ (r < length (now st))) × ((x : ℕ) → x < length (now st) → getD (now st) x 0 ≤ 800) ⌝ }
-    ensures { λ _. ⌜ now (lasts .exit) ≡ note-in (now (st .entry)) r q (now (lasts .entry)) ⌝ }
+fn note(st: &[u64], lasts: &mut [u32; RECORDS], r: MaybeReg, q: u32)
+    requires { ⌜ Among (length (now st)) r × ((x : ℕ) → x < length (now st) → getD (now st) x 0 ≤ 800) ⌝ }
+    ensures { λ _. ⌜ now (lasts .exit) ≡ note-in (now (st .entry)) (word-of r) q (now (lasts .entry)) ⌝ }
 {
-    if r == ABSENT {
+    let MaybeReg::Is(k) = r else {
         return;
-    }
-    let k = words::numbers::wide(r);
-    let d = st[k];
+    };
+    let d = st[k.at()];
     if d == 0 {
         return;
     }
@@ -55,7 +55,7 @@ fn note_places(
     let n = places(ops, recs, g);
     let mut k = 0usize;
     while k < n {
-        let r = read_place(ops, recs, g, uses, k);
+        let r = read_place(ops, recs, g, uses, k, st.len());
         note(st, lasts, r, q);
         k += 1;
     }
@@ -76,7 +76,13 @@ fn read_on(
 {
     let u = inst::access::uses(t, recs, g);
     note_places(ops, recs, g, u, st, lasts, q as u32);
-    put_slots(recs, g, u, st, 1, 0, q as u64 + 1);
+    let v = q as u64 + 1;
+    let d = Stamp {
+        keep: 1,
+        lo: 0,
+        v: v,
+    };
+    put_slots(recs, g, u, st, d);
 }
 
 // Each position's last reader in chain c of so many blocks: `lasts` holds each position itself at first.

@@ -5,7 +5,7 @@ use Prim.Native.Nat.{_≤_, _-_}
 use native.Mathlib.Omega.{arith}
 use Rattle.model.specs.Picture.{inst}
 use Rattle.summary.specs.Passes.{read-place}
-use Rattle.summary.proofs.Places.{reads-placed, place-low}
+use Rattle.summary.proofs.Places.{reads-placed, place-made}
 use Rattle.lastuse.proofs.Using.{Noticing, noticing-none, noticing-more, noticing-end}
 use Rattle.lastuse.proofs.uses.note_places.Statement.{statement}
 use Rattle.lastuse.proofs.uses.note_places.Tie as tie
@@ -26,7 +26,9 @@ read-place-requires : tie.Need-read-place-requires Inv-loop μ-loop
 read-place-requires c κs = (c .before .before .before .before .before .before .pre .0, c .before .before .before .before .before .before .pre .1 .listed, omega (arith, c .before .before .places .ensures))
 
 note-requires : tie.Need-note-requires Inv-loop μ-loop
-note-requires c κs = (place-low (c .before .before .before .before .before .before .before .before .args .st .now) (c .before .before .before .before .before .before .before .before .pre .1) refl (c .before .before .before .before .places .ensures) (c .before .before .loop-test .taken) (c .before .read-place .ensures), c .before .before .before .before .before .before .before .before .pre .2)
+note-requires c κs =
+    let at-entry = c .before .before .before .before .before .before .before .before in
+    (place-made (at-entry .pre .1) refl (c .before .before .before .before .places .ensures) (c .before .before .loop-test .taken) (c .before .read-place .ensures) .among, at-entry .pre .2)
 
 add-k : tie.Need-add-k Inv-loop μ-loop
 add-k c = search needs
@@ -35,7 +37,9 @@ loop-less : tie.Need-loop-less Inv-loop μ-loop
 loop-less c = search needs
 
 loop-again : tie.Need-loop-again Inv-loop μ-loop
-loop-again c = (omega arith, noticing-more (c .before .before .before .before .loop .inv .1) (c .before .before .read-place .ensures) (c .note .ensures))
+loop-again c =
+    let made = place-made (c .before .before .before .before .before .before .before .before .before .pre .1) refl (c .before .before .before .before .before .places .ensures) (c .before .before .before .loop-test .taken) (c .before .before .read-place .ensures) in
+    (omega arith, noticing-more (c .before .before .before .before .loop .inv .1) (made .word) (c .note .ensures))
 
 returns : tie.Need-returns Inv-loop μ-loop
 returns c = noticing-end (c .before .loop .inv .1) (reads-placed _ _ _ _ (c .before .before .before .before .before .before .pre .1)) (omega (arith, c .before .before .places .ensures, c .before .loop .inv .0)) (omega (arith, c .before .before .places .ensures, c .loop-test .left))

@@ -15,8 +15,8 @@ cast-note-places c = search needs
 note-places-requires : tie.Need-note-places-requires
 note-places-requires c κs = let p = c .before .before .before .before .before .before .pre in (used-at (p .1) (c .before .before .uses .ensures), p .1, p .2, p .3)
 
-add-put-slots : tie.Need-add-put-slots
-add-put-slots c = search needs
+add-v : tie.Need-add-v
+add-v c = search needs
 
 put-slots-requires : tie.Need-put-slots-requires
 put-slots-requires c κs = let p = c .before .before .before .before .before .before .before .before .pre in (used-at (p .1) (c .before .before .before .before .uses .ensures), p .1 .fits, whole-stamp _ (omega (arith, p .4)))
@@ -34,7 +34,7 @@ read-on-spec =
     uses-requires
     cast-note-places
     note-places-requires
-    add-put-slots
+    add-v
     put-slots-requires
     same-length
     returns)
