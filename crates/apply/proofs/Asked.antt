@@ -10,6 +10,7 @@ use Rattle.words.specs.Lists.{upto, filter}
 use Rattle.words.proofs.Bools.{lt?}
 use Rattle.words.proofs.Lists.{length-range}
 use Rattle.words.proofs.Sums.{sum-split, sum-ones}
+use Rattle.model.specs.Picture.{absent}
 use Rattle.pool.specs.Pool.{Ready}
 use Rattle.pool.specs.Types.{TypesFit}
 use Rattle.rename.specs.Runs.{Line, Operands}
@@ -20,8 +21,8 @@ use Rattle.mover.proofs.Laying.{bounds-rise, bounds-low}
 use Rattle.mover.proofs.Bounded.{shift-ask}
 use Rattle.apply.specs.Apply.{Asks, Fits, Vias, picture}
 
-line-up : {R K u q : ℕ} {xs : List ℕ} → R ≤ K → Line R u xs q → Line K u xs q
-line-up h l = record { known = l .known; slots-ok = λ s a b. let c = l .slots-ok s a b in omega arith; list-ok = l .list-ok }
+line-up : {R K u q : ℕ} {xs : List ℕ} → R ≤ K → K ≤ absent → Line R u xs q → Line K u xs q
+line-up h few l = record { known = l .known; few-regs = few; slots-ok = λ s a b. let c = l .slots-ok s a b in omega arith; list-ok = l .list-ok }
 
 operands-up : {R K u : ℕ} {ops : List ℕ} → R ≤ K → Operands R u ops → Operands K u ops
 operands-up h o = record { lent = o .lent; few = o .few; each = λ k l. let c = o .each k l in omega arith }
@@ -101,14 +102,14 @@ module _ {x t m n R u K N : ℕ} {bounds recs types ops w : List ℕ} (k : Asks 
     chain = k .chain;
     few = let f = k .few in omega arith;
     x-fits = let f = x-fits in let h = k .whole in omega arith;
-    x-lines = λ p h. line-up (k .names) (k .lines (lo + p) (let f = x-fits in omega arith));
+    x-lines = λ p h. line-up (k .names) (k .few-names) (k .lines (lo + p) (let f = x-fits in omega arith));
     wrote-ok = λ p h z. let b = k .wrote-ok p h z in let c = k .names in omega arith;
-    rest-lines = λ p g h. line-up (k .names) (k .lines (getD w (10 * p) 0) (k .rest-in p g h));
+    rest-lines = λ p g h. line-up (k .names) (k .few-names) (k .lines (getD w (10 * p) 0) (k .rest-in p g h));
     rest-apart = k .rest-apart;
     order = t-order;
     few-records = let f = t-fits in let g = k .few-insts in omega arith;
     target-fits = let f = t-fits in let h = k .whole in omega arith;
-    target-lines = λ q g h. line-up (k .names) (k .lines q (let f = t-fits in omega arith));
+    target-lines = λ q g h. line-up (k .names) (k .few-names) (k .lines q (let f = t-fits in omega arith));
     target-apart = blocks-apart;
   }
 

@@ -48,6 +48,7 @@ module _ (w v : List ℕ) (keeps : (q k : ℕ) → k < 9 → getD v (10 * q + k)
     whole = k .whole;
     few-insts = k .few-insts;
     names = k .names;
+    few-names = k .few-names;
     regs = k .regs;
     few-types = k .few-types;
     types-ok = k .types-ok;
@@ -92,10 +93,10 @@ room-at x t m n u bounds recs ops w el ea ee h = subst (λ (js : List Job). u + 
 
 -- ---- counted
 
-pub needs-law : {x t m n R u K N regs more lo a e : ℕ} {bounds recs types ops w v : List ℕ} (locs vias : List ℕ) → Asks x t m n R u K N bounds recs types ops w → Allots R m types w v regs
+pub needs-law : {x t m n R u K N regs more lo a e : ℕ} {bounds recs types ops w v : List ℕ} → Asks x t m n R u K N bounds recs types ops w → Allots R m types w v regs
     → lo ≡ getD bounds (2 * x) 0 → a ≡ getD bounds (2 * t) 0 → e ≡ getD bounds (2 * t + 1) 0 → more ≡ length (appended ops (all-jobs v recs lo m n a e))
-    → Counted x t m n R u bounds recs locs vias types ops w v regs (u + more)
-needs-law {x} {t} {m} {n} {R} {u} {K} {N} {regs} {more} {lo} {a} {e} {bounds} {recs} {types} {ops} {w} {v} locs vias k l el ea ee em =
+    → Counted x t m n R u bounds recs types ops w v regs (u + more)
+needs-law {x} {t} {m} {n} {R} {u} {K} {N} {regs} {more} {lo} {a} {e} {bounds} {recs} {types} {ops} {w} {v} k l el ea ee em =
     let keeps = l .all .keeps in
     let opers : u + more ≡ opers-after x t m n u bounds recs ops v = ap (λ (z : ℕ). u + z) (em ∙ ap (λ (js : List Job). length (appended ops js)) (jobs-at x t m n bounds recs v el ea ee)) in
     record {
@@ -104,7 +105,7 @@ needs-law {x} {t} {m} {n} {R} {u} {K} {N} {regs} {more} {lo} {a} {e} {bounds} {r
       none-new = λ p h z. l .all .none-new p h (sym (keeps p 8 (omega arith)) ∙ z);
       regs-is = sym (ap length (sym (l .all .types-are)) ∙ l .all .next-is);
       opers-is = opers;
-      counts = λ rest run set s.
+      counts = λ locs vias rest run set s.
           let P : Picture = picture bounds recs locs vias types R ops u rest in
           let b : Plan = plan x t run set in
           let s′ : Stands P b m n v = stands-kept w v keeps s in

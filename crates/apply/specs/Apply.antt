@@ -58,6 +58,7 @@ pub record Asks (x t m n R u K N : ℕ) (bounds recs types ops w : List ℕ) : T
   pub whole : length recs ≡ 16 * N
   pub few-insts : N ≤ 32768
   pub names : R ≤ K
+  pub few-names : K ≤ absent
   pub regs : R ≤ length types
   pub few-types : length types ≤ 65536
   pub types-ok : (d : ℕ) → d < R → getD types d 0 < 8
@@ -74,14 +75,14 @@ opers-after x t m n u bounds recs ops w = u + length (appended ops (all-jobs w r
 
 -- ---- what was counted: from the words w to v, which differ in the new registers alone
 
-pub record Counted (x t m n R u : ℕ) (bounds recs locs vias types ops w v : List ℕ) (regs opers : ℕ) : Type 0 where
+pub record Counted (x t m n R u : ℕ) (bounds recs types ops w v : List ℕ) (regs opers : ℕ) : Type 0 where
   pub size : length v ≡ length w
   pub keeps : (q k : ℕ) → k < 9 → getD v (10 * q + k) 0 ≡ getD w (10 * q + k) 0
   pub none-new : (p : ℕ) → p < m → wrote-at v p ≡ absent → new-at v p ≡ absent
   pub regs-is : regs ≡ length (typed types v m (take R types))
   pub opers-is : opers ≡ opers-after x t m n u bounds recs ops v
   -- for every plan that the words stand for: these are the counts after the move
-  pub counts : (rest : Rest) (run : List Fact) (set : List Bool) → Stands (picture bounds recs locs vias types R ops u rest) (plan x t run set) m n w
+  pub counts : (locs vias : List ℕ) (rest : Rest) (run : List Fact) (set : List Bool) → Stands (picture bounds recs locs vias types R ops u rest) (plan x t run set) m n w
       → Stands (picture bounds recs locs vias types R ops u rest) (plan x t run set) m n v
       × Given (picture bounds recs locs vias types R ops u rest) (plan x t run set) m v
       × (regs ≡ apply (picture bounds recs locs vias types R ops u rest) (plan x t run set) .regs)

@@ -4,35 +4,14 @@ use mathlib.Core.Path.{_≡_, refl, sym, ap, _∙_, subst}
 use mathlib.Core.Logic.{_⊎_, inl, inr}
 use Prim.Native.Nat.{ℕ, _≤_, _<_}
 use native.Mathlib.Omega.{arith}
-use borrow.Author.Tests.{eqb-true, eqb-false, ltb-true, ltb-false}
-use lib.Dec.{eqb, ltb}
+use borrow.Author.Tests.{eqb-true, eqb-false}
+use lib.Dec.{eqb}
 use Rattle.model.specs.Picture.{absent}
-use Rattle.inst.specs.Index.{reg-of, pick-reg, word-of, Among}
+use Rattle.inst.specs.Index.{reg-of, word-of, Among}
 use Rattle.inst.specs.declared.index.Reg.{Reg}
 use Rattle.inst.specs.declared.index.MaybeReg.{MaybeReg}
 use Rattle.inst.specs.declared.index.MaybeReg.the-variants as R
 use Rattle.inst.proofs.Indices.{among-of, word-of-reg}
-
-abbrev reg-number : MaybeReg → ℕ
-reg-number (R.Is r) = r .0
-reg-number R.Not = 0
-
-module _ (n count : ℕ) where
-  pub is-reg : (r : Reg) → reg-of n count ≡ R.Is r → (n ≡ r .0) × (n < count)
-  unfolding reg-of
-  is-reg r = go (ltb n count) refl
-    where
-      go : (b : Bool) → ltb n count ≡ b → pick-reg b (R.Is (record { 0 = n })) R.Not ≡ R.Is r → (n ≡ r .0) × (n < count)
-      go true e q = (ap reg-number q, ltb-true n count e)
-      go false e q = let z : _≡_ {A = ℕ} 0 1 = cc in absurd (omega arith)
-
-  pub not-reg : reg-of n count ≡ R.Not → count ≤ n
-  unfolding reg-of
-  not-reg = go (ltb n count) refl
-    where
-      go : (b : Bool) → ltb n count ≡ b → pick-reg b (R.Is (record { 0 = n })) R.Not ≡ R.Not → count ≤ n
-      go true e q = let z : _≡_ {A = ℕ} 0 1 = cc in absurd (omega arith)
-      go false e q = ltb-false n count e
 
 -- one of count, that is there
 module _ (count : ℕ) {d : MaybeReg} {k : Reg} (a : Among count d) (e : d ≡ R.Is k) where

@@ -166,23 +166,23 @@ module _ {R m n p : ℕ} {T w xs : List ℕ} (f : TypesFit R m T w) (t : Typing 
       omega arith
 
   -- the register that the position writes, by its range test
-  word-there : {k : MaybeReg} → k ≡ reg-of d R → reg ≡ n → word-of k ≡ d
-  word-there made e = word-made d R made refl (λ nt. in-use e)
+  word-there : {k : MaybeReg} {c : ℕ} → k ≡ reg-of d c → c ≡ R → reg ≡ n → word-of k ≡ d
+  word-there made is e = word-made d R made is (λ nt. in-use e)
 
-  pub typing-ok : {k : MaybeReg} → k ≡ reg-of d R → Among (length xs) k × (reg ≡ n → (word-of k ≡ absent → ⊥) × (n + width (getD xs (word-of k) 0) ≤ length xs))
-  typing-ok {k} made =
+  pub typing-ok : {k : MaybeReg} {c : ℕ} → k ≡ reg-of d c → c ≡ R → Among (length xs) k × (reg ≡ n → (word-of k ≡ absent → ⊥) × (n + width (getD xs (word-of k) 0) ≤ length xs))
+  typing-ok {k} made is =
       let r = f .regs in
       let s = t .size in
       let few = f .small in (
-        among-made d R made refl (length xs) (omega arith) (omega arith),
+        among-made d R made is (length xs) (omega arith) (omega arith),
         λ e.
             let h = in-use e in
-            let q = word-there made e in
+            let q = word-there made is e in
             (λ z. omega arith, subst (λ (j : ℕ). n + width (getD xs j 0) ≤ length xs) (sym q) (room-for e)),
       )
 
-  pub typing-more : {k : MaybeReg} {ys : List ℕ} {r : ℕ} → k ≡ reg-of d R → TypeAdded n (word-of k) reg xs ys r → Typing R m T w ys r (p + 1)
-  typing-more {k} {ys} {r} made a =
+  pub typing-more : {k : MaybeReg} {c r : ℕ} {ys : List ℕ} → k ≡ reg-of d c → c ≡ R → TypeAdded n (word-of k) reg xs ys r → Typing R m T w ys r (p + 1)
+  typing-more {k} {c} {r} {ys} made in-all a =
       let s = a .step now-types T (t .is) (t .count) in
       let same : grow-if (eqb reg n) now-types (getD xs (word-of k) 0) ≡ typed T w (suc p) (take R T) =
       go (eqb reg n) refl ∙ ap (λ (k : ℕ). grow-if (eqb reg k) now-types (getD T d 0)) (sym (t .count)) ∙ sym (typed-next T w (take R T) p) in
@@ -196,7 +196,7 @@ module _ {R m n p : ℕ} {T w xs : List ℕ} (f : TypesFit R m T w) (t : Typing 
       go : (b : Bool) → eqb reg n ≡ b → grow-if (eqb reg n) now-types (getD xs (word-of k) 0) ≡ grow-if (eqb reg n) now-types (getD T d 0)
       go true e =
           let is = eqb-true reg n e in
-          ap (grow-if (eqb reg n) now-types) (ap (λ (j : ℕ). getD xs j 0) (word-there made is) ∙ type-same (in-use is))
+          ap (grow-if (eqb reg n) now-types) (ap (λ (j : ℕ). getD xs j 0) (word-there made in-all is) ∙ type-same (in-use is))
       go false e = ap (λ (c : Bool). grow-if c now-types (getD xs (word-of k) 0)) e ∙ sym (ap (λ (c : Bool). grow-if c now-types (getD T d 0)) e)
 
 pub typing-end : {R m n p : ℕ} {T w xs : List ℕ} → Typing R m T w xs n p → m ≤ p → (xs ≡ over (typed T w m (take R T)) T) × (n ≡ length (typed T w m (take R T)))

@@ -33,16 +33,17 @@ fn add_type(types: &mut [u32], n: usize, d: MaybeReg, reg: u32) -> usize
     n + 1
 }
 
-// The types of the registers that `allot` gave. Returns how many are in use then.
-pub fn add_types(types: &mut [u32], r: usize, w: &[u32], m: usize) -> usize
+// The types of the registers that `allot` gave, where r are in use. Returns how many are in use then.
+pub fn add_types(types: &mut [u32], r: u32, w: &[u32], m: usize) -> usize
     requires { ⌜ TypesFit r m (now types) (now w) ⌝ }
     ensures { λ k. ⌜ (now (types .exit) ≡ over (typed (now (types .entry)) (now (w .entry)) m (take r (now (types .entry)))) (now (types .entry))) × (k ≡ length (typed (now (types .entry)) (now (w .entry)) m (take r (now (types .entry))))) ⌝ }
 {
-    let mut n = r;
+    let count = wide(r);
+    let mut n = count;
     let mut p = 0;
     while p < m {
         let b = PLACE * p;
-        n = add_type(types, n, Reg::new(w[b + DEF], r), w[b + NEW]);
+        n = add_type(types, n, Reg::new(w[b + DEF], count), w[b + NEW]);
         p += 1;
     }
     n

@@ -11,7 +11,7 @@ use Rattle.model.specs.Move.{Job, made, changes, more-of}
 use Rattle.inst.specs.Table.{two-bits}
 use Rattle.inst.specs.Record.{Used, write-at, present}
 
--- what is asked for some number of operands that were in use at first
+-- what is asked for some number that the code does not need: the operands that were in use at first, or the instructions
 pub record Some (P : ℕ → Type 0) : Type 0 where
   pub u : ℕ
   pub is : P u

@@ -1,7 +1,7 @@
 -- `rename::lists::place` meets its contract. Assumes nothing.
 use native.Mathlib.Omega.{arith}
 use mathlib.Core.Path.{sym, ap, _∙_}
-use Rattle.pool.proofs.Registers.{is-reg, not-reg}
+use Rattle.inst.proofs.Indices.{is-reg, not-reg}
 use Rattle.rename.specs.Names.{named}
 use borrow.Author.Needs.{needs}
 use Rattle.rename.proofs.lists.place.Statement.{statement}
