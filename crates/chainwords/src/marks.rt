@@ -7,6 +7,10 @@ use inst::index::BlockId;
 use lastuse::uses::last_readers;
 use lastuse::uses::last_use;
 use model::RECORDS;
+use position::DEF;
+use position::LAST;
+use position::MARK;
+use position::PLACE;
 use sizes::COPIED;
 use sizes::Sizes;
 use sizes::at_stamps;
@@ -32,15 +36,15 @@ fn mark(b: bool) -> u32
     0
 }
 
-// Words 0, 6 and 8 of position p, of fact f: record, mark, register written.
+// Of the words of position p, of fact f: record, mark, register written.
 fn put_fact(work32: &mut [u32], f: Fact, p: usize)
     requires { ⌜ 10 * p + 9 ≤ length (now work32) ⌝ }
     ensures { λ _. ⌜ now (work32 .exit) ≡ put-fact (now (work32 .entry)) p f ⌝ }
 {
-    let b = 10 * p;
+    let b = PLACE * p;
     work32[b] = f.rec;
-    work32[b + 6] = mark(f.member);
-    work32[b + 8] = f.def;
+    work32[b + MARK] = mark(f.member);
+    work32[b + DEF] = f.def;
 }
 
 // The words of the first n positions.
@@ -104,12 +108,12 @@ fn find_use(
     requires { ⌜ (now t ≡ rows) × UseAsked (now recs) (now work64) (now work32) r o n × (p < n) ⌝ }
     ensures { λ u. ⌜ u ≡ use-of (now (recs .entry)) (take r (drop 8000 (now (work32 .entry)))) (now (work64 .entry)) o (now (lasts .entry)) n (getD (now (work32 .entry)) (10 * p) 0) p ⌝ }
 {
-    let g = wide(work32[10 * p]);
+    let g = wide(work32[PLACE * p]);
     let e = COPIED + r;
     last_use(t, recs, &work32[COPIED..e], work64, o, lasts, g, p, n)
 }
 
-// Word 7 of the first m positions: their last uses.
+// The last uses of the first m positions.
 fn put_lasts(
     t: &[u32; 202],
     recs: &[u32],
@@ -126,7 +130,7 @@ fn put_lasts(
 {
     let mut p = 0usize;
     while p < m {
-        work32[10 * p + 7] = find_use(t, recs, work64, work32, lasts, r, o, p, n);
+        work32[PLACE * p + LAST] = find_use(t, recs, work64, work32, lasts, r, o, p, n);
         p += 1;
     }
 }
