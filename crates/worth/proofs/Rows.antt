@@ -58,11 +58,17 @@ module _ {bits ss : List ℕ} {n w into other i : ℕ} where
 
 -- the words that it is made from lie within
 module _ {ss : List ℕ} {n w into other : ℕ} {bits : List ℕ} (f : Fits ss n w into other bits) where
-  pub rows-inside : {i : ℕ} → i < w → (other * w + i < length bits) × (n * w + into * w + i < length bits)
-  rows-inside {i} h = (omega (arith, row-fits w (f .branch), f .room), omega (arith, row-fits w (f .target), f .room))
+  pub live-inside : {o i : ℕ} → o ≡ other → i < w → o * w + i < length bits
+  live-inside {o} {i} e h = let b : o < n = omega (arith, f .branch) in omega (arith, row-fits w b, f .room)
 
-  pub next-inside : (j : ℕ) → j < length ss → getD ss j 0 * w + w ≤ length bits
-  next-inside j h = omega (arith, row-fits w (f .next j h), f .room)
+  pub writes-inside : {k t i : ℕ} → k ≡ n → t ≡ into → i < w → k * w + t * w + i < length bits
+  writes-inside {k} {t} {i} e q h =
+      let b : t < n = omega (arith, f .target) in
+      let z : k * w ≡ n * w = ap (λ (x : ℕ). x * w) e in
+      omega (arith, row-fits w b, f .room)
+
+  pub front-inside : n * w ≤ length bits
+  front-inside = omega (arith, f .room)
 
   pub fits-kept : (m : List ℕ) → length m ≡ length bits → Fits ss n w into other m
   fits-kept m e = record { target = f .target; branch = f .branch; next = f .next; room = omega (arith, f .room) }
@@ -90,7 +96,7 @@ module _ {bits ss : List ℕ} {n w into other : ℕ} (f : Fits ss n w into other
   pub put-none : Put bits ss n w into other 0 bits
   put-none = record { size = refl; front = refl; back = refl; row = λ r h. absurd (omega arith) }
 
-  pub put-more : {i v : ℕ} (m : List ℕ) → Put bits ss n w into other i m → i < w → Word m ss n w into other i v → Put bits ss n w into other (i + 1) (set m (o + i) v)
+  put-more : {i v : ℕ} (m : List ℕ) → Put bits ss n w into other i m → i < w → Word m ss n w into other i v → Put bits ss n w into other (i + 1) (set m (o + i) v)
   put-more {i} {v} m p l k = record {
     size = length-set m (o + i) v ∙ p .size;
     front = take-set-le o m (o + i) v (omega arith) ∙ p .front;
@@ -110,6 +116,9 @@ module _ {bits ss : List ℕ} {n w into other : ℕ} (f : Fits ss n w into other
       there r d h = hit-inj (is-in (set m (o + i) v) (64 * o + r)) (is-in m (64 * o + r))
           (in-word (set m (o + i) v) o r ∙ ap (λ (x : ℕ). digit x (r % 64)) (getD-set-other m (o + i) (o + r / 64) v 0 (λ q. d (omega arith))) ∙ sym (in-word m o r))
           ∙ p .row r h
+
+  pub put-next : {at i v : ℕ} (m : List ℕ) → at ≡ o → Put bits ss n w into other i m → i < w → Word m ss n w into other i v → Put bits ss n w into other (i + 1) (set m (at + i) v)
+  put-next {at} {i} {v} m e p l k = subst (λ (x : ℕ). Put bits ss n w into other (i + 1) (set m (x + i) v)) (sym e) (put-more m p l k)
 
   pub put-all : {i : ℕ} {m : List ℕ} → Put bits ss n w into other i m → i ≤ w → w ≤ i → Put bits ss n w into other w m
   put-all {i} {m} p h g = subst (λ (k : ℕ). Put bits ss n w into other k m) (le-antisymm h g) p

@@ -18,10 +18,11 @@ ghost use Rattle.chains.specs.Chain.{Sound};
 ghost use Rattle.chains.specs.Places.{Pairs, end-past};
 ghost use Rattle.worth.specs.Worth.{Worth};
 
-// Is x in the list?
-fn has(xs: &[u32], x: u32) -> bool
-    ensures { λ r. ⌜ r ≡ mem x (now (xs .entry)) ⌝ }
+// Is block b in the list?
+fn has(xs: &[u32], b: BlockId) -> bool
+    ensures { λ r. ⌜ r ≡ mem (b .0) (now (xs .entry)) ⌝ }
 {
+    let x = b.number();
     let mut j = 0usize;
     while j < xs.len() {
         if x == xs[j] {
@@ -36,7 +37,7 @@ fn has(xs: &[u32], x: u32) -> bool
 pub fn replays(replay: &[u32], t: BlockId, f: BlockId) -> bool
     ensures { λ r. ⌜ r ≡ (mem (t .0) (now (replay .entry)) || mem (f .0) (now (replay .entry))) ⌝ }
 {
-    has(replay, t.number()) | has(replay, f.number())
+    has(replay, t) | has(replay, f)
 }
 
 // Is one of the records from a up to e a Cat of form 0?
@@ -60,17 +61,16 @@ pub fn worth_a_look(
     recs: &[u32],
     replay: &[u32],
     c: Chain,
-    x: usize,
+    x: BlockId,
     blocks: u32,
 ) -> bool
-    requires { ⌜ Sound c blocks × Pairs (now bounds) blocks × (x < blocks) × (16 * end-past (now bounds) x ≤ length (now recs)) ⌝ }
-    ensures { λ r. ⌜ Worth (now (bounds .entry)) (now (recs .entry)) (now (replay .entry)) c x r ⌝ }
+    requires { ⌜ Sound c blocks × Pairs (now bounds) blocks × (x .0 < blocks) × (16 * end-past (now bounds) (x .0) ≤ length (now recs)) ⌝ }
+    ensures { λ r. ⌜ Worth (now (bounds .entry)) (now (recs .entry)) (now (replay .entry)) c (x .0) r ⌝ }
 {
-    let t = c.t;
-    let f = c.f;
-    let again = replays(replay, t, f);
-    let a = wide(bounds[2 * x]);
-    let e = wide(bounds[2 * x + 1]);
+    let again = replays(replay, c.t, c.f);
+    let k = x.at();
+    let a = wide(bounds[2 * k]);
+    let e = wide(bounds[2 * k + 1]);
     if e - a <= wide(Sink::minimum(again)) {
         return false;
     }

@@ -2,6 +2,8 @@
 // target unless written there"), as a row of bits behind the rows of live-in and of what each block writes.
 use cfg::graph::succs;
 use flow::live::gather;
+use inst::index::BlockId;
+use words::numbers::wide;
 ghost use mathlib.Core.Path.{_≡_};
 ghost use Prim.Native.Nat.{_+_, _*_, _/_, _≤_, _<_};
 ghost use lib.ListN.{length};
@@ -13,27 +15,28 @@ ghost use Rattle.worth.specs.Needed.{Fits, Word, Put, Needed};
 fn needed_word(
     bits: &[u64],
     list: &[u32],
-    n: usize,
+    n: u32,
     w: usize,
-    into: usize,
-    other: usize,
+    into: BlockId,
+    other: BlockId,
     i: usize,
 ) -> u64
-    requires { ⌜ Fits (now list) n w into other (now bits) × (i < w) ⌝ }
-    ensures { λ v. ⌜ Word (now (bits .entry)) (now (list .entry)) n w into other i v ⌝ }
+    requires { ⌜ Fits (now list) n w (into .0) (other .0) (now bits) × (i < w) ⌝ }
+    ensures { λ v. ⌜ Word (now (bits .entry)) (now (list .entry)) n w (into .0) (other .0) i v ⌝ }
 {
-    let live = bits[other * w + i];
-    let writes = bits[n * w + into * w + i];
-    let out = gather(bits, list, w, i);
+    let live = bits[other.at() * w + i];
+    let writes = bits[wide(n) * w + into.at() * w + i];
+    let out = gather(bits, list, n, w, i);
     live | (out & !writes)
 }
 
 // The whole row.
-fn put_row(work: &mut [u64], list: &[u32], n: usize, w: usize, into: usize, other: usize)
-    requires { ⌜ Fits (now list) n w into other (now work) ⌝ }
-    ensures { λ _. ⌜ Put (now (work .entry)) (now (list .entry)) n w into other w (now (work .exit)) ⌝ }
+fn put_row(work: &mut [u64], list: &[u32], n: u32, w: usize, into: BlockId, other: BlockId)
+    requires { ⌜ Fits (now list) n w (into .0) (other .0) (now work) ⌝ }
+    ensures { λ _. ⌜ Put (now (work .entry)) (now (list .entry)) n w (into .0) (other .0) w (now (work .exit)) ⌝ }
 {
-    let at = n * w + n * w;
+    let blocks = wide(n);
+    let at = blocks * w + blocks * w;
     let mut i = 0usize;
     while i < w {
         let v = needed_word(work, list, n, w, into, other, i);
@@ -51,14 +54,14 @@ pub fn put_needed<'a>(
     targets: &'a [u32],
     work: &mut [u64],
     w: usize,
-    into: usize,
-    other: usize,
+    into: BlockId,
+    other: BlockId,
 )
-    requires { ⌜ (now t ≡ rows) × Graph (now bounds) (now recs) (now pairs) (now targets) × (into < length (now bounds) / 2) × (other < length (now bounds) / 2)
+    requires { ⌜ (now t ≡ rows) × Graph (now bounds) (now recs) (now pairs) (now targets) × (into .0 < length (now bounds) / 2) × (other .0 < length (now bounds) / 2)
         × (length (now bounds) / 2 * w + length (now bounds) / 2 * w + w ≤ length (now work)) ⌝ }
-    ensures { λ _. ⌜ Needed (now (bounds .entry)) (now (recs .entry)) (now (pairs .entry)) (now (targets .entry)) w into other (now (work .entry)) (now (work .exit)) ⌝ }
+    ensures { λ _. ⌜ Needed (now (bounds .entry)) (now (recs .entry)) (now (pairs .entry)) (now (targets .entry)) w (into .0) (other .0) (now (work .entry)) (now (work .exit)) ⌝ }
 {
-    let n = bounds.len() / 2;
+    let n = (bounds.len() / 2) as u32;
     let list = succs(t, bounds, recs, pairs, targets, into);
     put_row(work, list, n, w, into, other);
 }

@@ -3,14 +3,8 @@ use borrow.Author.Needs.{needs}
 use Rattle.worth.proofs.look.replays.Statement.{statement}
 use Rattle.worth.proofs.look.replays.Tie as tie
 
-number-requires : tie.Need-number-requires
-number-requires c κs = search needs
-
 has-requires : tie.Need-has-requires
 has-requires c κs = search needs
-
-number-requires-2 : tie.Need-number-requires-2
-number-requires-2 c κs = search needs
 
 has-requires-2 : tie.Need-has-requires-2
 has-requires-2 c κs = search needs
@@ -19,4 +13,4 @@ returns : tie.Need-returns
 returns c = cc
 
 pub replays-spec : {M : Type 1} → statement M
-replays-spec = tie.close (tie.spec number-requires has-requires number-requires-2 has-requires-2 returns)
+replays-spec = tie.close (tie.spec has-requires has-requires-2 returns)

@@ -6,6 +6,9 @@ use borrow.Author.Needs.{needs}
 use Rattle.worth.proofs.needed.put_needed.Statement.{statement}
 use Rattle.worth.proofs.needed.put_needed.Tie as tie
 
+cast-n : tie.Need-cast-n
+cast-n c = omega (arith, c .before .before .before .before .before .pre .1 .blocks .few)
+
 succs-requires : tie.Need-succs-requires
 succs-requires c κs = search needs
 
@@ -21,4 +24,4 @@ returns : tie.Need-returns
 returns c = let p = c .before .before .before .before .before .before .before .before .before .before .pre in needed-is (c .before .before .before .before .succs .result .now) (c .before .before .before .before .succs .ensures) (p .1) (p .2) (p .3) (c .before .before .put-row .ensures)
 
 pub put-needed-spec : {M : Type 1} → statement M
-put-needed-spec = tie.close (tie.spec succs-requires put-row-requires same-length returns)
+put-needed-spec = tie.close (tie.spec cast-n succs-requires put-row-requires same-length returns)
