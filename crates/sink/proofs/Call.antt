@@ -1,6 +1,5 @@
 -- The call put together (01, "The call"): from the start through the loop to its end; and demand 3 of it. Assumes nothing.
 use mathlib.Core.Path.{_≡_, refl, sym, ap, _∙_, subst}
-use mathlib.Core.Bool.{true, false}
 use mathlib.Core.List.{List, _++_}
 use mathlib.Core.Logic.{⊎-elim}
 use Prim.Native.Nat.{ℕ, zero, suc, _*_, _-_, _≤_}
@@ -24,11 +23,13 @@ use Rattle.kept.proofs.Answer.{left-after}
 use Rattle.facts.specs.declared.Fact.{Fact}
 use Rattle.trial.specs.declared.block.MaybeMove.{MaybeMove}
 use Rattle.trial.specs.Trial.{Followed}
+use Rattle.search.specs.declared.find.Look.{Look}
+use Rattle.search.specs.declared.find.MaybeLook.the-variants.{Is, Not}
 use Rattle.driver.specs.declared.rounds.At.{At}
 use Rattle.driver.specs.declared.rounds.Ran.{Ran}
 use Rattle.sink.specs.Sink.{Lent, Coming, Finished, registers, operands}
 use Rattle.driver.specs.Ended.{Did, Work}
-use Rattle.driver.specs.Going.{Next, Going, GoneOn, Started}
+use Rattle.driver.specs.Going.{Next, stands, Going, GoneOn, Started}
 use Rattle.oneround.specs.Kept.{Kept}
 use Rattle.oneround.proofs.Step.{holds-is, kept-of}
 use Rattle.driver.proofs.Going.{Sized, next-still, was-tried}
@@ -64,6 +65,10 @@ fair : (P : Picture) (w64 w32 nf : ℕ) → refusal P w64 w32 nf ≡ 0 → Fair 
 fair P w64 w32 nf ok =
     ⊎-elim (λ e. subst (Fair P) (sym (sink-gated P w64 w32 nf ok e)) (fair-done P 0)) (λ e. subst (Fair P) (sym (sink-through P w64 w32 nf ok e)) (all-fair (facts P) most-rounds 0 P)) (bool? (gated P))
 
+-- the chain that is to be tried
+next-of : {P : Picture} {w64 w32 nf : ℕ} {Q : Picture} {m : At} {k : Look} {work64 work32 : List ℕ} → Going P w64 w32 nf Q m work64 work32 → m .next ≡ Is k → Next P w64 w32 nf Q m k work64 work32
+next-of {P} {w64} {w32} {nf} {Q} {m} {k} {work64} {work32} g e = subst (stands P w64 w32 nf Q m work64 work32) e (g .is)
+
 -- from Q and m, with these work slices and these records, the loop has come to Z and q
 pub record Running (Q : Picture) (m : At) (work64 work32 : List ℕ) (fs : List Fact) (Z : Picture) (q : At) (work64′ work32′ : List ℕ) (fs′ : List Fact) : Type 0 where
   pub still : (P : Picture) (w64 w32 : ℕ) → Going P w64 w32 (length fs) Q m work64 work32 → Going P w64 w32 (length fs) Z q work64′ work32′
@@ -85,23 +90,23 @@ running-start Q m work64 work32 fs = record {
 
 module _ {Q : Picture} {m : At} {work64 work32 : List ℕ} {fs : List Fact} {Z : Picture} {q : At} {work64′ work32′ : List ℕ} {fs′ : List Fact} (r : Running Q m work64 work32 fs Z q work64′ work32′ fs′) where
   -- a chain is to be tried
-  pub running-next : (c : Coming Q m work64 work32 (length fs)) → q .on ≡ true → Next (c .P) (c .w64) (c .w32) (length fs) Z q work64′ work32′
-  running-next c on = r .still (c .P) (c .w64) (c .w32) (c .going) .on-is on
+  pub running-next : {k : Look} (c : Coming Q m work64 work32 (length fs)) → q .next ≡ Is k → Next (c .P) (c .w64) (c .w32) (length fs) Z q k work64′ work32′
+  running-next c on = next-of (r .still (c .P) (c .w64) (c .w32) (c .going)) on
 
-  pub running-many : Coming Q m work64 work32 (length fs) → q .on ≡ true → 800 ≤ length fs′
+  pub running-many : {k : Look} → Coming Q m work64 work32 (length fs) → q .next ≡ Is k → 800 ≤ length fs′
   running-many c on =
       let a = work-room (c .P) (c .w64) (c .w32) (length fs) (running-next c on .between .lent) .2 in
       let e = r .size in
       omega arith
 
   -- a chain was tried, and the search went on
-  pub running-more : {a : MaybeMove} {work64₁ work32₁ : List ℕ} {Y : Picture} {p : At} {work64₂ work32₂ : List ℕ} {fs₂ : List Fact} → q .on ≡ true
-      → Followed (Z .bounds) (Z .recs) (Z .ops) (Z .pairs) (Z .targets) (Z .replay) (q .sizes) (q .look .x) (q .look .c) work64′ work32′ work64₁ work32₁ a
-      → GoneOn Z q work64₁ work32₁ a Y p work64₂ work32₂ → Sized Z Y → length fs₂ ≡ length fs′ → Running Q m work64 work32 fs Y p work64₂ work32₂ fs₂
+  pub running-more : {k : Look} {a : MaybeMove} {work64₁ work32₁ : List ℕ} {Y : Picture} {p : At} {work64₂ work32₂ : List ℕ} {fs₂ : List Fact} → q .next ≡ Is k
+      → Followed (Z .bounds) (Z .recs) (Z .ops) (Z .pairs) (Z .targets) (Z .replay) (q .sizes) (k .x .0) (k .c) work64′ work32′ work64₁ work32₁ a
+      → GoneOn Z q k work64₁ work32₁ a Y p work64₂ work32₂ → Sized Z Y → length fs₂ ≡ length fs′ → Running Q m work64 work32 fs Y p work64₂ work32₂ fs₂
   running-more on f g z e = record {
     still = λ P w64 w32 y.
-        let n = r .still P w64 w32 y .on-is on in
-        g .going P w64 w32 (length fs) on (next-still n f) (was-tried n f);
+        let n = next-of (r .still P w64 w32 y) on in
+        g .going P w64 w32 (length fs) (next-still n f) (was-tried n f);
     sized = record {
       bounds = z .bounds ∙ r .sized .bounds;
       recs = z .recs ∙ r .sized .recs;
@@ -113,16 +118,16 @@ module _ {Q : Picture} {m : At} {work64 work32 : List ℕ} {fs : List Fact} {Z :
     size64 = g .size64 ∙ f .size64 ∙ r .size64;
     size32 = g .size32 ∙ f .size32 ∙ r .size32;
     size = e ∙ r .size;
-    kept = λ P w64 w32 y h. absurd (h (r .still P w64 w32 y .on-is on .between .lent));
+    kept = λ P w64 w32 y h. absurd (h (next-of (r .still P w64 w32 y) on .between .lent));
   }
 
   -- at the end
-  pub running-end : q .on ≡ false → (a : Answer) (lines : List ℕ) → a ≡ q .answer → lines ≡ q .lines
+  pub running-end : q .next ≡ Not → (a : Answer) (lines : List ℕ) → a ≡ q .answer → lines ≡ q .lines
       → Finished Q m work64 work32 fs a lines (Z .bounds) (Z .recs) (Z .locs) (Z .vias) (Z .types) (Z .ops) work64′ work32′ fs′
   running-end off a lines ea el = record {
     did = λ P w64 w32 y.
         subst (λ (x : Answer). Did (sink P w64 w32 (length fs)) x lines (Z .bounds) (Z .recs) (Z .locs) (Z .vias) (Z .types) (Z .ops)) (sym ea)
-        (subst (λ (x : List ℕ). Did (sink P w64 w32 (length fs)) (q .answer) x (Z .bounds) (Z .recs) (Z .locs) (Z .vias) (Z .types) (Z .ops)) (sym el) (r .still P w64 w32 y .off-is off));
+        (subst (λ (x : List ℕ). Did (sink P w64 w32 (length fs)) (q .answer) x (Z .bounds) (Z .recs) (Z .locs) (Z .vias) (Z .types) (Z .ops)) (sym el) (subst (stands P w64 w32 (length fs) Z q work64′ work32′) off (r .still P w64 w32 y .is)));
     work = λ P w64 w32 y. record {
       size64 = r .size64;
       size32 = r .size32;

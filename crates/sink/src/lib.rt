@@ -8,6 +8,7 @@ use driver::steps::go_on;
 use driver::steps::start;
 use facts::Fact;
 use inst::table::table;
+use search::find::MaybeLook;
 use trial::block::try_chain;
 ghost use mathlib.Core.Path.{_≡_};
 ghost use mathlib.Core.List.{_++_};
@@ -47,7 +48,7 @@ fn run(
         Finished P m (now (work64 .entry)) (now (work32 .entry)) (now (facts .entry)) (r .answer) (r .lines) (now (bounds .exit)) (now (recs .exit)) (now (locs .exit)) (now (vias .exit)) (now (types .exit)) (now (ops .exit)) (now (work64 .exit)) (now (work32 .exit)) (now (facts .exit))) ⌝ }
 {
     let mut m = m;
-    while m.on {
+    while let MaybeLook::Is(k) = m.next {
         let r = try_chain(
             t,
             bounds,
@@ -60,8 +61,8 @@ fn run(
             work32,
             facts,
             m.sizes,
-            m.look.x,
-            m.look.c,
+            k.x,
+            k.c,
         );
         let next = go_on(
             t,
@@ -77,6 +78,7 @@ fn run(
             work64,
             work32,
             m,
+            k,
             r,
         );
         m = next;
