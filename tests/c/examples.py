@@ -16,8 +16,6 @@ ROOT = os.path.join(os.path.dirname(os.path.abspath(__file__)), '../..')
 
 def listing(word, data):
     """A listing as bytes (`pack`), or bytes as a listing (`show`); nothing, and what is wrong is said, where it is none."""
-    if b'as-is' not in open(os.path.join(ROOT, 'tools/listing.py'), 'rb').read():
-        data = data.replace(b'\nas-is\n', b'\n')
     return subprocess.run([os.path.join(ROOT, 'tools/listing.py'), word, '-'], input=data, stdout=subprocess.PIPE).stdout
 
 
