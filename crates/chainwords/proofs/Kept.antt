@@ -15,7 +15,8 @@ use Rattle.model.specs.Analyse.{Facts}
 use Rattle.laws.proofs.Accepted as laws
 use Rattle.laws.proofs.Sizes.{regs-lent}
 use Rattle.sizes.specs.declared.Sizes.{Sizes}
-use Rattle.sizes.specs.Parts.{width, regs-at}
+use Rattle.sizes.specs.Parts.{regs-at}
+use Rattle.words.specs.Bits.{width}
 use Rattle.chainwords.specs.Work.{at-regs, reg-words, Held, Lists}
 use Rattle.chainwords.proofs.Standing.{same-rows, Firm, firsts-before, begun-kept}
 

@@ -17,7 +17,7 @@ use Rattle.laws.proofs.Sizes.{few-blocks, few-types, regs-lent}
 use Rattle.flow.proofs.Standing.{row-as}
 use Rattle.chains.specs.Chain.{Preds}
 use Rattle.sizes.specs.declared.Sizes.{Sizes}
-use Rattle.sizes.specs.Parts.{width}
+use Rattle.words.specs.Bits.{width}
 use Rattle.chainwords.specs.Work.{at-needed, at-regs, pred-words, Held, Lists}
 use Rattle.chainwords.proofs.Standing.{same-rows, flags-same, firsts-before, begun-kept}
 

@@ -18,7 +18,7 @@ use Rattle.flow.specs.Live.{Rows, Wrote}
 use Rattle.flow.proofs.Standing.{rows-same}
 use Rattle.flow.proofs.Whole.{rows-whole, rows-drawn, wrote-rows}
 use Rattle.chains.specs.Chain.{Preds}
-use Rattle.sizes.specs.Parts.{width}
+use Rattle.words.specs.Bits.{width}
 use Rattle.chainwords.specs.Work.{at-needed, at-regs, at-stamps, reg-words, pred-words, Begun, Held}
 
 -- ---- rows of w words

@@ -30,7 +30,8 @@ use Rattle.lastuse.proofs.Going.{readers-of}
 use Rattle.lastuse.proofs.LastUse.{last-use-is}
 use Rattle.pool.specs.Plan.{read-there}
 use Rattle.sizes.specs.declared.Sizes.{Sizes}
-use Rattle.sizes.specs.Parts.{width, regs-at, stamps-at}
+use Rattle.sizes.specs.Parts.{regs-at, stamps-at}
+use Rattle.words.specs.Bits.{width}
 use Rattle.chainwords.specs.Work.{at-regs, reg-words, copied-words, Lists, Held}
 use Rattle.chainwords.specs.Puts.{use-of, UseAsked, Lasting}
 use Rattle.chainwords.specs.Along.{Along, Planning, Numbered, Lasts, Used}

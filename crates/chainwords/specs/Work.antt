@@ -11,7 +11,7 @@ use Rattle.flow.specs.Live.{Live, Rows}
 use Rattle.chains.specs.Chain.{Preds}
 use Rattle.regfacts.specs.Flags.{Seen}
 use Rattle.sizes.specs.declared.Sizes.{Sizes}
-use Rattle.sizes.specs.Parts.{width}
+use Rattle.words.specs.Bits.{width}
 
 -- ---- where the parts lie
 

@@ -14,7 +14,7 @@ use position::PLACE;
 use sizes::COPIED;
 use sizes::Sizes;
 use sizes::at_stamps;
-use sizes::width;
+use words::bits::width;
 use words::numbers::wide;
 ghost use mathlib.Core.Path.{_≡_};
 ghost use Prim.Native.Nat.{_+_, _*_, _≤_, _<_};

@@ -31,7 +31,7 @@ use Rattle.sizes.specs.declared.Sizes.{Sizes}
 use Rattle.trial.specs.declared.block.Move.{Move}
 use Rattle.trial.specs.declared.block.MaybeMove.{MaybeMove}
 use Rattle.trial.specs.declared.block.MaybeMove.the-variants as tries
-use Rattle.sizes.specs.Parts.{width}
+use Rattle.words.specs.Bits.{width}
 use Rattle.chainwords.specs.Work.{Shown, Begun, Held, chain-words}
 use Rattle.chains.specs.Chain.{chain-in}
 use Rattle.trial.specs.Trial.{Found, tried, Following, Followed}

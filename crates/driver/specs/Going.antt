@@ -15,7 +15,7 @@ use Rattle.model.specs.Pass.{Outcome, used, first-plan, sink-all, sink, most-ro
 use Rattle.flow.specs.Live.{Live}
 use Rattle.sizes.specs.declared.Sizes.{Sizes}
 use Rattle.trial.specs.declared.block.MaybeMove.{MaybeMove}
-use Rattle.sizes.specs.Parts.{width}
+use Rattle.words.specs.Bits.{width}
 use Rattle.chainwords.specs.Work.{Begun, chain-words}
 use Rattle.trial.specs.Trial.{tried}
 use Rattle.worth.specs.Worth.{Chosen}

@@ -26,7 +26,7 @@ use Rattle.flow.specs.Live.{Rows, OnlyRows}
 use Rattle.flow.proofs.Standing.{apart-rows, within-rows, rows-else}
 use Rattle.chains.specs.Chain.{Preds}
 use Rattle.regfacts.specs.Flags.{Seen}
-use Rattle.sizes.specs.Parts.{width}
+use Rattle.words.specs.Bits.{width}
 use Rattle.chainwords.specs.Work.{at-regs, at-stamps, reg-words, pred-words, Begun}
 use Rattle.chainwords.proofs.Standing.{begun-kept, firm-front, flags-same, firsts-before, rows-of, rows-for}
 use Rattle.search.proofs.Start.{RowsAsk, rows-asked}

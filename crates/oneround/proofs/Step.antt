@@ -28,7 +28,7 @@ use Rattle.kept.specs.Walk.{after, Keeps}
 use Rattle.kept.proofs.Stages.{last-round}
 use Rattle.kept.proofs.Answer.{kept-after}
 use Rattle.trial.specs.declared.block.Move.{Move}
-use Rattle.sizes.specs.Parts.{width}
+use Rattle.words.specs.Bits.{width}
 use Rattle.chainwords.specs.Work.{at-stamps, chain-words, Begun}
 use Rattle.oneround.specs.declared.round.Step.{Step}
 use Rattle.oneround.specs.declared.round.Step.the-variants.{Goes, Short}

@@ -17,7 +17,7 @@ use Rattle.apply.specs.Apply.{Holds, Stands, Given, Asks, Counted, Fits}
 use Rattle.cfg.specs.Drawn.{drawn}
 use Rattle.flow.specs.Live.{Rows}
 use Rattle.trial.specs.declared.block.Move.{Move}
-use Rattle.sizes.specs.Parts.{width}
+use Rattle.words.specs.Bits.{width}
 use Rattle.chainwords.specs.Work.{Begun, chain-words}
 use Rattle.trial.specs.Trial.{Found}
 use Rattle.oneround.specs.declared.round.Step.{Step}

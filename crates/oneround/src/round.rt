@@ -5,15 +5,15 @@ use apply::needs::needs;
 use flow::rows::all_rows;
 use flow::rows::block_rows;
 use model::CHAIN_WORDS;
-use sizes::width;
 use trial::block::Move;
+use words::bits::width;
 use words::numbers::wide;
 ghost use mathlib.Core.Path.{_≡_};
 ghost use Prim.Native.Nat.{_≤_};
 ghost use lib.ListN.{length};
 ghost use Rattle.inst.specs.Table.{rows};
 ghost use Rattle.checks.specs.Causes.{picture-of};
-ghost use Rattle.sizes.specs.Parts.{width};
+ghost use Rattle.words.specs.Bits.{width};
 ghost use Rattle.oneround.specs.Round.{Ready, Needing, Needed, stepped, Decided, Renewing, Renewed, Stepped};
 ghost use Rattle.oneround.specs.Kept.{registers-then, operands-then, StepKept};
 

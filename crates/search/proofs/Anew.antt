@@ -15,7 +15,7 @@ use Rattle.cfg.specs.Graph.{Graph}
 use Rattle.flow.specs.Live.{RowRoom, Rows, Live}
 use Rattle.flow.proofs.Whole.{live-rows-whole}
 use Rattle.sizes.specs.declared.Sizes.{Sizes}
-use Rattle.sizes.specs.Parts.{width}
+use Rattle.words.specs.Bits.{width}
 use Rattle.chainwords.specs.Work.{Shown, Begun, Held}
 use Rattle.chainwords.proofs.Standing.{begun-kept, firm-back, rows-for}
 use Rattle.search.specs.declared.find.MaybeLook.{MaybeLook}

@@ -31,7 +31,8 @@ use Rattle.regfacts.specs.Written.{Fits}
 use Rattle.regfacts.specs.Flags.{Found, Seen}
 use Rattle.analyse.proofs.Accepted.{fits-given, seen-given}
 use Rattle.sizes.specs.declared.Sizes.{Sizes}
-use Rattle.sizes.specs.Parts.{width, regs-at}
+use Rattle.sizes.specs.Parts.{regs-at}
+use Rattle.words.specs.Bits.{width}
 use Rattle.chainwords.specs.Work.{at-regs}
 use Rattle.chainwords.proofs.Standing.{SameRows, same-rows, firsts-before, rows-room, rows-of}
 use Rattle.search.specs.Search.{Beginning, Began}

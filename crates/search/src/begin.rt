@@ -7,7 +7,7 @@ use regfacts::flags::find_facts;
 use sizes::Sizes;
 use sizes::at_preds;
 use sizes::at_regs;
-use sizes::width;
+use words::bits::width;
 use words::numbers::wide;
 ghost use mathlib.Core.Path.{_≡_};
 ghost use Rattle.inst.specs.Table.{rows};

@@ -9,7 +9,7 @@ use inst::index::BlockId;
 use inst::index::MaybeBlock;
 use sizes::Sizes;
 use sizes::at_preds;
-use sizes::width;
+use words::bits::width;
 use words::numbers::wide;
 use worth::look::worth_a_look;
 ghost use mathlib.Core.Path.{_≡_};

@@ -1,10 +1,7 @@
 -- Where each part lies in the two lent work slices (01, "Port order and sizes"), by the sizes of what is lent. Assumes nothing.
-use Prim.Native.Nat.{ℕ, _+_, _*_, _/_}
+use Prim.Native.Nat.{ℕ, _+_, _*_}
+use Rattle.words.specs.Bits.{width}
 use Rattle.sizes.specs.declared.Sizes.{Sizes}
-
--- the words of a row of n registers
-abbrev pub width : ℕ → ℕ
-width n = (n + 63) / 64
 
 -- 64-bit: the row of registers needed elsewhere; a word a register lent, then another
 abbrev pub needed-at : Sizes → ℕ

@@ -1,9 +1,10 @@
 // The sizes of what is lent, and where each part lies in the two work slices (docs/DESIGN.md, "The words of a chain, and its facts").
 use model::CHAIN_WORDS;
+use words::bits::width;
 use words::numbers::wide;
 ghost use mathlib.Core.Path.{_≡_};
 ghost use Prim.Native.Nat.{_≤_};
-ghost use Rattle.sizes.specs.Parts.{width, regs-at, stamps-at, needed-at, preds-at};
+ghost use Rattle.sizes.specs.Parts.{regs-at, stamps-at, needed-at, preds-at};
 
 // Blocks; instructions; registers in use; registers lent.
 pub struct Sizes {
@@ -15,14 +16,6 @@ pub struct Sizes {
 
 // Where the copied words of the registers in use begin: behind the chain's.
 pub const COPIED: usize = CHAIN_WORDS;
-
-// The words of a row of n registers.
-pub fn width(n: usize) -> usize
-    requires { ⌜ n ≤ 65536 ⌝ }
-    ensures { λ r. ⌜ r ≡ width n ⌝ }
-{
-    (n + 63) / 64
-}
 
 // Where the row of the registers needed elsewhere begins: behind live-in and writes of each block.
 pub fn at_needed(s: Sizes) -> usize

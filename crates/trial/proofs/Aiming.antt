@@ -28,7 +28,8 @@ use Rattle.plan.specs.declared.settle.Cycle.{Cycle}
 use Rattle.worth.specs.Needed.{Shows, Needed}
 use Rattle.sizes.specs.declared.Sizes.{Sizes}
 use Rattle.trial.specs.declared.target.Sunk.{Sunk}
-use Rattle.sizes.specs.Parts.{width, needed-at, stamps-at, preds-at}
+use Rattle.sizes.specs.Parts.{needed-at, stamps-at, preds-at}
+use Rattle.words.specs.Bits.{width}
 use Rattle.chainwords.specs.Work.{at-needed, at-regs, Held, Lists, Tabled}
 use Rattle.inst.specs.declared.index.BlockId.{BlockId}
 use Rattle.trial.specs.Target.{from-start, taken, Aiming, Aimed}

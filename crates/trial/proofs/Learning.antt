@@ -25,7 +25,7 @@ use Rattle.analyse.proofs.Accepted.{good-given, pairs-given, ends-given}
 use Rattle.legalset.specs.Chain.{Told}
 use Rattle.plan.proofs.Heard as heard
 use Rattle.sizes.specs.declared.Sizes.{Sizes}
-use Rattle.sizes.specs.Parts.{width}
+use Rattle.words.specs.Bits.{width}
 use Rattle.chainwords.specs.Work.{at-regs, reg-words, copied-words, Lists, Held}
 use Rattle.chainwords.specs.Puts.{Copying, Copied}
 use Rattle.chainwords.specs.Along.{Along, Learning, Learnt}

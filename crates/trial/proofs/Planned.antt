@@ -35,7 +35,8 @@ use Rattle.plan.specs.Cycle.{Choosable, Chose}
 use Rattle.sizes.specs.declared.Sizes.{Sizes}
 use Rattle.trial.specs.declared.target.Aim.{Aim}
 use Rattle.trial.specs.declared.target.Sunk.{Sunk}
-use Rattle.sizes.specs.Parts.{width, needed-at, stamps-at}
+use Rattle.sizes.specs.Parts.{needed-at, stamps-at}
+use Rattle.words.specs.Bits.{width}
 use Rattle.chainwords.specs.Work.{at-regs, at-stamps, chain-words, copied-words, Held, Lists, Tabled}
 use Rattle.chainwords.specs.Puts as U
 use Rattle.chainwords.specs.Along.{Along, Marked, FromX, Numbered, Using, Lasts, Used}

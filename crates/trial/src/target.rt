@@ -12,7 +12,7 @@ use sizes::Sizes;
 use sizes::at_needed;
 use sizes::at_preds;
 use sizes::at_stamps;
-use sizes::width;
+use words::bits::width;
 use words::numbers::wide;
 use worth::needed::put_needed;
 ghost use mathlib.Core.Path.{_≡_};
@@ -168,15 +168,7 @@ pub fn plan<'a>(
         n,
     );
     let e = a.end;
-    let k = legal_set(
-        t,
-        recs,
-        ops,
-        &work32[COPIED..e],
-        work64,
-        facts,
-        a.sweeps,
-    );
+    let k = legal_set(t, recs, ops, &work32[COPIED..e], work64, facts, a.sweeps);
     let b = taken(k, a, n);
     put_facts(facts, work32, b.places);
     put_uses(

@@ -1,7 +1,7 @@
 -- `oneround::round::renew` meets its contract. Assumes nothing.
 use mathlib.Core.Path.{refl, ap, _∙_}
 use native.Mathlib.Omega.{arith}
-use Rattle.sizes.specs.Parts.{width}
+use Rattle.words.specs.Bits.{width}
 use Rattle.oneround.proofs.Renewal.{regs-few, renew-ask, renewed-all, renewed-two, renewed-at}
 use borrow.Author.Needs.{needs}
 use Rattle.oneround.proofs.round.renew.Statement.{statement}

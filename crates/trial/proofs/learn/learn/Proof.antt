@@ -52,7 +52,7 @@ use Rattle.chains.proofs.chain.Chain.Laws as K′
 use Rattle.inst.specs.Table.{rows}
 use Rattle.analyse.specs.Step.{Analysed}
 use Rattle.analyse.specs.Cells.{cells as numbers}
-use Rattle.sizes.specs.Parts.{width}
+use Rattle.words.specs.Bits.{width}
 use Rattle.chainwords.specs.Puts.{Copied}
 use Rattle.chainwords.specs.Along.{Learning, Learnt}
 use Rattle.trial.proofs.Learning as law

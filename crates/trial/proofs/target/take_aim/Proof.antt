@@ -4,7 +4,7 @@ use Prim.Native.Nat.{ℕ, _+_, _-_, _*_, _≤_, _<_}
 use native.Mathlib.Omega.{arith}
 use borrow.Author.Tests.{not-true, not-false}
 use lib.ListN.{length, take, drop}
-use Rattle.sizes.specs.Parts.{width}
+use Rattle.words.specs.Bits.{width}
 use Rattle.chainwords.proofs.Rooms.{room, preds-room}
 use Rattle.trial.proofs.Aiming.{graph-lent, block-lent, row-lent, preds-from, aim-off, aim-on}
 use borrow.Author.Needs.{needs}

@@ -3,7 +3,6 @@ use Rattle.chains.specs.Chain.{blocks-of}
 use Rattle.chains.proofs.Struct.{has-is}
 use Rattle.chains.proofs.chain.Chain.has.Statement.{statement}
 use Rattle.chains.proofs.chain.Chain.has.Tie as tie
-
 use borrow.Author.Needs.{needs}
 
 number-requires : tie.Need-number-requires
