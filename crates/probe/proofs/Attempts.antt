@@ -16,7 +16,7 @@ use Rattle.model.specs.Move.{Plan, try-block}
 use Rattle.apply.specs.Apply.{Stands}
 use Rattle.laws.proofs.Accepted.{work-room}
 use Rattle.facts.specs.declared.Fact.{Fact}
-use Rattle.chainwords.specs.declared.sizes.Sizes.{Sizes}
+use Rattle.sizes.specs.declared.Sizes.{Sizes}
 use Rattle.trial.specs.declared.block.Move.{Move}
 use Rattle.trial.specs.declared.block.MaybeMove.{MaybeMove}
 use Rattle.trial.specs.declared.block.MaybeMove.the-variants as tries
@@ -27,16 +27,7 @@ use Rattle.search.specs.declared.find.MaybeLook.{MaybeLook}
 use Rattle.search.specs.declared.find.MaybeLook.the-variants.{Is, Not}
 use Rattle.probe.specs.declared.attempt.Ready.{Ready}
 use Rattle.probe.specs.Heads.{with-four}
-use Rattle.probe.specs.Attempt.{move-number, with-move, plan-number, with-plan, attempt, with-attempt, sizes-of, Sought, Left, Listed, Trying, Seen, taken, Taken, Ended, Goes, SetOut}
-
-clash : {A : Type 0} {b : Bool} → b ≡ true → b ≡ false → A
-clash p q = let e : true ≡ false = sym p ∙ q in let z : _≡_ {A = ℕ} 0 1 = ap (λ (b : Bool). elim b as (λ z. ℕ) [ true ↦ 0 | false ↦ 1 ]) e in absurd (omega arith)
-
-pub taken-none : {s : Sizes} {o : MaybeLook} {q : Ready} → o ≡ Not → (q .over ≡ true) × (q .number ≡ 0) → Taken o s q
-taken-none {s} {q = q} e t = subst (λ (o : MaybeLook). Taken o s q) (sym e) (record { is = t })
-
-pub taken-one : {s : Sizes} {o : MaybeLook} {k : Look} {q : Ready} → o ≡ Is k → q .over ≡ false → q .look ≡ k → q .sizes ≡ s → Taken o s q
-taken-one {s} {q = q} e a b c = subst (λ (o : MaybeLook). Taken o s q) (sym e) (record { is = (a, b, c) })
+use Rattle.probe.specs.Attempt.{move-number, with-move, plan-number, with-plan, attempt, with-attempt, sizes-of, Sought, Left, Listed, Trying, Seen, Ended, Goes, stands-at, SetOut}
 
 module _ (P : Picture) (x : ℕ) where
   -- ---- by cases
@@ -125,47 +116,46 @@ module _ (P : Picture) (x : ℕ) where
 
     -- ---- where the search stands
 
-    pub out-set : {work64′ work32′ : List ℕ} {n : ℕ} {k : Ready} → (k .over ≡ true) × (k .number ≡ n) → Ended P x nf work64 work32 work64′ work32′ n → SetOut P x nf work64 work32 work64′ work32′ k
-    out-set {work64′} {work32′} t e = record {
-      ended = λ z. subst (Ended P x nf work64 work32 work64′ work32′) (sym (t .1)) e;
-      goes = λ z. clash (t .0) z;
+    pub out-set : {work64′ work32′ : List ℕ} {n : ℕ} {k : Ready} → (k .next ≡ Not) × (k .number ≡ n) → Ended P x nf work64 work32 work64′ work32′ n → SetOut P x nf work64 work32 work64′ work32′ k
+    out-set {work64′} {work32′} {n} {k} t e = record {
+      is = subst (stands-at P x nf work64 work32 work64′ work32′ k) (sym (t .0)) (subst (Ended P x nf work64 work32 work64′ work32′) (sym (t .1)) e);
     }
 
-    module _ (ok : refusal P (length work64) (length work32) nf ≡ 0) (h : x < nblocks P) {work64′ work32′ : List ℕ} {s : Sizes} (es : s ≡ sizes-of P) {k : Ready} where
-      by-look : (o : MaybeLook) → Seen P work64 work32 work64′ work32′ x o → taken o s k → SetOut P x nf work64 work32 work64′ work32′ k
-      by-look (Is l) z t = record {
-        ended = λ f. clash f (t .0);
-        goes = λ f. record { accepted = ok; is-block = h; sizes-are = t .2 ∙ es; trying = subst (Trying P work64 work32 work64′ work32′ x) (sym (t .1)) (z .is) };
-      }
-      by-look Not z t = out-set t record { number-is = number-as ok h (z .is); out-is = out-as ok h (z .is); left = left-as ok h (z .is) }
+    module _ (ok : refusal P (length work64) (length work32) nf ≡ 0) (h : x < nblocks P) {work64′ work32′ : List ℕ} {s : Sizes} (es : s ≡ sizes-of P) where
+      by-look : (o : MaybeLook) → Seen P work64 work32 work64′ work32′ x o → SetOut P x nf work64 work32 work64′ work32′ (record { next = o; number = 0; sizes = s })
+      by-look (Is l) z = record { is = record { accepted = ok; is-block = h; sizes-are = es; trying = z .is } }
+      by-look Not z = record { is = record { number-is = number-as ok h (z .is); out-is = out-as ok h (z .is); left = left-as ok h (z .is) } }
 
-      pub taken-set : {o : MaybeLook} {y : ℕ} → x ≡ y → Seen P work64 work32 work64′ work32′ y o → Taken o s k → SetOut P x nf work64 work32 work64′ work32′ k
-      taken-set {o} e z t = by-look o (subst (λ (i : ℕ). Seen P work64 work32 work64′ work32′ i o) (sym e) z) (t .is)
+      pub found-set : {o : MaybeLook} {y : ℕ} → x ≡ y → Seen P work64 work32 work64′ work32′ y o → SetOut P x nf work64 work32 work64′ work32′ (record { next = o; number = 0; sizes = s })
+      found-set {o} e z = by-look o (subst (λ (i : ℕ). Seen P work64 work32 work64′ work32′ i o) (sym e) z)
 
   -- ---- all of it, with the list of records
 
   module _ (work64 work32 : List ℕ) (facts₀ : List Fact) where
-    pub ended-all : {work64′ work32′ : List ℕ} {k : Ready} → SetOut P x (length facts₀) work64 work32 work64′ work32′ k → k .over ≡ true → (out : List ℕ)
+    pub ended-all : {work64′ work32′ : List ℕ} {k : Ready} → SetOut P x (length facts₀) work64 work32 work64′ work32′ k → k .next ≡ Not → (out : List ℕ)
         → (k .number ≡ attempt P (length work64) (length work32) (length facts₀) x) × (out ≡ with-attempt out P (length work64) (length work32) (length facts₀) x)
         × Left P x (length facts₀) work64 work32 work64′ work32′ × Listed P x (length work64) (length work32) facts₀ facts₀
-    ended-all s e out = let z = s .ended e in (z .number-is, z .out-is out, z .left, record { size = refl; kept = λ h. refl })
+    ended-all {work64′} {work32′} {k} s e out = let z : Ended P x (length facts₀) work64 work32 work64′ work32′ (k .number) = subst (stands-at P x (length facts₀) work64 work32 work64′ work32′ k) e (s .is) in (z .number-is, z .out-is out, z .left, record { size = refl; kept = λ h. refl })
 
-    module _ {work64′ work32′ : List ℕ} {k : Ready} (s : SetOut P x (length facts₀) work64 work32 work64′ work32′ k) (e : k .over ≡ false) where
-      pub asked : Following (P .bounds) (P .recs) (P .ops) (P .pairs) (P .targets) (P .replay) (k .sizes) (k .look .x) (k .look .c) work64′ work32′
-      asked = let g = s .goes e in subst (λ (z : Sizes). Following (P .bounds) (P .recs) (P .ops) (P .pairs) (P .targets) (P .replay) z (k .look .x) (k .look .c) work64′ work32′) (sym (g .sizes-are)) (g .trying .following)
+    module _ {work64′ work32′ : List ℕ} {k : Ready} (s : SetOut P x (length facts₀) work64 work32 work64′ work32′ k) {l : Look} (e : k .next ≡ Is l) where
+      goes : Goes P x (length facts₀) work64 work32 work64′ work32′ (k .sizes) l
+      goes = subst (stands-at P x (length facts₀) work64 work32 work64′ work32′ k) e (s .is)
+
+      pub asked : Following (P .bounds) (P .recs) (P .ops) (P .pairs) (P .targets) (P .replay) (k .sizes) (l .x .0) (l .c) work64′ work32′
+      asked = let g = goes in subst (λ (z : Sizes). Following (P .bounds) (P .recs) (P .ops) (P .pairs) (P .targets) (P .replay) z (l .x .0) (l .c) work64′ work32′) (sym (g .sizes-are)) (g .trying .following)
 
       pub many : 800 ≤ length facts₀
-      many = work-room P (length work64) (length work32) (length facts₀) (s .goes e .accepted) .2
+      many = work-room P (length work64) (length work32) (length facts₀) (goes .accepted) .2
 
       pub settled : {work64″ work32″ out′ : List ℕ} {facts″ : List Fact} {n : ℕ} (out : List ℕ) (r : MaybeMove)
-          → Followed (P .bounds) (P .recs) (P .ops) (P .pairs) (P .targets) (P .replay) (k .sizes) (k .look .x) (k .look .c) work64′ work32′ work64″ work32″ r
+          → Followed (P .bounds) (P .recs) (P .ops) (P .pairs) (P .targets) (P .replay) (k .sizes) (l .x .0) (l .c) work64′ work32′ work64″ work32″ r
           → length facts″ ≡ length facts₀ → (n ≡ move-number r) × (out′ ≡ with-move out r)
           → (n ≡ attempt P (length work64) (length work32) (length facts₀) x) × (out′ ≡ with-attempt out P (length work64) (length work32) (length facts₀) x)
           × Left P x (length facts₀) work64 work32 work64″ work32″ × Listed P x (length work64) (length work32) facts₀ facts″
-      settled {work64″} {work32″} out r f l m =
-          let g = s .goes e in
-          let f′ = subst (λ (z : Sizes). Followed (P .bounds) (P .recs) (P .ops) (P .pairs) (P .targets) (P .replay) z (k .look .x) (k .look .c) work64′ work32′ work64″ work32″ r) (g .sizes-are) f in
+      settled {work64″} {work32″} out r f z₀ m =
+          let g = goes in
+          let f′ = subst (λ (z : Sizes). Followed (P .bounds) (P .recs) (P .ops) (P .pairs) (P .targets) (P .replay) z (l .x .0) (l .c) work64′ work32′ work64″ work32″ r) (g .sizes-are) f in
           let z = g .trying .sought r work64″ work32″ f′ in
           let ok = g .accepted in
           let h = g .is-block in
-          (m .0 ∙ number-as (length facts₀) work64 work32 ok h z, m .1 ∙ out-as (length facts₀) work64 work32 ok h z out, left-as (length facts₀) work64 work32 ok h z, record { size = l; kept = λ k. absurd (k ok h) })
+          (m .0 ∙ number-as (length facts₀) work64 work32 ok h z, m .1 ∙ out-as (length facts₀) work64 work32 ok h z out, left-as (length facts₀) work64 work32 ok h z, record { size = z₀; kept = λ k. absurd (k ok h) })

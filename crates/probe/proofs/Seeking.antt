@@ -1,15 +1,16 @@
 -- The search from one block of an accepted picture: what each step asks, and what the last one leaves. Assumes nothing.
-use mathlib.Core.Path.{_≡_, refl, sym, _∙_, subst}
+use mathlib.Core.Path.{_≡_, refl, sym, ap, _∙_, subst}
 use mathlib.Core.List.{List}
 use Prim.Native.Nat.{ℕ, _≤_, _<_}
 use lib.ListN.{length}
 use Rattle.model.specs.Picture.{Picture, nblocks}
 use Rattle.model.specs.Refusal.{records, refusal}
 use Rattle.model.specs.Analyse.{facts}
-use Rattle.chainwords.specs.declared.sizes.Sizes.{Sizes}
+use Rattle.sizes.specs.declared.Sizes.{Sizes}
 use Rattle.trial.specs.declared.block.MaybeMove.{MaybeMove}
 use Rattle.trial.specs.declared.block.MaybeMove.the-variants as tries
-use Rattle.chainwords.specs.Work.{width, Shown, Begun, Held, chain-words}
+use Rattle.sizes.specs.Parts.{width}
+use Rattle.chainwords.specs.Work.{Shown, Begun, Held, chain-words}
 use Rattle.trial.specs.Trial.{tried, Following, Followed}
 use Rattle.worth.specs.Worth.{Chosen}
 use Rattle.search.specs.declared.find.Look.{Look}
@@ -25,8 +26,10 @@ module _ (P : Picture) (work64 work32 : List ℕ) (ok : refusal P (length work64
   pub blocks-few : nblocks P ≤ 4096
   blocks-few = rooms-of P (length work64) (length work32) ok .few-blocks
 
-  pub beginning : Beginning (P .bounds) (P .recs) (P .ops) (P .pairs) (P .targets) work64 work32 (length (P .types)) (length (P .locs)) (P .regs)
-  beginning = record { P = P; accepted = ok; bounds-are = refl; recs-are = refl; ops-are = refl; pairs-are = refl; targets-are = refl; lent-are = refl; insts-are = refl; regs-are = refl }
+module _ (P : Picture) (work64 work32 : List ℕ) (ok : refusal P (length work64) (length work32) records ≡ 0) {s : Sizes} (es : s ≡ sizes-of P) where
+  pub beginning : Beginning (P .bounds) (P .recs) (P .ops) (P .pairs) (P .targets) work64 work32 s
+  beginning = subst (Beginning (P .bounds) (P .recs) (P .ops) (P .pairs) (P .targets) work64 work32) (sym es)
+      (record { P = P; accepted = ok; bounds-are = refl; recs-are = refl; ops-are = refl; pairs-are = refl; targets-are = refl; blocks-are = refl; lent-are = refl; insts-are = refl; regs-are = refl })
 
   shown : Shown P (P .bounds) (P .recs) (P .ops) (P .pairs) (P .targets) (P .replay) (sizes-of P) (length work64) (length work32)
   shown = record {
@@ -35,9 +38,9 @@ module _ (P : Picture) (work64 work32 : List ℕ) (ok : refusal P (length work64
     replay-are = refl;
   }
 
-  module _ {work64′ work32′ : List ℕ} (b : Began (P .bounds) (P .recs) (P .ops) (P .pairs) (P .targets) work64 work32 (length (P .types)) (length (P .locs)) (P .regs) work64′ work32′) where
+  module _ {work64′ work32′ : List ℕ} (b : Began (P .bounds) (P .recs) (P .ops) (P .pairs) (P .targets) work64 work32 s work64′ work32′) where
     begun : Begun P (facts P) work64′ work32′
-    begun = b .begun P ok refl refl refl refl refl refl refl refl
+    begun = b .begun P ok refl refl refl refl refl (ap (λ (z : Sizes). z .lent) (sym es)) (ap (λ (z : Sizes). z .insts) (sym es)) (ap (λ (z : Sizes). z .regs) (sym es))
 
     shown-after : Shown P (P .bounds) (P .recs) (P .ops) (P .pairs) (P .targets) (P .replay) (sizes-of P) (length work64′) (length work32′)
     shown-after = shown-at (b .size64) (b .size32) shown
@@ -45,12 +48,12 @@ module _ (P : Picture) (work64 work32 : List ℕ) (ok : refusal P (length work64
     pub looking : Looking (P .bounds) (P .recs) (P .ops) (P .pairs) (P .targets) (P .replay) (sizes-of P) work64′ work32′
     looking = record { P = P; G = facts P; shown = shown-after; begun = begun }
 
-    pub sees : {s : Sizes} {x : ℕ} → s ≡ sizes-of P → x < nblocks P → Seeking (P .bounds) (P .recs) (P .replay) s work32′ × (x < s .blocks)
-    sees {s} {x} es h = (subst (λ (s : Sizes). Seeking (P .bounds) (P .recs) (P .replay) s work32′) (sym es) (seeking looking), subst (λ (s : Sizes). x < s .blocks) (sym es) h)
+    pub sees : {x : ℕ} → x < nblocks P → Seeking (P .bounds) (P .recs) (P .replay) s work32′ × (x < s .blocks)
+    sees {x} h = (subst (λ (s : Sizes). Seeking (P .bounds) (P .recs) (P .replay) s work32′) (sym es) (seeking looking), subst (λ (s : Sizes). x < s .blocks) (sym es) h)
 
     -- with live-in made: the chain from block x, and what trying it leaves
     module _ {r w : ℕ} {bits : List ℕ} (er : r ≡ P .regs) (ew : w ≡ width r) (n : Anew (P .bounds) (P .recs) (P .ops) (P .pairs) (P .targets) work64′ bits w)
-        {x : ℕ} {o : MaybeLook} {s : Sizes} (es : s ≡ sizes-of P) (l₀ : Looked (P .bounds) (P .recs) (P .replay) s work32′ x o) where
+        {x : ℕ} {o : MaybeLook} (l₀ : Looked (P .bounds) (P .recs) (P .replay) s work32′ x o) where
       l : Looked (P .bounds) (P .recs) (P .replay) (sizes-of P) work32′ x o
       l = subst (λ (s : Sizes). Looked (P .bounds) (P .recs) (P .replay) s work32′ x o) es l₀
 
@@ -69,14 +72,14 @@ module _ (P : Picture) (work64 work32 : List ℕ) (ok : refusal P (length work64
         here : looked P x (Is k)
         here = subst (looked P x) e (l .is P (sees-of shown-after begun))
 
-        chosen : Chosen P (k .x) (k .c)
+        chosen : Chosen P (k .x .0) (k .c)
         chosen = subst (λ (i : ℕ). Chosen P i (k .c)) (sym (here .0)) (here .1)
 
-        following : Following (P .bounds) (P .recs) (P .ops) (P .pairs) (P .targets) (P .replay) (sizes-of P) (k .x) (k .c) bits work32′
+        following : Following (P .bounds) (P .recs) (P .ops) (P .pairs) (P .targets) (P .replay) (sizes-of P) (k .x .0) (k .c) bits work32′
         following = record { given = record { P = P; G = facts P; shown = shown-anew; held = held }; chosen = chosen }
 
         sought-here : {v : MaybeMove} {work64″ work32″ : List ℕ}
-            → Followed (P .bounds) (P .recs) (P .ops) (P .pairs) (P .targets) (P .replay) (sizes-of P) (k .x) (k .c) bits work32′ work64″ work32″ v → Sought P work64 work32 work64″ work32″ x v
+            → Followed (P .bounds) (P .recs) (P .ops) (P .pairs) (P .targets) (P .replay) (sizes-of P) (k .x .0) (k .c) bits work32′ work64″ work32″ v → Sought P work64 work32 work64″ work32″ x v
         sought-here {v} {work64″} {work32″} f = record {
           size64 = f .size64 ∙ n .size ∙ b .size64;
           size32 = f .size32 ∙ b .size32;

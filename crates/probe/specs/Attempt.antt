@@ -13,7 +13,7 @@ use Rattle.model.specs.Analyse.{facts}
 use Rattle.model.specs.Move.{Plan, try-block}
 use Rattle.apply.specs.Apply.{Stands}
 use Rattle.facts.specs.declared.Fact.{Fact}
-use Rattle.chainwords.specs.declared.sizes.Sizes.{Sizes}
+use Rattle.sizes.specs.declared.Sizes.{Sizes}
 use Rattle.trial.specs.declared.block.MaybeMove.{MaybeMove}
 use Rattle.trial.specs.declared.block.MaybeMove.the-variants as tries
 use Rattle.chainwords.specs.Work.{chain-words}
@@ -87,9 +87,9 @@ sizes-of P = record { blocks = nblocks P; insts = length (P .locs); regs = P .re
 
 -- chain k is to be tried, and what that leaves is what the search from block x leaves
 pub record Trying (P : Picture) (work64 work32 work64′ work32′ : List ℕ) (x : ℕ) (k : Look) : Type 0 where
-  pub following : Following (P .bounds) (P .recs) (P .ops) (P .pairs) (P .targets) (P .replay) (sizes-of P) (k .x) (k .c) work64′ work32′
+  pub following : Following (P .bounds) (P .recs) (P .ops) (P .pairs) (P .targets) (P .replay) (sizes-of P) (k .x .0) (k .c) work64′ work32′
   pub sought : (r : MaybeMove) (work64″ work32″ : List ℕ)
-      → Followed (P .bounds) (P .recs) (P .ops) (P .pairs) (P .targets) (P .replay) (sizes-of P) (k .x) (k .c) work64′ work32′ work64″ work32″ r → Sought P work64 work32 work64″ work32″ x r
+      → Followed (P .bounds) (P .recs) (P .ops) (P .pairs) (P .targets) (P .replay) (sizes-of P) (k .x .0) (k .c) work64′ work32′ work64″ work32″ r → Sought P work64 work32 work64″ work32″ x r
 
 -- the chain from block x, or it has no move
 abbrev pub to-try : Picture → List ℕ → List ℕ → List ℕ → List ℕ → ℕ → MaybeLook → Type 0
@@ -101,28 +101,23 @@ pub record Seen (P : Picture) (work64 work32 work64′ work32′ : List ℕ) (x 
   pub size32 : length work32′ ≡ length work32
   pub is : to-try P work64 work32 work64′ work32′ x o
 
--- what is made of it
-abbrev pub taken : MaybeLook → Sizes → Ready → Type 0
-taken (Is k) s q = (q .over ≡ false) × (q .look ≡ k) × (q .sizes ≡ s)
-taken Not s q = (q .over ≡ true) × (q .number ≡ 0)
-
-pub record Taken (o : MaybeLook) (s : Sizes) (q : Ready) : Type 0 where
-  pub is : taken o s q
-
 -- nothing is to be tried, and the answer is n
 pub record Ended (P : Picture) (x nf : ℕ) (work64 work32 work64′ work32′ : List ℕ) (n : ℕ) : Type 0 where
   pub number-is : n ≡ attempt P (length work64) (length work32) nf x
   pub out-is : (out : List ℕ) → out ≡ with-attempt out P (length work64) (length work32) nf x
   pub left : Left P x nf work64 work32 work64′ work32′
 
--- a chain is
-pub record Goes (P : Picture) (x nf : ℕ) (work64 work32 work64′ work32′ : List ℕ) (k : Ready) : Type 0 where
+-- chain l is
+pub record Goes (P : Picture) (x nf : ℕ) (work64 work32 work64′ work32′ : List ℕ) (s : Sizes) (l : Look) : Type 0 where
   pub accepted : refusal P (length work64) (length work32) nf ≡ 0
   pub is-block : x < nblocks P
-  pub sizes-are : k .sizes ≡ sizes-of P
-  pub trying : Trying P work64 work32 work64′ work32′ x (k .look)
+  pub sizes-are : s ≡ sizes-of P
+  pub trying : Trying P work64 work32 work64′ work32′ x l
 
 -- with so many records lent, where the search from block x stands
+abbrev pub stands-at : Picture → ℕ → ℕ → List ℕ → List ℕ → List ℕ → List ℕ → Ready → MaybeLook → Type 0
+stands-at P x nf work64 work32 work64′ work32′ k (Is l) = Goes P x nf work64 work32 work64′ work32′ (k .sizes) l
+stands-at P x nf work64 work32 work64′ work32′ k Not = Ended P x nf work64 work32 work64′ work32′ (k .number)
+
 pub record SetOut (P : Picture) (x nf : ℕ) (work64 work32 work64′ work32′ : List ℕ) (k : Ready) : Type 0 where
-  pub ended : k .over ≡ true → Ended P x nf work64 work32 work64′ work32′ (k .number)
-  pub goes : k .over ≡ false → Goes P x nf work64 work32 work64′ work32′ k
+  pub is : stands-at P x nf work64 work32 work64′ work32′ k (k .next)

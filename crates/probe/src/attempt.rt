@@ -1,7 +1,5 @@
 // The search from one block of a picture as lent (01, "A round"), with what it leaves: the facts along the chain in the lent list, and of
 // a move the chain's words.
-use chainwords::sizes::Sizes;
-use chainwords::sizes::width;
 use facts::Fact;
 use flow::live::live_in;
 use inst::index::BlockId;
@@ -9,29 +7,28 @@ use inst::index::MaybeBlock;
 use inst::table::table;
 use picture::refusal;
 use search::begin::begin;
-use search::find::Look;
 use search::find::MaybeLook;
 use search::find::look_from;
-use search::find::nowhere;
+use sizes::Sizes;
+use sizes::width;
 use trial::block::MaybeMove;
 use trial::block::try_chain;
 use words::numbers::wide;
 ghost use mathlib.Core.Path.{_≡_};
-ghost use mathlib.Core.Bool.{true};
 ghost use Prim.Native.Nat.{_<_};
 ghost use lib.ListN.{length};
 ghost use Rattle.model.specs.Picture.{nblocks};
 ghost use Rattle.model.specs.Refusal.{records, refusal};
 ghost use Rattle.checks.specs.Causes.{picture-of};
+ghost use Rattle.search.specs.declared.find.MaybeLook.the-variants.{Not};
 ghost use Rattle.inst.specs.Table.{rows};
 ghost use Rattle.probe.specs.Heads.{with-four};
-ghost use Rattle.probe.specs.Attempt.{move-number, with-move, attempt, with-attempt, sizes-of, Seen, Taken, SetOut, Left, Listed};
+ghost use Rattle.probe.specs.Attempt.{move-number, with-move, attempt, with-attempt, sizes-of, Seen, SetOut, Left, Listed};
 
-// Whether all is over, since there is no chain to be tried, and the answer then; which chain, with the picture's sizes.
+// The chain to be tried, if there is one; the answer where there is none; the picture's sizes.
 pub struct Ready {
-    pub over: bool,
+    pub next: MaybeLook,
     pub number: u32,
-    pub look: Look,
     pub sizes: Sizes,
 }
 
@@ -61,7 +58,7 @@ fn put_move(out: &mut [usize], r: MaybeMove) -> u32
 
 // There is no chain to be tried.
 fn without(n: u32) -> Ready
-    ensures { λ r. ⌜ (r .over ≡ true) × (r .number ≡ n) ⌝ }
+    ensures { λ r. ⌜ (r .next ≡ Not) × (r .number ≡ n) ⌝ }
 {
     let s = Sizes {
         blocks: 0,
@@ -70,24 +67,8 @@ fn without(n: u32) -> Ready
         lent: 0,
     };
     Ready {
-        over: true,
+        next: MaybeLook::Not,
         number: n,
-        look: nowhere(),
-        sizes: s,
-    }
-}
-
-// With the chain that was found, if there is one.
-fn take(r: MaybeLook, s: Sizes) -> Ready
-    ensures { λ q. ⌜ Taken r s q ⌝ }
-{
-    let MaybeLook::Is(k) = r else {
-        return without(0);
-    };
-    Ready {
-        over: false,
-        number: 0,
-        look: k,
         sizes: s,
     }
 }
@@ -123,9 +104,7 @@ fn seek<'a>(
         targets,
         work64,
         work32,
-        types.len(),
-        locs.len(),
-        registers,
+        s,
     );
     let w = width(wide(registers));
     live_in(work64, t, bounds, recs, ops, pairs, targets, w);
@@ -201,7 +180,11 @@ fn set_out<'a>(
         s,
         b,
     );
-    take(r, s)
+    Ready {
+        next: r,
+        number: 0,
+        sizes: s,
+    }
 }
 
 // 1 if block x has a move, 0 if not; 200 and the number of a refusal; 300 where x is no block. Of a move, at the head of `out`, if it
@@ -251,9 +234,9 @@ pub extern "C" fn virdzeba_try<'a>(
         facts.len(),
         x,
     );
-    if k.over {
+    let MaybeLook::Is(l) = k.next else {
         return k.number;
-    }
+    };
     let r = try_chain(
         &t,
         bounds,
@@ -266,8 +249,8 @@ pub extern "C" fn virdzeba_try<'a>(
         work32,
         facts,
         k.sizes,
-        k.look.x,
-        k.look.c,
+        l.x,
+        l.c,
     );
     put_move(out, r)
 }

@@ -10,7 +10,7 @@ use Rattle.inst.proofs.Indices.{is-block, not-block}
 use Rattle.probe.proofs.Given.{none}
 use Rattle.probe.proofs.Numbers.{refusal-low}
 use Rattle.probe.proofs.Seeking.{blocks-few}
-use Rattle.probe.proofs.Attempts.{refused, no-block, out-set, taken-set}
+use Rattle.probe.proofs.Attempts.{refused, no-block, out-set, found-set}
 use borrow.Author.Needs.{needs}
 use Rattle.probe.proofs.attempt.set_out.Statement.{statement}
 use Rattle.probe.proofs.attempt.set_out.Tie as tie
@@ -19,7 +19,6 @@ use Rattle.probe.proofs.attempt.set_out.Lts as lts
 use Rattle.inst.proofs.index.BlockId.new.Reads as new-reads
 use Rattle.picture.proofs.refusal.Reads as refusal-reads
 use Rattle.probe.proofs.attempt.seek.Reads as seek-reads
-use Rattle.probe.proofs.attempt.take.Reads as take-reads
 use Rattle.probe.proofs.attempt.without.Reads as without-reads
 
 refusal-requires : tie.Need-refusal-requires
@@ -55,17 +54,14 @@ returns-2 c = let a = c .before .before .before .before .before .before .before 
 seek-requires : tie.Need-seek-requires
 seek-requires c κs = let a = c .before .before .before .before .before .before .before .before .before .before .before .before .before .before .before .before .before .before .before .args in let P = (picture-of (a .bounds .now) (a .recs .now) (a .locs .now) (a .vias .now) (a .types .now) (a .registers) (a .ops .now) (a .operands) (a .pairs .now) (a .targets .now) (a .replay .now)) in let z = none P (length (a .work64 .now)) (length (a .work32 .now)) (a .lent) (c .before .before .before .before .before .before .before .refusal .ensures) (c .before .before .before .before .before .before .if1 .left) in let i = is-block (a .x) (nblocks P) _ (sym (c .before .before .before .before .before .new .ensures) ∙ c .before .before .before .b .given .1) in (c .before .before .before .before .before .before .before .before .before .before .before .before .before .before .before .before .before .before .before .pre, needed-records P (length (a .work64 .now)) (length (a .work32 .now)) (a .lent) z, subst (λ (k : ℕ). k < nblocks P) (i .0) (i .1), refl)
 
-take-requires : tie.Need-take-requires
-take-requires c κs = search needs
-
 same-length : tie.Need-same-length
-same-length c = c .before .before .before .before .work64 .given
+same-length c = c .before .before .before .work64 .given
 
 same-length-2 : tie.Need-same-length-2
-same-length-2 c = c .before .before .work32 .given
+same-length-2 c = c .before .work32 .given
 
 returns-3 : tie.Need-returns-3
-returns-3 c = let a = c .before .before .before .before .before .before .before .before .before .before .before .before .before .before .before .before .before .before .before .before .before .before .before .before .before .args in let P = (picture-of (a .bounds .now) (a .recs .now) (a .locs .now) (a .vias .now) (a .types .now) (a .registers) (a .ops .now) (a .operands) (a .pairs .now) (a .targets .now) (a .replay .now)) in let z = none P (length (a .work64 .now)) (length (a .work32 .now)) (a .lent) (c .before .before .before .before .before .before .before .before .before .before .before .before .before .refusal .ensures) (c .before .before .before .before .before .before .before .before .before .before .before .before .if1 .left) in let i = is-block (a .x) (nblocks P) _ (sym (c .before .before .before .before .before .before .before .before .before .before .before .new .ensures) ∙ c .before .before .before .before .before .before .before .before .before .b .given .1) in taken-set P (a .x) (a .lent) (a .work64 .now) (a .work32 .now) z (i .1) refl (i .0) (c .before .before .before .before .before .seek .ensures) (c .take .ensures)
+returns-3 c = let a = c .before .before .before .before .before .before .before .before .before .before .before .before .before .before .before .before .before .before .before .before .before .before .before .before .args in let P = (picture-of (a .bounds .now) (a .recs .now) (a .locs .now) (a .vias .now) (a .types .now) (a .registers) (a .ops .now) (a .operands) (a .pairs .now) (a .targets .now) (a .replay .now)) in let z = none P (length (a .work64 .now)) (length (a .work32 .now)) (a .lent) (c .before .before .before .before .before .before .before .before .before .before .before .before .refusal .ensures) (c .before .before .before .before .before .before .before .before .before .before .before .if1 .left) in let i = is-block (a .x) (nblocks P) _ (sym (c .before .before .before .before .before .before .before .before .before .before .new .ensures) ∙ c .before .before .before .before .before .before .before .before .b .given .1) in found-set P (a .x) (a .lent) (a .work64 .now) (a .work32 .now) z (i .1) refl (i .0) (c .before .before .before .before .seek .ensures)
 
 pub set-out-spec : {M : Type 1} → statement M
 set-out-spec =
@@ -82,7 +78,6 @@ set-out-spec =
     without-requires-2
     returns-2
     seek-requires
-    take-requires
     same-length
     same-length-2
     returns-3)
