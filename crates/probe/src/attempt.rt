@@ -95,17 +95,7 @@ fn seek<'a>(
     requires { ⌜ (let P = picture-of (now bounds) (now recs) (now locs) (now vias) (now types) registers (now ops) operands (now pairs) (now targets) (now replay) in (now t ≡ rows) × (refusal P (length (now work64)) (length (now work32)) records ≡ 0) × (x .0 < nblocks P) × (s ≡ sizes-of P)) ⌝ }
     ensures { λ r. ⌜ Seen (picture-of (now (bounds .entry)) (now (recs .entry)) (now (locs .entry)) (now (vias .entry)) (now (types .entry)) registers (now (ops .entry)) operands (now (pairs .entry)) (now (targets .entry)) (now (replay .entry))) (now (work64 .entry)) (now (work32 .entry)) (now (work64 .exit)) (now (work32 .exit)) (x .0) r ⌝ }
 {
-    begin(
-        t,
-        bounds,
-        recs,
-        ops,
-        pairs,
-        targets,
-        work64,
-        work32,
-        s,
-    );
+    begin(t, bounds, recs, ops, pairs, targets, work64, work32, s);
     let w = width(wide(registers));
     live_in(work64, t, bounds, recs, ops, pairs, targets, w);
     look_from(bounds, recs, replay, work32, s, x)

@@ -5,6 +5,7 @@ use Prim.Native.Nat.{ℕ, _*_, _/_, _≤_, _<_}
 use native.Mathlib.Nat.{le-of-eq}
 use native.Mathlib.Omega.{arith}
 use lib.ListN.{length, drop}
+use Rattle.words.specs.Bits.{width}
 use Rattle.model.specs.Picture.{Picture, nblocks}
 use Rattle.model.specs.Refusal.{records}
 use Rattle.model.specs.Analyse.{Facts}
@@ -51,22 +52,23 @@ sees-of {P} {work64 = work64} sh b = record {
 }
 
 -- what finding live-in leaves
-pub record Anew (bounds recs ops pairs targets work64 bits : List ℕ) (w : ℕ) : Type 0 where
+pub record Anew (bounds recs pairs targets work64 bits : List ℕ) (w : ℕ) : Type 0 where
   pub size : length bits ≡ length work64
-  pub live : Live (drawn bounds recs ops pairs targets) w bits
+  pub live : (ops : List ℕ) → ((b : ℕ) → b < length bounds / 2 → Rows (drawn bounds recs ops pairs targets) w b work64) → Live (drawn bounds recs ops pairs targets) w bits
   pub behind : drop (length bounds / 2 * w) bits ≡ drop (length bounds / 2 * w) work64
 
-module _ {bounds recs ops pairs targets replay : List ℕ} {s : Sizes} {work64 work32 bits : List ℕ} {r w : ℕ}
-    (er : r ≡ s .regs) (ew : w ≡ width r) (n : Anew bounds recs ops pairs targets work64 bits w) where
+module _ {bounds recs ops pairs targets replay : List ℕ} {s : Sizes} {work64 work32 bits : List ℕ} {r : ℕ}
+    (er : r ≡ s .regs) (n : Anew bounds recs pairs targets work64 bits (width r)) where
   pub held-anew : (P : Picture) (G : Facts) → Shown P bounds recs ops pairs targets replay s (length work64) (length work32) → Begun P G work64 work32 → Held P G bits work32
   held-anew P G sh b =
       let l = sh .lists in
       let d = drawn-is P (l .bounds-are) (l .recs-are) (l .ops-are) (sh .tabled .pairs-are) (sh .tabled .targets-are) in
-      let wide : w ≡ width (P .regs) = ew ∙ ap width (er ∙ l .regs-are) in
-      let rows : length bounds / 2 * w ≡ nblocks P * width (P .regs) = ap₂ (λ (k : List ℕ) (v : ℕ). length k / 2 * v) (l .bounds-are) wide in
+      let wide : width r ≡ width (P .regs) = ap width (er ∙ l .regs-are) in
+      let rows : length bounds / 2 * width r ≡ nblocks P * width (P .regs) = ap₂ (λ (k : List ℕ) (v : ℕ). length k / 2 * v) (l .bounds-are) wide in
+      let stood : (c : ℕ) → c < length bounds / 2 → Rows (drawn bounds recs ops pairs targets) (width r) c work64 = λ c h. rows-for P (l .bounds-are) (l .recs-are) (l .ops-are) wide work64 pairs targets (b .rows c (subst (λ (z : List ℕ). c < length z / 2) (l .bounds-are) h)) in
       record {
-        begun = begun-kept (firm-back P (accepted P (length work64) (length work32) records (l .accepted)) (length bounds / 2 * w) work64 bits (le-of-eq rows) (n .behind)) refl b;
-        live = subst (λ (v : ℕ). Live P v bits) wide (live-rows-whole P w bits (subst (λ (Q : Picture). Live Q w bits) d (n .live)));
+        begun = begun-kept (firm-back P (accepted P (length work64) (length work32) records (l .accepted)) (length bounds / 2 * width r) work64 bits (le-of-eq rows) (n .behind)) refl b;
+        live = subst (λ (v : ℕ). Live P v bits) wide (live-rows-whole P (width r) bits (subst (λ (Q : Picture). Live Q (width r) bits) d (n .live ops stood)));
       }
 
   pub opened : {o : MaybeLook} → Sought bounds recs replay s work32 0 o → Opened bounds recs ops pairs targets replay s work64 work32 bits o
@@ -76,19 +78,16 @@ module _ {bounds recs ops pairs targets replay : List ℕ} {s : Sizes} {work64 w
   good : Accepted (k .P)
   good = accepted (k .P) (length work64) (length work32) records (k .shown .lists .accepted)
 
-  pub regs-few : s .regs ≤ 65536
+  regs-few : s .regs ≤ 65536
   regs-few = let e = k .shown .lists .regs-are in let a = S.regs-lent (k .P) good in let b = S.few-types (k .P) good in omega arith
 
-  pub live-ask : (r w : ℕ) → r ≡ s .regs → w ≡ width r
-      → Graph bounds recs pairs targets × RowRoom (length bounds / 2) w work64 × ((b : ℕ) → b < length bounds / 2 → Rows (drawn bounds recs ops pairs targets) w b work64)
-  live-ask r w er ew =
+  pub live-ask : (r : ℕ) → r ≡ s .regs → Graph bounds recs pairs targets × RowRoom (length bounds / 2) (width r) work64 × (r ≤ 65536)
+  live-ask r er =
       let l = k .shown .lists in
-      let t = k .shown .tabled in
-      let P = k .P in
-      let wide : w ≡ width (P .regs) = ew ∙ ap width (er ∙ l .regs-are) in (
-        graph-at P good (l .bounds-are) (l .recs-are) (t .pairs-are) (t .targets-are),
-        rows-asked P (length work32) work64 (l .accepted) (l .bounds-are) (l .recs-are) (l .ops-are) wide .3,
-        λ b h. rows-for P (l .bounds-are) (l .recs-are) (l .ops-are) wide work64 pairs targets (k .begun .rows b (subst (λ (z : List ℕ). b < length z / 2) (l .bounds-are) h)),
+      let t = k .shown .tabled in (
+        graph-at (k .P) good (l .bounds-are) (l .recs-are) (t .pairs-are) (t .targets-are),
+        rows-asked (k .P) (length work32) work64 (l .accepted) (l .bounds-are) (l .recs-are) (l .ops-are) (er ∙ l .regs-are) .2,
+        omega (arith, regs-few),
       )
 
   pub seeking : Seeking bounds recs replay s work32

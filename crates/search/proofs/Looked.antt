@@ -158,10 +158,9 @@ module _ {bounds recs replay : List ℕ} {s : Sizes} {work32 : List ℕ} (g : Se
   pub bounds-order : (x k : ℕ) → k ≡ x → x < s .blocks → getD bounds (2 * k) 0 ≤ getD bounds (2 * k + 1) 0
   bounds-order x k e h = pairs-ask .order k (omega arith)
 
-  pub worth-asks : (x k : ℕ) {r : MaybeChain} {c : Chain} → k ≡ x → x < s .blocks → sound-of r (s .blocks) → r ≡ IsChain c
-      → Sound c (s .blocks) × Pairs bounds (s .blocks) × (k < s .blocks) × (16 * end-past bounds k ≤ length recs)
-  worth-asks x k e h u f =
-      (subst (λ (y : MaybeChain). sound-of y (s .blocks)) f u, pairs-ask, omega arith, chain-asks .block k (omega arith) .whole)
+  pub worth-asks : (x : ℕ) {r : MaybeChain} {c : Chain} → x < s .blocks → sound-of r (s .blocks) → r ≡ IsChain c
+      → Sound c (s .blocks) × Pairs bounds (s .blocks) × (x < s .blocks) × (16 * end-past bounds x ≤ length recs)
+  worth-asks x h u f = (subst (λ (y : MaybeChain). sound-of y (s .blocks)) f u, pairs-ask, h, chain-asks .block x h .whole)
 
 -- what the chain search answers
 abbrev Chains : List ℕ → List ℕ → Sizes → List ℕ → ℕ → MaybeChain → Type 0
@@ -187,13 +186,13 @@ module _ {bounds recs replay : List ℕ} {s : Sizes} {work32 : List ℕ} (x k : 
   unfolding chain-of ended
   this-chain P v f e = sym (chain-is P v f) ∙ ap chain-of e
 
-  worth-is : {c : Chain} {b : Bool} (P : Picture) → Sees P bounds recs replay s work32 → Worth bounds recs replay c k b → b ≡ worth-a-look P x (chain-in c)
-  worth-is {c} P v w = w .is P (sym (v .shown .lists .bounds-are)) (sym (v .shown .lists .recs-are)) (sym (v .shown .replay-are)) ∙ ap (λ (y : ℕ). worth-a-look P y (chain-in c)) ek
+  worth-is : {c : Chain} {b : Bool} (P : Picture) → Sees P bounds recs replay s work32 → Worth bounds recs replay c x b → b ≡ worth-a-look P x (chain-in c)
+  worth-is {c} P v w = w .is P (sym (v .shown .lists .bounds-are)) (sym (v .shown .lists .recs-are)) (sym (v .shown .replay-are))
 
-  pub looked-low : {r : MaybeChain} {c : Chain} {b : Bool} → Chains bounds recs s work32 x r → r ≡ IsChain c → Worth bounds recs replay c k b → b ≡ false → Looked bounds recs replay s work32 x Not
+  pub looked-low : {r : MaybeChain} {c : Chain} {b : Bool} → Chains bounds recs s work32 x r → r ≡ IsChain c → Worth bounds recs replay c x b → b ≡ false → Looked bounds recs replay s work32 x Not
   looked-low {r} {c} f e w z = record { is = λ P v G. not-worth P G x (chain-in c) (this-chain P v f e) (sym (worth-is P v w) ∙ z) }
 
-  pub looked-here : {r : MaybeChain} {c : Chain} {b : Bool} {y : BlockId} → y .0 ≡ x → x < s .blocks → Chains bounds recs s work32 x r → r ≡ IsChain c → Worth bounds recs replay c k b → b ≡ true
+  pub looked-here : {r : MaybeChain} {c : Chain} {b : Bool} {y : BlockId} → y .0 ≡ x → x < s .blocks → Chains bounds recs s work32 x r → r ≡ IsChain c → Worth bounds recs replay c x b → b ≡ true
       → Looked bounds recs replay s work32 x (Is (record { x = y; c = c }))
   looked-here {r} {c} {b} {y} ey h f e w z = record {
     is = λ P v. (

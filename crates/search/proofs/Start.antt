@@ -9,6 +9,7 @@ use borrow.Author.Tests.{ne-eqb}
 use borrow.Rule.Slice.PartMut.{putMid, mid-len, same-len-mid, take-put}
 use lib.Dec.{eqb}
 use lib.ListN.{length, take, drop, length-map}
+use Rattle.words.specs.Bits.{width}
 use Rattle.words.specs.Lists.{upto}
 use Rattle.words.proofs.Lists.{length-range, front-same}
 use Rattle.words.proofs.Parts.{put-part}
@@ -19,11 +20,11 @@ use Rattle.laws.proofs.Accepted.{Accepted, accepted, work-room}
 use Rattle.laws.proofs.Sizes as S
 use Rattle.cfg.specs.Drawn.{drawn}
 use Rattle.cfg.specs.Graph.{Blocks, Graph}
-use Rattle.defuse.specs.Sets.{Code, Below}
+use Rattle.defuse.specs.Sets.{Code}
 use Rattle.flow.specs.Live.{RowRoom, Rows}
 use Rattle.cfg.specs.Preds as F
 use Rattle.cfg.specs.Preds.{many, first}
-use Rattle.flow.proofs.Accepted.{blocks-given, graph-given, code-given, below-given}
+use Rattle.flow.proofs.Accepted.{blocks-given, graph-given, code-given}
 use Rattle.flow.proofs.Standing.{rows-same}
 use Rattle.flow.proofs.Whole.{preds-whole}
 use Rattle.chains.specs.Chain as C
@@ -99,19 +100,19 @@ preds-at P {bounds} {recs} {pairs} {targets} {words} e f g h z =
 
 -- ---- the rows
 
--- what `flow` asks to make rows of w words
+-- what `flow` asks to make rows of R registers
 abbrev pub RowsAsk : List ℕ → List ℕ → List ℕ → ℕ → List ℕ → Type 0
-RowsAsk bounds recs ops w bits = Blocks bounds recs × Code recs ops × Below recs ops (64 * w) × RowRoom (length bounds / 2) w bits
+RowsAsk bounds recs ops R bits = Blocks bounds recs × Code recs ops R × RowRoom (length bounds / 2) (width R) bits
 
-pub rows-asked : (P : Picture) (w32 : ℕ) {bounds recs ops : List ℕ} {w : ℕ} (bits : List ℕ) → refusal P (length bits) w32 records ≡ 0 → bounds ≡ P .bounds → recs ≡ P .recs → ops ≡ P .ops → w ≡ width (P .regs)
-    → RowsAsk bounds recs ops w bits
-rows-asked P w32 {bounds} {recs} {ops} {w} bits r eb er eo ew =
+pub rows-asked : (P : Picture) (w32 : ℕ) {bounds recs ops : List ℕ} {R : ℕ} (bits : List ℕ) → refusal P (length bits) w32 records ≡ 0 → bounds ≡ P .bounds → recs ≡ P .recs → ops ≡ P .ops → R ≡ P .regs
+    → RowsAsk bounds recs ops R bits
+rows-asked P w32 {bounds} {recs} {ops} {R} bits r eb er eo eR =
     let ok = accepted P (length bits) w32 records r in
-    subst (λ (l : List ℕ). RowsAsk l recs ops w bits) (sym eb)
-    (subst (λ (l : List ℕ). RowsAsk (P .bounds) l ops w bits) (sym er)
-    (subst (λ (l : List ℕ). RowsAsk (P .bounds) (P .recs) l w bits) (sym eo)
-    (subst (λ (v : ℕ). RowsAsk (P .bounds) (P .recs) (P .ops) v bits) (sym ew)
-    (blocks-given P ok, code-given P ok, below-given P ok (width (P .regs)) (omega arith), record { fits = rows-room P (length bits) w32 r }))))
+    subst (λ (l : List ℕ). RowsAsk l recs ops R bits) (sym eb)
+    (subst (λ (l : List ℕ). RowsAsk (P .bounds) l ops R bits) (sym er)
+    (subst (λ (l : List ℕ). RowsAsk (P .bounds) (P .recs) l R bits) (sym eo)
+    (subst (λ (v : ℕ). RowsAsk (P .bounds) (P .recs) (P .ops) v bits) (sym eR)
+    (blocks-given P ok, code-given P ok, record { fits = rows-room P (length bits) w32 r }))))
 
 -- rows stay where words from at-regs on are written
 rows-stay : (P : Picture) → Accepted P → (xs ys : List ℕ) → take (at-regs P) ys ≡ take (at-regs P) xs → (b : ℕ) → b < nblocks P → Rows P (width (P .regs)) b xs → Rows P (width (P .regs)) b ys
@@ -154,12 +155,9 @@ module _ {bounds recs ops pairs targets work64 work32 : List ℕ} {s : Sizes} (k
   pub regs-room : {a : ℕ} → a ≡ regs-at s → a + 2 * lent ≤ length work64
   regs-room e = let f = start-at e in let r = rooms .room64 in omega arith
 
-  pub regs-few : regs ≤ 65536
-  regs-few = let e = k .regs-are in let a = S.regs-lent (k .P) good in let b = S.few-types (k .P) good in omega arith
-
   -- `all_rows`
-  pub rows-ask : (r w : ℕ) → r ≡ regs → w ≡ width r → RowsAsk bounds recs ops w work64
-  rows-ask r w er ew = rows-asked (k .P) (length work32) work64 (k .accepted) (k .bounds-are) (k .recs-are) (k .ops-are) (ew ∙ ap width (er ∙ k .regs-are))
+  pub rows-ask : (r : ℕ) → r ≡ regs → RowsAsk bounds recs ops r work64
+  rows-ask r er = rows-asked (k .P) (length work32) work64 (k .accepted) (k .bounds-are) (k .recs-are) (k .ops-are) (er ∙ k .regs-are)
 
   pub preds-ask : (p : ℕ) → p ≡ 8000 + lent → Graph bounds recs pairs targets × (2 * (length bounds / 2) ≤ length (take (p + 2 * (length bounds / 2) - p) (drop p work32)))
   preds-ask p e = (
@@ -180,11 +178,11 @@ module _ {bounds recs ops pairs targets work64 work32 : List ℕ} {s : Sizes} (k
           (subst (λ (l : List ℕ). Fits l (length (k .P .types)) p) (sym (k .recs-are)) (fits-given (k .P) good p (omega (arith, k .insts-are)))),
     )
 
-    pub began : (a p r w : ℕ) (ys zs : List ℕ) → a ≡ 4 * (length bounds / 2) * width lent → p ≡ 8000 + lent → r ≡ regs → w ≡ width r
-        → ((b : ℕ) → b < length bounds / 2 → Rows (drawn bounds recs ops [] []) w b mid) → Found recs insts (length (take (a + lent - a) (drop a mid))) ys
+    pub began : (a p r : ℕ) (ys zs : List ℕ) → a ≡ 4 * (length bounds / 2) * width lent → p ≡ 8000 + lent → r ≡ regs
+        → ((b : ℕ) → b < length bounds / 2 → Rows (drawn bounds recs ops [] []) (width r) b mid) → Found recs insts (length (take (a + lent - a) (drop a mid))) ys
         → length zs ≡ length (take (p + 2 * (length bounds / 2) - p) (drop p work32)) → F.Preds (drawn bounds recs [] pairs targets) zs
         → Began bounds recs ops pairs targets work64 work32 s (putMid a (a + lent - a) mid ys) (putMid p (p + 2 * (length bounds / 2) - p) work32 zs)
-    began a p r w ys zs e f er ew each found long told = record {
+    began a p r ys zs e f er each found long told = record {
       size64 = same-len-mid a (a + lent - a) mid ys (found .size) ∙ same;
       size32 = same-len-mid p (p + 2 * (length bounds / 2) - p) work32 zs long;
       begun = λ P z eb ec eo ep et el ei eg.
@@ -212,6 +210,6 @@ module _ {bounds recs ops pairs targets work64 work32 : List ℕ} {s : Sizes} (k
             preds = subst (λ (ws : List ℕ). C.Preds P ws (nblocks P)) (sym x) (preds-from P (preds-at P eb ec ep et told));
             rows = λ b h.
                 rows-stay P ok mid (putMid a (a + lent - a) mid ys) before b h
-                (rows-of P (sym eb) (sym ec) (sym eo) (ew ∙ ap width (er ∙ sym eg)) mid (each b (subst (λ (n : ℕ). b < n) blocks h)));
+                (rows-of P (sym eb) (sym ec) (sym eo) (ap width (er ∙ sym eg)) mid (each b (subst (λ (n : ℕ). b < n) blocks h)));
           };
     }

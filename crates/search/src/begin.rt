@@ -7,7 +7,6 @@ use regfacts::flags::find_facts;
 use sizes::Sizes;
 use sizes::at_preds;
 use sizes::at_regs;
-use words::bits::width;
 use words::numbers::wide;
 ghost use mathlib.Core.Path.{_≡_};
 ghost use Rattle.inst.specs.Table.{rows};
@@ -30,7 +29,7 @@ pub fn begin<'a>(
     let b = bounds.len() / 2;
     let a = at_regs(s);
     let p = at_preds(s);
-    all_rows(work64, t, bounds, recs, ops, width(wide(s.regs)));
+    all_rows(work64, t, bounds, recs, ops, wide(s.regs));
     find_facts(t, recs, &mut work64[a..a + s.lent], s.insts);
     find_preds(&mut work32[p..p + 2 * b], t, bounds, recs, pairs, targets);
 }

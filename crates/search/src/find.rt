@@ -48,7 +48,7 @@ pub fn look_from(
     let MaybeChain::Is(c) = find_chain(bounds, recs, &work32[p..], x, s.blocks) else {
         return MaybeLook::Not;
     };
-    if !worth_a_look(bounds, recs, replay, c, k, s.blocks) {
+    if !worth_a_look(bounds, recs, replay, c, x, s.blocks) {
         return MaybeLook::Not;
     }
     MaybeLook::Is(Look { x: x, c: c })
@@ -97,15 +97,6 @@ pub fn first_look<'a>(
     requires { ⌜ (now t ≡ rows) × Looking (now bounds) (now recs) (now ops) (now pairs) (now targets) (now replay) s (now work64) (now work32) ⌝ }
     ensures { λ r. ⌜ Opened (now (bounds .entry)) (now (recs .entry)) (now (ops .entry)) (now (pairs .entry)) (now (targets .entry)) (now (replay .entry)) s (now (work64 .entry)) (now (work32 .entry)) (now (work64 .exit)) r ⌝ }
 {
-    live_in(
-        work64,
-        t,
-        bounds,
-        recs,
-        ops,
-        pairs,
-        targets,
-        width(wide(s.regs)),
-    );
+    live_in(work64, t, bounds, recs, pairs, targets, wide(s.regs));
     seek(bounds, recs, replay, work32, s, 0)
 }

@@ -65,7 +65,7 @@ returns-2 : tie.Need-returns-2
 returns-2 c = looked-none _ _ (c .before .before .before .before .before .before .before .before .at .ensures) (chains-at (c .before .before .before .before .before .before .before .before .before .before .before .before .before .args .s) (c .before .before .before .before .before .before .before .before .before .before .before .before .before .args .work32 .now) (c .before .before .before .before .at-preds .ensures) (c .before .before .find-chain .ensures)) (c .enum-told .given .1)
 
 worth-a-look-requires : tie.Need-worth-a-look-requires
-worth-a-look-requires c κs = let p = c .before .before .before .before .before .before .before .before .before .before .before .before .before .before .pre in worth-asks (p .0) _ _ (c .before .before .before .before .before .before .before .before .before .at .ensures) (p .1) (c .before .before .before .find-chain .ensures .sound) (c .before .c .given .1)
+worth-a-look-requires c κs = let p = c .before .before .before .before .before .before .before .before .before .before .before .before .before .before .pre in worth-asks (p .0) _ (p .1) (c .before .before .before .find-chain .ensures .sound) (c .before .c .given .1)
 
 returns-3 : tie.Need-returns-3
 returns-3 c = looked-low _ _ (c .before .before .before .before .before .before .before .before .before .before .before .at .ensures) (chains-at (c .before .before .before .before .before .before .before .before .before .before .before .before .before .before .before .before .args .s) (c .before .before .before .before .before .before .before .before .before .before .before .before .before .before .before .before .args .work32 .now) (c .before .before .before .before .before .before .before .at-preds .ensures) (c .before .before .before .before .before .find-chain .ensures)) (c .before .before .before .c .given .1) (c .before .worth-a-look .ensures) (not-true _ (c .if2 .taken))
