@@ -117,10 +117,10 @@ module _ {bounds recs pairs targets : List ℕ} {s : Sizes} {c : Chain} {work64 
   }
 
   -- a target
-  pub aim-on : {q : Bool} {w o st e i j : ℕ} {h : BlockId} {z : Cycle} {work64′ : List ℕ} → Aiming bounds recs pairs targets s c work64 work32 into other → Spotted s c work32 into q → (not (eqb least 0) && q) ≡ true
-      → w ≡ width (s .regs) → o ≡ needed-at s → st ≡ stamps-at s → e ≡ 8000 + s .regs → Needed bounds recs pairs targets w i j work64 work64′ → i ≡ into → j ≡ other → z ≡ from-start o st m n least → h .0 ≡ into
+  pub aim-on : {q : Bool} {w o st e : ℕ} {h : BlockId} {z : Cycle} {work64′ : List ℕ} → Aiming bounds recs pairs targets s c work64 work32 into other → Spotted s c work32 into q → (not (eqb least 0) && q) ≡ true
+      → w ≡ width (s .regs) → o ≡ needed-at s → st ≡ stamps-at s → e ≡ 8000 + s .regs → Needed bounds recs pairs targets w into other work64 work64′ → z ≡ from-start o st m n least → h .0 ≡ into
       → Aimed bounds recs pairs targets s c work64 work32 least into other m n work64′ (record { least = least; into = h; end = e; sweeps = z })
-  aim-on {q} {w} {o} {st} {e} {i} {j} {h} {z} {work64′} p f y ew eo es ee d ei ej ez eh =
+  aim-on {q} {w} {o} {st} {e} {h} {z} {work64′} p f y ew eo es ee g ez eh =
       record {
         size64 = g .size;
         into-is = eh;
@@ -136,9 +136,6 @@ module _ {bounds recs pairs targets : List ℕ} {s : Sizes} {c : Chain} {work64 
     where
       some? : least ≡ 0 → ⊥
       some? = eqb-false least 0 (not-true (eqb least 0) (left-true (not (eqb least 0)) q y))
-
-      g : Needed bounds recs pairs targets w into other work64 work64′
-      g = subst (λ (x : ℕ). Needed bounds recs pairs targets w x other work64 work64′) ei (subst (λ (x : ℕ). Needed bounds recs pairs targets w i x work64 work64′) ej d)
 
 -- ---- `taken`
 

@@ -100,8 +100,8 @@ fn take_aim<'a>(
         targets,
         work64,
         width(wide(s.regs)),
-        into.at(),
-        other.at(),
+        into,
+        other,
     );
     let all = from_start(o, st, m, n, least);
     Aim {

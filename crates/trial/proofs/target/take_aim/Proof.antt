@@ -61,19 +61,13 @@ wide-requires-2 c κs = search needs
 width-requires : tie.Need-width-requires
 width-requires c κs = let r = room (c .before .before .before .before .before .before .before .before .before .before .before .before .before .before .before .pre .1 .lists) in omega (arith, r .lent, r .few, c .wide2 .ensures)
 
-at-requires : tie.Need-at-requires
-at-requires c κs = search needs
-
-at-requires-2 : tie.Need-at-requires-2
-at-requires-2 c κs = search needs
-
 put-needed-requires : tie.Need-put-needed-requires
 put-needed-requires c κs =
-    let t = c .before .before .before .before .before .before .before .before .before .before .before .before .before .before .before .before .before .before .pre .1 in
+    let in-f = c .before .before .before .before .before .before .before .before .before .before .before .before .before .before .before .before in
+    let t = in-f .pre .1 in
     let l = t .lists in
-    let i = block-lent l (t .into-block) in
-    let o = block-lent l (t .other-block) in
-    (c .before .before .before .before .before .before .before .before .before .before .before .before .before .before .before .before .before .before .pre .0, graph-lent l (t .tabled), omega (arith, i, c .before .at .ensures), omega (arith, o, c .at2 .ensures), row-lent l (t .into-block) (c .before .before .width .ensures ∙ ap width (c .before .before .before .wide2 .ensures)))
+    let ew = c .width .ensures ∙ ap width (c .before .wide2 .ensures) in
+    (in-f .pre .0, graph-lent l (t .tabled), block-lent l (t .into-block), block-lent l (t .other-block), row-lent l (t .into-block) ew)
 
 from-start-requires-2 : tie.Need-from-start-requires-2
 from-start-requires-2 c κs = search needs
@@ -83,9 +77,9 @@ same-length c = search needs
 
 returns-2 : tie.Need-returns-2
 returns-2 c =
-    let g = c .before .before .before .before .before .before .before .before .before .before .before .before .before .before .before .before .before .before .before .before .before .before .args in
-    aim-on (c .before .before .before .before .before .before .before .before .before .before .before .before .before .before .before .before .before .before .before .before .before .before .pre .1) (record { is = λ P h. c .before .before .before .before .before .before .before .before .before .before .is-target .ensures P (preds-from (g .s) (g .work32 .now) P (c .before .before .before .before .before .before .before .before .before .before .before .before .at-preds .ensures) h) }) (not-false _ (c .before .before .before .before .before .before .before .before .before .if1 .left)) (c .before .before .before .before .before .before .width .ensures ∙ ap width (c .before .before .before .before .before .before .before .wide2 .ensures)) (c .before .before .before .before .before .before .before .before .before .before .before .before .before .before .before .at-needed .ensures .0) (c .before .before .before .before .before .before .before .before .before .before .before .before .before .before .at-stamps .ensures .0)
-    (ap (λ (x : ℕ). 8000 + x) (c .before .before .before .before .before .before .before .before .before .before .before .before .before .wide .ensures)) (c .before .before .before .put-needed .ensures) (c .before .before .before .before .before .at .ensures) (c .before .before .before .before .at2 .ensures) (c .from-start2 .ensures) refl
+    let g = c .before .before .before .before .before .before .before .before .before .before .before .before .before .before .before .before .before .before .before .before .args in
+    aim-on (c .before .before .before .before .before .before .before .before .before .before .before .before .before .before .before .before .before .before .before .before .pre .1) (record { is = λ P h. c .before .before .before .before .before .before .before .before .is-target .ensures P (preds-from (g .s) (g .work32 .now) P (c .before .before .before .before .before .before .before .before .before .before .at-preds .ensures) h) }) (not-false _ (c .before .before .before .before .before .before .before .if1 .left)) (c .before .before .before .before .width .ensures ∙ ap width (c .before .before .before .before .before .wide2 .ensures)) (c .before .before .before .before .before .before .before .before .before .before .before .before .before .at-needed .ensures .0) (c .before .before .before .before .before .before .before .before .before .before .before .before .at-stamps .ensures .0)
+    (ap (λ (x : ℕ). 8000 + x) (c .before .before .before .before .before .before .before .before .before .before .before .wide .ensures)) (c .before .before .before .put-needed .ensures) (c .from-start2 .ensures) refl
 
 pub take-aim-spec : {M : Type 1} → statement M
 take-aim-spec =
@@ -105,8 +99,6 @@ take-aim-spec =
     returns
     wide-requires-2
     width-requires
-    at-requires
-    at-requires-2
     put-needed-requires
     from-start-requires-2
     same-length
