@@ -9,7 +9,7 @@ use lib.ListN.{getD, length, take, drop, set, length-set, length-drop}
 use lib.Seq.{getD-drop, getD-set-same, getD-set-other, ext-getD}
 use Rattle.words.proofs.Parts.{below-split}
 use Rattle.inst.specs.Record.{Known}
-use Rattle.legalset.specs.Chain.{Fits}
+use Rattle.regfacts.specs.Written.{Fits}
 use Rattle.summary.specs.Passes.{Around}
 use Rattle.chainwords.specs.Puts.{use-of, UseAsked, Lasting}
 

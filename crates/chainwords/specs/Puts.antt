@@ -12,7 +12,7 @@ use Rattle.inst.specs.Record.{Known}
 use Rattle.effects.specs.Origin.{num}
 use Rattle.facts.specs.declared.Fact.{Fact}
 use Rattle.facts.specs.Marks.{no-fact}
-use Rattle.legalset.specs.Chain.{Fits}
+use Rattle.regfacts.specs.Written.{Fits}
 use Rattle.summary.specs.Passes.{result-test}
 
 -- r words from a on can be copied to word 8,000 on

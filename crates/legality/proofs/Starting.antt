@@ -12,7 +12,8 @@ use Rattle.words.proofs.Members.{all-on}
 use Rattle.model.specs.Picture.{inst, absent, writes}
 use Rattle.inst.specs.Record.{write-at}
 use Rattle.facts.specs.declared.Fact.{Fact}
-use Rattle.legalset.specs.Chain.{cell, view, defs-of, writer, Fits, Safe}
+use Rattle.regfacts.specs.Written.{Fits}
+use Rattle.legalset.specs.Chain.{cell, view, defs-of, writer, Safe}
 use Rattle.legalset.specs.Rules.{result-ok, begins}
 use Rattle.summary.specs.Passes.{result-test, begin-test, Ended, Shows}
 use Rattle.summary.proofs.Places.{all-placed, writes-placed}
@@ -29,7 +30,7 @@ module _ (regs bits : List ℕ) (o p r : ℕ) where
       ∙ sym (ap (λ (b : Bool). b || not (is-in bits (64 * o + r) && eqb (getD regs r 0 / 16) (p + 1))) (ne-eqb r absent n))
 
 pub writes-tested : {recs : List ℕ} {R g : ℕ} (f : ℕ → Bool) → Fits recs R g → all (λ k. eqb (write-at (inst recs g) k) absent || f (write-at (inst recs g) k)) (upto 5) ≡ all f (writes (inst recs g))
-writes-tested {recs} {R} {g} f h = sym (all-placed (writes-placed recs g (h .within)) f)
+writes-tested {recs} {R} {g} f h = sym (all-placed (writes-placed recs g (h .whole .within)) f)
 
 module _ (recs regs bits : List ℕ) (f : Fact) (o p : ℕ) where
   pub begin-fixed : (f .class ≡ 1 → ⊥) → false ≡ begin-test recs regs bits f o p

@@ -17,7 +17,7 @@ use summary::stamps::WRITER;
 ghost use mathlib.Core.Path.{_≡_};
 ghost use mathlib.Core.Logic.{_⊎_};
 ghost use mathlib.Core.Bool.{not, _||_};
-ghost use Prim.Native.Nat.{ℕ, _+_, _*_, _/_, _%_, _<_, _≤_};
+ghost use Prim.Native.Nat.{ℕ, _+_, _/_, _%_, _<_, _≤_};
 ghost use lib.ListN.{length, getD};
 ghost use lib.Dec.{eqb, leb};
 ghost use Rattle.words.specs.Lists.{all};
@@ -25,7 +25,8 @@ ghost use Rattle.model.specs.Picture.{inst, absent, reads, writes};
 ghost use Rattle.inst.specs.Table.{rows};
 ghost use Rattle.inst.specs.Index.{word-of, Among};
 ghost use Rattle.inst.specs.Record.{Used};
-ghost use Rattle.legalset.specs.Chain.{picked, Fits, Good};
+ghost use Rattle.regfacts.specs.Written.{Fits};
+ghost use Rattle.legalset.specs.Chain.{picked, Good};
 ghost use Rattle.legalset.specs.Rules.{still-fine};
 ghost use Rattle.summary.specs.Passes.{result-test, read-test, place-test, word-org, org-test, piece-test, from-test, memory-test, own-test, Near, Written, Readable};
 

@@ -16,7 +16,8 @@ use Rattle.model.specs.Legal.{fact-at}
 use Rattle.effects.specs.Origin.{org-at, class-at, wrote-at, from-at, num}
 unfoldable pub use Rattle.effects.specs.Origin.{cell, place-at}
 use Rattle.inst.specs.Record as I
-use Rattle.inst.specs.Record.{Within, Listed, present, read-at, write-at}
+use Rattle.inst.specs.Record.{Listed, present, read-at}
+use Rattle.regfacts.specs.Written.{Fits}
 
 -- ---- the words
 
@@ -86,13 +87,7 @@ pub record Stands (C : View) (n : ℕ) (run : List Fact) : Type 0 where
 
 -- ---- what the code needs
 
--- record g writes registers below R
-pub record Fits (recs : List ℕ) (R g : ℕ) : Type 0 where
-  pub within : Within recs g
-  pub few : R ≤ 65536
-  pub slot : (s : ℕ) → s < 5 → (write-at (inst recs g) s ≡ absent) ⊎ (write-at (inst recs g) s < R)
-
--- and reads such, and is whole
+-- record g is whole, and writes and reads registers below R
 pub record Good (recs ops : List ℕ) (R g : ℕ) : Type 0 where
   pub known : I.Known recs g
   pub listed : Listed recs ops g

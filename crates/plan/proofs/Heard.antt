@@ -56,7 +56,7 @@ module _ {recs ops : List ℕ} {R g : ℕ} (h : S.Good recs ops R g) where
   good-of = record {
     known = h .readable .whole;
     listed = h .readable .listed;
-    fits = record { within = h .readable .whole .within; few = h .fits .room; slot = h .fits .slot };
+    fits = h .fits;
     slot = λ s l. ⊎-elim (λ (e : read-at i s ≡ absent). inl e) (λ (n : read-at i s ≡ absent → ⊥). inr (low (read-at i s) (slot-in s l n))) (eq? (read-at i s) absent);
     list = λ k l. low (getD (list-of ops i) k absent) (in-right (getD (list-of ops i) k absent) (chosen reading (roles i) (slots i)) (list-of ops i) (in-getD absent (list-of ops i) k l));
   }

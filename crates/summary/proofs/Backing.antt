@@ -17,7 +17,8 @@ use Rattle.inst.specs.Record.{write-at}
 use Rattle.words.specs.Last.{last-below}
 use Rattle.effects.specs.Origin.{num}
 use Rattle.facts.specs.declared.Fact.{Fact}
-use Rattle.legalset.specs.Chain.{view, cell, flag, defs-of, reads-of, writer, Fits, Safe}
+use Rattle.regfacts.specs.Written.{Fits}
+use Rattle.legalset.specs.Chain.{view, cell, flag, defs-of, reads-of, writer, Safe}
 use Rattle.legalset.specs.Marks.{in-set, sifted, lost, Inside, Passed}
 use Rattle.legalset.specs.Rules.{last-kept, pending, backward-ok}
 use Rattle.legalset.proofs.Dropping.{passed-none, passed-down}
@@ -38,7 +39,7 @@ free-there st r n e = ap (λ (j : ℕ). leb (getD st j 0) 1023) e ∙ sym (ap (�
 
 pub writes-all : {recs : List ℕ} {R g : ℕ} (st : List ℕ) → Fits recs R g
     → all (λ k. eqb (write-at (inst recs g) k) absent || leb (getD st (write-at (inst recs g) k) 0) 1023) (upto 5) ≡ all (λ x. leb (getD st x 0) 1023) (writes (inst recs g))
-writes-all {recs} {R} {g} st f = sym (all-placed (writes-placed recs g (f .within)) (λ x. leb (getD st x 0) 1023))
+writes-all {recs} {R} {g} st f = sym (all-placed (writes-placed recs g (f .whole .within)) (λ x. leb (getD st x 0) 1023))
 
 -- ---- what a kept position reads is
 
@@ -109,7 +110,7 @@ gone-back {recs} {ops} {w} {f} {n} {R} {q} {st} {ls} {st′} {ls′} {keep} S s 
 
 pub writes-low : (recs : List ℕ) (R g : ℕ) → Fits recs R g → (r : ℕ) → In r (writes (inst recs g)) → r < R
 writes-low recs R g h r i =
-    let a = writes-placed recs g (h .within) in
+    let a = writes-placed recs g (h .whole .within) in
     let z = a .to r i in
     ⊎-elim (λ e. absurd (a .real r i (sym (z .2) ∙ e))) (λ l. subst (λ (x : ℕ). x < R) (z .2) l) (h .slot (z .0) (z .1))
 

@@ -17,7 +17,8 @@ use Rattle.inst.specs.declared.index.MaybeReg.{MaybeReg}
 use Rattle.inst.specs.Record.{Within, read-at, write-at, present}
 use Rattle.inst.proofs.Indices.{reg-made}
 use Rattle.inst.proofs.Rest.{reads-by-place, writes-by-place}
-use Rattle.legalset.specs.Chain.{Good, Fits}
+use Rattle.regfacts.specs.Written.{Fits}
+use Rattle.legalset.specs.Chain.{Good}
 use Rattle.summary.specs.Passes.{read-place}
 
 -- the registers of l are what stands in the K places
@@ -105,7 +106,7 @@ module _ (recs ops : List ℕ) (R g : ℕ) (h : Good recs ops R g) where
         (Rattle.words.proofs.Bools.lt? k 5);
     real = λ r i e. ⊎-elim
         (λ (a : In r (concat (map (λ s. present (read-at (inst recs g) s)) (upto 5)))). slots-placed .real r a e)
-        (λ (a : In r (list-of ops (inst recs g))). let z = in-index absent r (list-of ops (inst recs g)) a in let l = h .list (z .0) (z .1) in let f = h .fits .few in let y = z .2 in omega arith)
+        (λ (a : In r (list-of ops (inst recs g))). let z = in-index absent r (list-of ops (inst recs g)) a in let l = h .list (z .0) (z .1) in let f = h .fits .room in let y = z .2 in omega arith)
         (in-split r (concat (map (λ s. present (read-at (inst recs g) s)) (upto 5))) (list-of ops (inst recs g)) i);
   })
 
@@ -125,8 +126,8 @@ as-reg {R} {count} {n} few e l q =
     record { among = made .0; word = made .1; low = subst (λ (x : ℕ). (x ≡ absent) ⊎ (x < count)) (sym (made .1)) low }
 
 pub slot-made : {recs : List ℕ} {R g s count : ℕ} → Fits recs R g → count ≡ R → s < 5 → {m : MaybeReg} → m ≡ reg-of (write-at (inst recs g) s) count → AsReg count (write-at (inst recs g) s) m
-slot-made {s = s} f e h q = as-reg (f .few) e (f .slot s h) q
+slot-made {s = s} f e h q = as-reg (f .room) e (f .slot s h) q
 
 pub place-made : {recs ops : List ℕ} {R g n k count : ℕ} → Good recs ops R g → count ≡ R → n ≡ 5 + length (list-of ops (inst recs g)) → k < n → {m : MaybeReg} → m ≡ reg-of (read-place ops (inst recs g) k) count
     → AsReg count (read-place ops (inst recs g) k) m
-place-made {recs} {ops} {R} {g} {n} {k} f e m h q = as-reg (f .fits .few) e (read-low recs ops R g f k (subst (λ (x : ℕ). k < x) m h)) q
+place-made {recs} {ops} {R} {g} {n} {k} f e m h q = as-reg (f .fits .room) e (read-low recs ops R g f k (subst (λ (x : ℕ). k < x) m h)) q

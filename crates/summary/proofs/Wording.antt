@@ -14,7 +14,8 @@ use Rattle.inst.specs.Index.{reg-of, word-of}
 use Rattle.inst.specs.declared.index.MaybeReg.{MaybeReg}
 use Rattle.inst.specs.Record.{Known, Used, uses-of, present}
 use Rattle.facts.specs.declared.Fact.{Fact}
-use Rattle.legalset.specs.Chain.{Fits, Good, Safe, Brief}
+use Rattle.regfacts.specs.Written.{Fits}
+use Rattle.legalset.specs.Chain.{Good, Safe, Brief}
 use Rattle.summary.specs.Passes.{put-in, Stamped, Beside, Written, Readable, Small, Shows}
 use Rattle.summary.proofs.Places.{Placed, all-placed, made, AsReg, as-reg}
 use Rattle.summary.proofs.Stamping.{Stamping, stamping-none, stamping-more, stamping-end}
@@ -78,11 +79,11 @@ module _ {recs : List ℕ} {R n d : ℕ} {more : Bool} (a : Written recs R n d m
     word-tested h made k = k ∙ ap (λ (r : ℕ). eqb r absent || h r) (made .word) ∙ sym (and-true (eqb d absent || h d)) ∙ sym (all-placed word-placed h)
 
     pub word-made : {count : ℕ} → count ≡ R → {m : MaybeReg} → m ≡ reg-of d count → AsReg count d m
-    word-made e q = as-reg (a .fits .few) e word-low q
+    word-made e q = as-reg (a .fits .room) e word-low q
 
     pub word-stamped : {keep lo v : ℕ} (st : List ℕ) {st′ : List ℕ} → Beside keep lo v → length st ≡ R → {m : MaybeReg} → m ≡ reg-of d (length st) → st′ ≡ put-in keep lo v (word-of m) st → Stamped (writes (inst recs n)) keep lo v st st′
     word-stamped {keep} {lo} {v} st b s q k =
-        let few = subst (λ (m : ℕ). m ≤ 65536) (sym s) (a .fits .few) in
+        let few = subst (λ (m : ℕ). m ≤ 65536) (sym s) (a .fits .room) in
         let made = word-made s q in
         stamping-end (stamping-more (stamping-none (λ k. d) keep lo v st) b few (made .word) (made .low) k) b few word-placed (omega arith) (omega arith)
 
@@ -115,7 +116,7 @@ module _ {recs ops : List ℕ} {R : ℕ} {d : Fact} (a : Readable recs ops R d) 
     words-low k h = low-at {k = k} words-placed (reads-low recs ops R (d .rec) (a .good)) h refl
 
     pub words-made : (k : ℕ) → k < 2 → {count : ℕ} → count ≡ R → {m : MaybeReg} → m ≡ reg-of (two k) count → AsReg count (two k) m
-    words-made k h e q = as-reg (a .good .fits .few) e (words-low k h) q
+    words-made k h e q = as-reg (a .good .fits .room) e (words-low k h) q
 
     module _ (h : ℕ → Bool) {n m : ℕ} {x y : MaybeReg} (made : AsReg n (d .use0) x) (made₁ : AsReg m (d .use1) y) where
       pub words-tested : {b c : Bool} → b ≡ (eqb (word-of x) absent || h (word-of x)) → c ≡ (eqb (word-of y) absent || h (word-of y)) → (b && c) ≡ all h (reads ops (inst recs (d .rec)))
@@ -125,7 +126,7 @@ module _ {recs ops : List ℕ} {R : ℕ} {d : Fact} (a : Readable recs ops R d) 
 
     module _ (st : List ℕ) {keep lo v : ℕ} (b : Beside keep lo v) (s : length st ≡ R) where
       few : length st ≤ 65536
-      few = subst (λ (m : ℕ). m ≤ 65536) (sym s) (a .good .fits .few)
+      few = subst (λ (m : ℕ). m ≤ 65536) (sym s) (a .good .fits .room)
 
       module _ {m₀ : MaybeReg} (q₀ : m₀ ≡ reg-of (d .use0) (length st)) {mid : List ℕ} (k : mid ≡ put-in keep lo v (word-of m₀) st) where
         one-put : Stamping two keep lo v 1 st mid

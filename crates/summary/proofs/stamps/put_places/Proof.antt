@@ -42,7 +42,7 @@ loop-again c =
     let at-entry = c .before .before .before .before .before .before .before .before .before .before .before in
     let so-far = c .before .before .before .before .before .before .loop .inv .1 in
     let made = place-made (at-entry .pre .1) (so-far .size) (c .before .before .before .before .before .before .before .places .ensures) (c .before .before .before .before .before .loop-test .taken) (c .before .before .before .read-place .ensures) in
-    (omega arith, stamping-more so-far (at-entry .pre .2) (at-entry .pre .1 .fits .few) (made .word) (made .low) (c .before .before .put .ensures))
+    (omega arith, stamping-more so-far (at-entry .pre .2) (at-entry .pre .1 .fits .room) (made .word) (made .low) (c .before .before .put .ensures))
 
 same-length : tie.Need-same-length Inv-loop μ-loop
 same-length c = c .before .loop .inv .1 .size
@@ -52,7 +52,7 @@ returns c =
     let at-entry = c .before .before .before .before .before .before in
     let all = c .before .loop .inv in
     let n = c .before .before .places .ensures in
-    stamping-end (all .1) (at-entry .pre .2) (at-entry .pre .1 .fits .few) (reads-placed _ _ _ _ (at-entry .pre .1)) (omega (arith, n, all .0)) (omega (arith, n, c .loop-test .left))
+    stamping-end (all .1) (at-entry .pre .2) (at-entry .pre .1 .fits .room) (reads-placed _ _ _ _ (at-entry .pre .1)) (omega (arith, n, all .0)) (omega (arith, n, c .loop-test .left))
 
 pub put-places-spec : {M : Type 1} → statement M
 put-places-spec =

@@ -37,7 +37,7 @@ loop-again c =
     let at-entry = c .before .before .before .before .before .before .before .before .before in
     let so-far = c .before .before .before .before .before .before .loop .inv .1 in
     let made = slot-made (at-entry .pre .1) (so-far .size) (c .before .before .before .before .before .loop-test .taken) (c .before .before .before .write-at .ensures) in
-    (omega arith, stamping-more so-far (at-entry .pre .2) (at-entry .pre .1 .few) (made .word) (made .low) (c .before .before .put .ensures))
+    (omega arith, stamping-more so-far (at-entry .pre .2) (at-entry .pre .1 .room) (made .word) (made .low) (c .before .before .put .ensures))
 
 same-length : tie.Need-same-length Inv-loop μ-loop
 same-length c = c .before .loop .inv .1 .size
@@ -46,7 +46,7 @@ returns : tie.Need-returns Inv-loop μ-loop
 returns c =
     let at-entry = c .before .before .before .before in
     let all = c .before .loop .inv in
-    stamping-end (all .1) (at-entry .pre .2) (at-entry .pre .1 .few) (writes-placed _ _ (at-entry .pre .1 .within)) (all .0) (c .loop-test .left)
+    stamping-end (all .1) (at-entry .pre .2) (at-entry .pre .1 .room) (writes-placed _ _ (at-entry .pre .1 .whole .within)) (all .0) (c .loop-test .left)
 
 pub put-slots-spec : {M : Type 1} → statement M
 put-slots-spec =
