@@ -31,7 +31,10 @@ word-requires : tie.Need-word-requires
 word-requires c κs = search needs
 
 is-divisor-requires : tie.Need-is-divisor-requires
-is-divisor-requires c κs = read-reg (c .before .before .before .before .before .before .before .before .before .before .pre .0) _ (c .before .before .before .before .before .before .before .new .ensures)
+is-divisor-requires c κs =
+    let at-entry = c .before .before .before .before .before .before .before .before .before .before in
+    let at-new = c .before .before .before .before .before .before .before in
+    read-reg (at-entry .pre .0) _ (at-new .new .ensures)
 
 holds-length-requires : tie.Need-holds-length-requires
 holds-length-requires c κs = search needs

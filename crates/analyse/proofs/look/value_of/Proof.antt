@@ -37,8 +37,10 @@ flags-org-requires c κs = search needs
 
 returns-2 : tie.Need-returns-2
 returns-2 c =
-    let is = c .before .before .before .before .before .r .given .1 in
-    let v = ap (λ (k : ℕ). getD (now (c .before .before .before .before .before .before .before .before .args .regs)) k 0) (c .before .before .before .at .ensures ∙ sym (ap word-of is)) in
+    let at-r = c .before .before .before .before .before in
+    let at-entry = c .before .before .before .before .before .before .before .before in
+    let is = at-r .r .given .1 in
+    let v = ap (λ (k : ℕ). getD (now (at-entry .args .regs)) k 0) (c .before .before .before .at .ensures ∙ sym (ap word-of is)) in
     let org = c .flags-org .ensures in
     λ count n a g. (omega (arith, org .0), λ G past e s. let h = a-reg is a in valued-flags s _ (h .1) (h .0) _ v _ (org .0) (c .before .if1 .taken) (org .1))
 
@@ -47,8 +49,10 @@ left-in-requires c κs = search needs
 
 returns-3 : tie.Need-returns-3
 returns-3 c =
-    let is = c .before .before .before .before .before .r .given .1 in
-    let v = ap (λ (k : ℕ). getD (now (c .before .before .before .before .before .before .before .before .args .regs)) k 0) (c .before .before .before .at .ensures ∙ sym (ap word-of is)) in
+    let at-r = c .before .before .before .before .before in
+    let at-entry = c .before .before .before .before .before .before .before .before in
+    let is = at-r .r .given .1 in
+    let v = ap (λ (k : ℕ). getD (now (at-entry .args .regs)) k 0) (c .before .before .before .at .ensures ∙ sym (ap word-of is)) in
     λ count n a g.
     let h = a-reg is a in
     (left-org v (g .each _ (h .0)) (c .left-in .ensures), λ G past e s. valued-left s _ (h .1) (h .0) _ v (c .left-in .ensures) _ (a-writer _ v (g .each _ (h .0)) (c .before .if1 .left)))

@@ -27,7 +27,9 @@ mul-regs-2 : tie.Need-mul-regs-2
 mul-regs-2 c = search needs
 
 slice-read-regs : tie.Need-slice-read-regs
-slice-read-regs c = let m = subst (Among _) (c .before .before .before .r .given .1) (c .before .before .before .before .before .before .pre .1) in omega (arith, c .before .at .ensures, m .0)
+slice-read-regs c =
+    let at-entry = c .before .before .before .before .before .before in
+    let m = subst (Among _) (c .before .before .before .r .given .1) (at-entry .pre .1) in omega (arith, c .before .at .ensures, m .0)
 
 add-regs : tie.Need-add-regs
 add-regs c = search needs
@@ -36,7 +38,9 @@ mul-regs-3 : tie.Need-mul-regs-3
 mul-regs-3 c = search needs
 
 slice-write-regs : tie.Need-slice-write-regs
-slice-write-regs c = let m = subst (Among _) (c .before .before .before .r .given .1) (c .before .before .before .before .before .before .pre .1) in omega (arith, c .before .at .ensures, m .0)
+slice-write-regs c =
+    let at-entry = c .before .before .before .before .before .before in
+    let m = subst (Among _) (c .before .before .before .r .given .1) (at-entry .pre .1) in omega (arith, c .before .at .ensures, m .0)
 
 same-length : tie.Need-same-length
 same-length c = search needs

@@ -38,14 +38,18 @@ sub-i c = search needs
 
 mul-lasts : tie.Need-mul-lasts
 mul-lasts c =
-    let is = c .before .before .before .before .r .given .1 in
-    let low = note-low (c .before .before .before .before .before .before .before .args .st .now) (omega (arith, a-reg is (c .before .before .before .before .before .before .before .pre .0) .0, ap word-of is, c .before .before .at .ensures)) (c .before .before .before .before .before .before .before .pre .1) (c .if1 .left) in
+    let at-r = c .before .before .before .before in
+    let at-entry = c .before .before .before .before .before .before .before in
+    let is = at-r .r .given .1 in
+    let low = note-low (at-entry .args .st .now) (omega (arith, a-reg is (at-entry .pre .0) .0, ap word-of is, c .before .before .at .ensures)) (at-entry .pre .1) (c .if1 .left) in
     omega (arith, low)
 
 element-write-lasts : tie.Need-element-write-lasts
 element-write-lasts c =
-    let is = c .before .before .before .before .r .given .1 in
-    let low = note-low (c .before .before .before .before .before .before .before .args .st .now) (omega (arith, a-reg is (c .before .before .before .before .before .before .before .pre .0) .0, ap word-of is, c .before .before .at .ensures)) (c .before .before .before .before .before .before .before .pre .1) (c .if1 .left) in
+    let at-r = c .before .before .before .before in
+    let at-entry = c .before .before .before .before .before .before .before in
+    let is = at-r .r .given .1 in
+    let low = note-low (at-entry .args .st .now) (omega (arith, a-reg is (at-entry .pre .0) .0, ap word-of is, c .before .before .at .ensures)) (at-entry .pre .1) (c .if1 .left) in
     omega (arith, low)
 
 returns-3 : tie.Need-returns-3

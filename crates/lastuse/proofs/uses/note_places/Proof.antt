@@ -23,12 +23,15 @@ loop-holds : tie.Need-loop-holds Inv-loop μ-loop
 loop-holds c = (omega arith, noticing-none _ _ _ _ (c .before .before .before .before .pre .3))
 
 read-place-requires : tie.Need-read-place-requires Inv-loop μ-loop
-read-place-requires c κs = (c .before .before .before .before .before .before .pre .0, c .before .before .before .before .before .before .pre .1 .listed, omega (arith, c .before .before .places .ensures))
+read-place-requires c κs =
+    let at-entry = c .before .before .before .before .before .before in
+    (at-entry .pre .0, at-entry .pre .1 .listed, omega (arith, c .before .before .places .ensures))
 
 note-requires : tie.Need-note-requires Inv-loop μ-loop
 note-requires c κs =
+    let at-places = c .before .before .before .before in
     let at-entry = c .before .before .before .before .before .before .before .before in
-    (place-made (at-entry .pre .1) refl (c .before .before .before .before .places .ensures) (c .before .before .loop-test .taken) (c .before .read-place .ensures) .among, at-entry .pre .2)
+    (place-made (at-entry .pre .1) refl (at-places .places .ensures) (c .before .before .loop-test .taken) (c .before .read-place .ensures) .among, at-entry .pre .2)
 
 add-k : tie.Need-add-k Inv-loop μ-loop
 add-k c = search needs
@@ -38,11 +41,16 @@ loop-less c = search needs
 
 loop-again : tie.Need-loop-again Inv-loop μ-loop
 loop-again c =
-    let made = place-made (c .before .before .before .before .before .before .before .before .before .pre .1) refl (c .before .before .before .before .before .places .ensures) (c .before .before .before .loop-test .taken) (c .before .before .read-place .ensures) in
-    (omega arith, noticing-more (c .before .before .before .before .loop .inv .1) (made .word) (c .note .ensures))
+    let at-entry = c .before .before .before .before .before .before .before .before .before in
+    let at-places = c .before .before .before .before .before in
+    let at-loop = c .before .before .before .before in
+    let made = place-made (at-entry .pre .1) refl (at-places .places .ensures) (c .before .before .before .loop-test .taken) (c .before .before .read-place .ensures) in
+    (omega arith, noticing-more (at-loop .loop .inv .1) (made .word) (c .note .ensures))
 
 returns : tie.Need-returns Inv-loop μ-loop
-returns c = noticing-end (c .before .loop .inv .1) (reads-placed _ _ _ _ (c .before .before .before .before .before .before .pre .1)) (omega (arith, c .before .before .places .ensures, c .before .loop .inv .0)) (omega (arith, c .before .before .places .ensures, c .loop-test .left))
+returns c =
+    let at-entry = c .before .before .before .before .before .before in
+    noticing-end (c .before .loop .inv .1) (reads-placed _ _ _ _ (at-entry .pre .1)) (omega (arith, c .before .before .places .ensures, c .before .loop .inv .0)) (omega (arith, c .before .before .places .ensures, c .loop-test .left))
 
 pub note-places-spec : {M : Type 1} → statement M
 note-places-spec =

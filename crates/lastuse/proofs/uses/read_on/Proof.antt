@@ -19,7 +19,10 @@ add-v : tie.Need-add-v
 add-v c = search needs
 
 put-slots-requires : tie.Need-put-slots-requires
-put-slots-requires c κs = let p = c .before .before .before .before .before .before .before .before .pre in (used-at (p .1) (c .before .before .before .before .uses .ensures), p .1 .fits, whole-stamp _ (omega (arith, p .4)))
+put-slots-requires c κs =
+    let at-entry = c .before .before .before .before .before .before .before .before in
+    let at-uses = c .before .before .before .before in
+    let p = at-entry .pre in (used-at (p .1) (at-uses .uses .ensures), p .1 .fits, whole-stamp _ (omega (arith, p .4)))
 
 same-length : tie.Need-same-length
 same-length c = search needs

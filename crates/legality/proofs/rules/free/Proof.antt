@@ -30,8 +30,9 @@ shared-slice-read-result c =
 
 returns-2 : tie.Need-returns-2
 returns-2 c =
+    let at-entry = c .before .before .before .before .before .before in
     let is = c .before .before .before .r .given .1 in
-    free-there (c .before .before .before .before .before .before .args .st .now) _ (a-reg is (c .before .before .before .before .before .before .pre) .1) (c .before .at .ensures ∙ sym (ap word-of is))
+    free-there (at-entry .args .st .now) _ (a-reg is (at-entry .pre) .1) (c .before .at .ensures ∙ sym (ap word-of is))
 
 pub free-spec : {M : Type 1} → statement M
 free-spec =

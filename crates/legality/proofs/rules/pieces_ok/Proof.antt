@@ -56,9 +56,14 @@ piece-ok-requires c κs =
 
 returns-3 : tie.Need-returns-3 Inv-loop μ-loop
 returns-3 c =
-    let a = c .before .before .before .before .before .before .before .before .before .before .before .before .before .args in
-    let r = is-reg _ _ _ (sym (c .before .before .before .before .before .new .ensures) ∙ c .before .before .before .r .given .1) in
-    pick-no _ (a .xs .now) (c .before .before .before .before .before .before .before .before .before .loop .k) (c .before .before .before .before .before .before .before .before .before .loop .sc) (c .before .before .before .before .before .before .before .before .loop-test .taken) (c .before .before .before .before .before .before .before .if1 .left) (c .before .before .before .before .before .before .before .before .before .loop .inv .1) (r .0) (c .before .piece-ok .ensures) (c .if2 .taken)
+    let at-entry = c .before .before .before .before .before .before .before .before .before .before .before .before .before in
+    let at-new = c .before .before .before .before .before in
+    let at-loop = c .before .before .before .before .before .before .before .before .before in
+    let at-loop-test = c .before .before .before .before .before .before .before .before in
+    let at-if1 = c .before .before .before .before .before .before .before in
+    let a = at-entry .args in
+    let r = is-reg _ _ _ (sym (at-new .new .ensures) ∙ c .before .before .before .r .given .1) in
+    pick-no _ (a .xs .now) (at-loop .loop .k) (at-loop .loop .sc) (at-loop-test .loop-test .taken) (at-if1 .if1 .left) (at-loop .loop .inv .1) (r .0) (c .before .piece-ok .ensures) (c .if2 .taken)
 
 add-k : tie.Need-add-k Inv-loop μ-loop
 add-k c = search needs
@@ -68,9 +73,14 @@ loop-less c = search needs
 
 loop-again : tie.Need-loop-again Inv-loop μ-loop
 loop-again c =
-    let a = c .before .before .before .before .before .before .before .before .before .before .before .before .before .args in
-    let r = is-reg _ _ _ (sym (c .before .before .before .before .before .new .ensures) ∙ c .before .before .before .r .given .1) in
-    (omega arith, pick-on _ (a .xs .now) (c .before .before .before .before .before .before .before .before .before .loop .k) (c .before .before .before .before .before .before .before .before .before .loop .sc) (c .before .before .before .before .before .before .before .before .loop-test .taken) (c .before .before .before .before .before .before .before .if1 .left) (c .before .before .before .before .before .before .before .before .before .loop .inv .1) (r .0) (c .before .piece-ok .ensures) (c .if2 .left))
+    let at-entry = c .before .before .before .before .before .before .before .before .before .before .before .before .before in
+    let at-new = c .before .before .before .before .before in
+    let at-loop = c .before .before .before .before .before .before .before .before .before in
+    let at-loop-test = c .before .before .before .before .before .before .before .before in
+    let at-if1 = c .before .before .before .before .before .before .before in
+    let a = at-entry .args in
+    let r = is-reg _ _ _ (sym (at-new .new .ensures) ∙ c .before .before .before .r .given .1) in
+    (omega arith, pick-on _ (a .xs .now) (at-loop .loop .k) (at-loop .loop .sc) (at-loop-test .loop-test .taken) (at-if1 .if1 .left) (at-loop .loop .inv .1) (r .0) (c .before .piece-ok .ensures) (c .if2 .left))
 
 returns-4 : tie.Need-returns-4 Inv-loop μ-loop
 returns-4 c = pick-end _ (c .before .before .before .before .before .args .xs .now) (c .before .loop .k) (c .before .loop .sc) (c .loop-test .left) (c .before .loop .inv .1)

@@ -55,12 +55,14 @@ loop-less c = search needs
 
 loop-again : tie.Need-loop-again Inv-loop μ-loop
 loop-again c =
+    let at-places = c .before .before .before .before .before in
+    let at-loop = c .before .before .before .before in
     let at-entry = c .before .before .before .before .before .before .before .before .before in
     let a = at-entry .args in
     let i = inst (a .recs .now) (a .g) in
-    let made = place-made (at-entry .pre .1) refl (c .before .before .before .before .before .places .ensures) (c .before .before .before .loop-test .taken) (c .before .before .read-place .ensures) in (
+    let made = place-made (at-entry .pre .1) refl (at-places .places .ensures) (c .before .before .before .loop-test .taken) (c .before .before .read-place .ensures) in (
       omega arith,
-      loop-on (λ (j : ℕ). place-test (a .st .now) (a .p) (read-place (a .ops .now) i j)) (c .before .before .before .before .loop .inv .1)
+      loop-on (λ (j : ℕ). place-test (a .st .now) (a .p) (read-place (a .ops .now) i j)) (at-loop .loop .inv .1)
           (c .before .read-ok .ensures ∙ ap (place-test (a .st .now) (a .p)) (made .word)) (c .if1 .left),
     )
 

@@ -31,7 +31,9 @@ free-slots-requires : tie.Need-free-slots-requires
 free-slots-requires c κs = slots-at (c .before .before .before .before .before .before .pre .1) (c .before .wide .ensures) (c .uses .ensures)
 
 returns-2 : tie.Need-returns-2
-returns-2 c = slots-tested (c .before .before .before .before .before .before .before .pre .1) (λ (x : ℕ). leb (getD (c .before .before .before .before .before .before .before .args .st .now) x 0) 1023) (c .before .before .wide .ensures) (c .free-slots .ensures)
+returns-2 c =
+    let at-entry = c .before .before .before .before .before .before .before in
+    slots-tested (at-entry .pre .1) (λ (x : ℕ). leb (getD (at-entry .args .st .now) x 0) 1023) (c .before .before .wide .ensures) (c .free-slots .ensures)
 
 pub rule1-spec : {M : Type 1} → statement M
 rule1-spec =

@@ -29,10 +29,14 @@ uses-requires : tie.Need-uses-requires
 uses-requires c κs = (c .before .before .before .before .before .before .pre .0, known-at (c .before .before .before .before .before .before .pre .1) (c .wide .ensures))
 
 unneeded-slots-requires : tie.Need-unneeded-slots-requires
-unneeded-slots-requires c κs = let k = slots-at (c .before .before .before .before .before .before .before .pre .1) (c .before .wide .ensures) (c .uses .ensures) in (k .0, k .1, c .before .before .before .before .before .before .before .pre .2, c .before .before .before .before .before .before .before .pre .3)
+unneeded-slots-requires c κs =
+    let at-entry = c .before .before .before .before .before .before .before in
+    let k = slots-at (at-entry .pre .1) (c .before .wide .ensures) (c .uses .ensures) in (k .0, k .1, at-entry .pre .2, at-entry .pre .3)
 
 returns-2 : tie.Need-returns-2
-returns-2 c = let a = c .before .before .before .before .before .before .before .before .args in slots-tested (c .before .before .before .before .before .before .before .before .pre .1) (result-test (a .regs .now) (a .bits .now) (a .o) (a .p)) (c .before .before .wide .ensures) (c .unneeded-slots .ensures)
+returns-2 c =
+    let at-entry = c .before .before .before .before .before .before .before .before in
+    let a = at-entry .args in slots-tested (at-entry .pre .1) (result-test (a .regs .now) (a .bits .now) (a .o) (a .p)) (c .before .before .wide .ensures) (c .unneeded-slots .ensures)
 
 pub rule2-spec : {M : Type 1} → statement M
 rule2-spec =

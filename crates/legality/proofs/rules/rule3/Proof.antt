@@ -12,13 +12,17 @@ new-requires : tie.Need-new-requires
 new-requires c κs = search needs
 
 read-ok-requires : tie.Need-read-ok-requires
-read-ok-requires c κs = (words-made (c .before .before .before .before .before .before .pre .1) (c .before .if1 .taken) 0 (omega arith) refl (c .new .ensures) .among, c .before .before .before .before .before .before .pre .2)
+read-ok-requires c κs =
+    let at-entry = c .before .before .before .before .before .before in
+    (words-made (at-entry .pre .1) (c .before .if1 .taken) 0 (omega arith) refl (c .new .ensures) .among, at-entry .pre .2)
 
 new-requires-2 : tie.Need-new-requires-2
 new-requires-2 c κs = search needs
 
 read-ok-requires-2 : tie.Need-read-ok-requires-2
-read-ok-requires-2 c κs = (words-made (c .before .before .before .before .before .before .before .before .pre .1) (c .before .before .before .if1 .taken) 1 (omega arith) refl (c .new2 .ensures) .among, c .before .before .before .before .before .before .before .before .pre .2)
+read-ok-requires-2 c κs =
+    let at-entry = c .before .before .before .before .before .before .before .before in
+    (words-made (at-entry .pre .1) (c .before .before .before .if1 .taken) 1 (omega arith) refl (c .new2 .ensures) .among, at-entry .pre .2)
 
 returns : tie.Need-returns
 returns c =
@@ -36,10 +40,14 @@ uses-requires : tie.Need-uses-requires
 uses-requires c κs = (c .before .before .before .before .before .before .pre .0, good-at (c .before .before .before .before .before .before .pre .1) (c .wide .ensures) .known)
 
 places-ok-requires : tie.Need-places-ok-requires
-places-ok-requires c κs = let k = places-at (c .before .before .before .before .before .before .before .pre .1) (c .before .wide .ensures) (c .uses .ensures) in (k .0, k .1, c .before .before .before .before .before .before .before .pre .2)
+places-ok-requires c κs =
+    let at-entry = c .before .before .before .before .before .before .before in
+    let k = places-at (at-entry .pre .1) (c .before .wide .ensures) (c .uses .ensures) in (k .0, k .1, at-entry .pre .2)
 
 returns-2 : tie.Need-returns-2
-returns-2 c = let a = c .before .before .before .before .before .before .before .before .args in places-tested (c .before .before .before .before .before .before .before .before .pre .1) (read-test (a .st .now) (a .p)) (c .before .before .wide .ensures) (c .places-ok .ensures)
+returns-2 c =
+    let at-entry = c .before .before .before .before .before .before .before .before in
+    let a = at-entry .args in places-tested (at-entry .pre .1) (read-test (a .st .now) (a .p)) (c .before .before .wide .ensures) (c .places-ok .ensures)
 
 pub rule3-spec : {M : Type 1} → statement M
 rule3-spec =

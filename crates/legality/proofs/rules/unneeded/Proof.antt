@@ -39,8 +39,10 @@ add-result c = search needs
 
 returns-2 : tie.Need-returns-2
 returns-2 c =
-    let is = c .before .before .before .before .r .given .1 in
-    result-there _ _ _ _ _ (a-reg is (c .before .before .before .before .before .before .before .before .pre .0) .1) (c .before .before .at .ensures ∙ sym (ap word-of is)) (c .before .bit-in .ensures)
+    let at-r = c .before .before .before .before in
+    let at-entry = c .before .before .before .before .before .before .before .before in
+    let is = at-r .r .given .1 in
+    result-there _ _ _ _ _ (a-reg is (at-entry .pre .0) .1) (c .before .before .at .ensures ∙ sym (ap word-of is)) (c .before .bit-in .ensures)
 
 pub unneeded-spec : {M : Type 1} → statement M
 unneeded-spec =

@@ -23,7 +23,9 @@ mul-next : tie.Need-mul-next
 mul-next c = search needs
 
 slice-read-next : tie.Need-slice-read-next
-slice-read-next c = let m = subst (Among _) (c .before .before .before .w .given .1) (c .before .before .before .before .before .before .pre .1) in omega (arith, c .before .at .ensures, m .0)
+slice-read-next c =
+    let at-entry = c .before .before .before .before .before .before in
+    let m = subst (Among _) (c .before .before .before .w .given .1) (at-entry .pre .1) in omega (arith, c .before .at .ensures, m .0)
 
 next-requires : tie.Need-next-requires
 next-requires c κs = search needs

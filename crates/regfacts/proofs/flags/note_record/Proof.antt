@@ -15,7 +15,9 @@ later-requires : tie.Need-later-requires
 later-requires c κs = search needs
 
 note-all-requires : tie.Need-note-all-requires
-note-all-requires c κs = (record { within = c .before .before .before .before .before .before .pre .2 .whole .within; uses = c .before .before .before .uses .ensures }, c .before .before .before .before .before .before .pre .1, c .before .before .before .before .before .before .pre .2)
+note-all-requires c κs =
+    let at-entry = c .before .before .before .before .before .before in
+    (record { within = at-entry .pre .2 .whole .within; uses = c .before .before .before .uses .ensures }, at-entry .pre .1, at-entry .pre .2)
 
 same-length : tie.Need-same-length
 same-length c = c .before .before .note-all .ensures .size
@@ -39,11 +41,15 @@ same-length-2 c = c .before .before .note .kept .0
 
 returns-2 : tie.Need-returns-2
 returns-2 c =
+    let at-write-at = c .before .before .before .before in
+    let at-uses = c .before .before .before .before .before .before .before .before in
+    let at-later = c .before .before .before .before .before .before .before in
+    let at-if1 = c .before .before .before .before .before .before in
     let at-entry = c .before .before .before .before .before .before .before .before .before .before .before in
     let fits = at-entry .pre .2 in
-    let made = slot-made fits (omega arith) refl (c .before .before .before .before .write-at .ensures) in
+    let made = slot-made fits (omega arith) refl (at-write-at .write-at .ensures) in
     writing-one _ (λ v. noted-twice _ v (at-entry .pre .1)) _ _
-    (one-write _ _ _ (record { within = fits .whole .within; uses = c .before .before .before .before .before .before .before .before .uses .ensures }) (sym (c .before .before .before .before .before .before .before .later .ensures) ∙ c .before .before .before .before .before .before .if1 .left) _ (made .1))
+    (one-write _ _ _ (record { within = fits .whole .within; uses = at-uses .uses .ensures }) (sym (at-later .later .ensures) ∙ at-if1 .if1 .left) _ (made .1))
     (rw (made .1) (fits .slot 0 (omega arith)))
     (fits .room)
     (rw (c .before .before .before .full .ensures) at (c .before .before .note .ensures))

@@ -23,7 +23,9 @@ mul-over : tie.Need-mul-over
 mul-over c = search needs
 
 slice-read-over : tie.Need-slice-read-over
-slice-read-over c = let m = subst (Among _) (c .before .before .before .r .given .1) (c .before .before .before .before .before .before .pre .0) in omega (arith, c .before .at .ensures, m .0)
+slice-read-over c =
+    let at-entry = c .before .before .before .before .before .before in
+    let m = subst (Among _) (c .before .before .before .r .given .1) (at-entry .pre .0) in omega (arith, c .before .at .ensures, m .0)
 
 over-requires : tie.Need-over-requires
 over-requires c κs = c .before .before .before .before .before .before .pre .1

@@ -28,8 +28,9 @@ read-place-requires c κs =
 
 put-requires : tie.Need-put-requires Inv-loop μ-loop
 put-requires c κs =
+    let at-places = c .before .before .before .before in
     let at-entry = c .before .before .before .before .before .before .before .before in
-    (place-made (at-entry .pre .1) (c .before .before .before .loop .inv .1 .size) (c .before .before .before .before .places .ensures) (c .before .before .loop-test .taken) (c .read-place .ensures) .among, at-entry .pre .2)
+    (place-made (at-entry .pre .1) (c .before .before .before .loop .inv .1 .size) (at-places .places .ensures) (c .before .before .loop-test .taken) (c .read-place .ensures) .among, at-entry .pre .2)
 
 add-k : tie.Need-add-k Inv-loop μ-loop
 add-k c = search needs
@@ -39,9 +40,12 @@ loop-less c = search needs
 
 loop-again : tie.Need-loop-again Inv-loop μ-loop
 loop-again c =
+    let at-loop = c .before .before .before .before .before .before in
+    let at-places = c .before .before .before .before .before .before .before in
+    let at-loop-test = c .before .before .before .before .before in
     let at-entry = c .before .before .before .before .before .before .before .before .before .before .before in
-    let so-far = c .before .before .before .before .before .before .loop .inv .1 in
-    let made = place-made (at-entry .pre .1) (so-far .size) (c .before .before .before .before .before .before .before .places .ensures) (c .before .before .before .before .before .loop-test .taken) (c .before .before .before .read-place .ensures) in
+    let so-far = at-loop .loop .inv .1 in
+    let made = place-made (at-entry .pre .1) (so-far .size) (at-places .places .ensures) (at-loop-test .loop-test .taken) (c .before .before .before .read-place .ensures) in
     (omega arith, stamping-more so-far (at-entry .pre .2) (at-entry .pre .1 .fits .room) (made .word) (made .low) (c .before .before .put .ensures))
 
 same-length : tie.Need-same-length Inv-loop μ-loop

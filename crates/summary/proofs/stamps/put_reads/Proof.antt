@@ -19,9 +19,12 @@ new-requires-2 c κs = search needs
 
 put-requires-2 : tie.Need-put-requires-2
 put-requires-2 c κs =
+    let at-if1 = c .before .before .before .before .before .before .before in
+    let at-new = c .before .before .before .before .before in
+    let at-put = c .before .before .before .before in
     let at-entry = c .before .before .before .before .before .before .before .before .before .before .before .before in
-    let more = c .before .before .before .before .before .before .before .if1 .taken in
-    let made = words-made-on (at-entry .pre .1) more (at-entry .args .st .now) (at-entry .pre .2) refl (c .before .before .before .before .before .new .ensures) (c .before .before .before .before .put .ensures) (c .new2 .ensures) in
+    let more = at-if1 .if1 .taken in
+    let made = words-made-on (at-entry .pre .1) more (at-entry .args .st .now) (at-entry .pre .2) refl (at-new .new .ensures) (at-put .put .ensures) (c .new2 .ensures) in
     (made .among, at-entry .pre .2)
 
 same-length : tie.Need-same-length
@@ -29,10 +32,13 @@ same-length c = search needs
 
 returns : tie.Need-returns
 returns c =
+    let at-if1 = c .before .before .before .before .before .before .before .before .before .before in
+    let at-new = c .before .before .before .before .before .before .before .before in
+    let at-put = c .before .before .before .before .before .before .before in
     let at-entry = c .before .before .before .before .before .before .before .before .before .before .before .before .before .before .before in
-    let more = c .before .before .before .before .before .before .before .before .before .before .if1 .taken in
+    let more = at-if1 .if1 .taken in
     words-stamped (at-entry .pre .1) more (at-entry .args .st .now) (at-entry .pre .2) refl
-    (c .before .before .before .before .before .before .before .before .new .ensures) (c .before .before .before .before .before .before .before .put .ensures) (c .before .before .before .new2 .ensures) (c .before .before .put2 .ensures)
+    (at-new .new .ensures) (at-put .put .ensures) (c .before .before .before .new2 .ensures) (c .before .before .put2 .ensures)
 
 wide-requires : tie.Need-wide-requires
 wide-requires c κs = search needs
@@ -50,7 +56,10 @@ same-length-2 : tie.Need-same-length-2
 same-length-2 c = search needs
 
 returns-2 : tie.Need-returns-2
-returns-2 c = places-stamped (c .before .before .before .before .before .before .before .before .before .before .before .pre .1) (c .before .before .before .before .before .wide .ensures) (c .before .before .put-places .ensures)
+returns-2 c =
+    let at-entry = c .before .before .before .before .before .before .before .before .before .before .before in
+    let at-wide = c .before .before .before .before .before in
+    places-stamped (at-entry .pre .1) (at-wide .wide .ensures) (c .before .before .put-places .ensures)
 
 pub put-reads-spec : {M : Type 1} → statement M
 put-reads-spec =

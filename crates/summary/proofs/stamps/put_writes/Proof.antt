@@ -18,8 +18,9 @@ same-length c = search needs
 
 returns : tie.Need-returns
 returns c =
+    let at-if1 = c .before .before .before .before .before in
     let at-entry = c .before .before .before .before .before .before .before .before .before in
-    word-stamped (at-entry .pre .1) (c .before .before .before .before .before .if1 .taken) (at-entry .args .st .now) (at-entry .pre .2) refl (c .before .before .before .new .ensures) (c .before .before .put .ensures)
+    word-stamped (at-entry .pre .1) (at-if1 .if1 .taken) (at-entry .args .st .now) (at-entry .pre .2) refl (c .before .before .before .new .ensures) (c .before .before .put .ensures)
 
 wide-requires : tie.Need-wide-requires
 wide-requires c κs = search needs
@@ -37,7 +38,10 @@ same-length-2 : tie.Need-same-length-2
 same-length-2 c = search needs
 
 returns-2 : tie.Need-returns-2
-returns-2 c = slots-stamped (c .before .before .before .before .before .before .before .before .before .before .pre .1) (c .before .before .before .before .before .wide .ensures) (c .before .before .put-slots .ensures)
+returns-2 c =
+    let at-entry = c .before .before .before .before .before .before .before .before .before .before in
+    let at-wide = c .before .before .before .before .before in
+    slots-stamped (at-entry .pre .1) (at-wide .wide .ensures) (c .before .before .put-slots .ensures)
 
 pub put-writes-spec : {M : Type 1} → statement M
 put-writes-spec =
