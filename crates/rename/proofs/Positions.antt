@@ -3,7 +3,6 @@ use mathlib.Core.Path.{_≡_, refl, sym, subst}
 use mathlib.Core.List.{List}
 use Prim.Native.Nat.{ℕ, _≤_, _<_}
 use native.Mathlib.Omega.{arith}
-use lib.ListN.{length}
 use Rattle.model.specs.Picture.{absent}
 use Rattle.inst.specs.Index.{word-of, Among}
 use Rattle.inst.specs.declared.index.MaybeReg.{MaybeReg}

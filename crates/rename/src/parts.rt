@@ -5,7 +5,6 @@ use position::DEF;
 use position::MARK;
 use position::NEW;
 use position::PLACE;
-ghost use mathlib.Core.Path.{_≡_};
 ghost use Prim.Native.Nat.{_+_, _*_, _≤_};
 ghost use lib.ListN.{length};
 ghost use Rattle.rename.specs.Runs.{Parted};

@@ -2,7 +2,6 @@
 use native.Mathlib.Omega.{arith}
 use Prim.Native.Nat.{_-_}
 use Rattle.rename.proofs.Counting.{CountingOwn, own-none, own-more, own-end, ask-at}
-use borrow.Author.Needs.{needs}
 use Rattle.rename.proofs.count.count_target.Statement.{statement}
 use Rattle.rename.proofs.count.count_target.Tie as tie
 

@@ -3,7 +3,6 @@ use native.Mathlib.Omega.{arith}
 use Prim.Native.Nat.{_-_}
 use Rattle.rename.proofs.Positions.{part-among, counted-part}
 use Rattle.rename.proofs.Counting.{CountingX, counting-none, counting-more, counting-end, ask-at}
-use borrow.Author.Needs.{needs}
 use Rattle.rename.proofs.count.count_x.Statement.{statement}
 use Rattle.rename.proofs.count.count_x.Tie as tie
 

@@ -5,7 +5,6 @@ use Prim.Native.Nat.{ℕ, _+_, _≤_, _-_, _<_}
 use lib.ListN.{length}
 use Rattle.rename.specs.Names.{Appended}
 use Rattle.rename.proofs.Operands.{appended-none, appended-front, appended-more, appended-end}
-use Prim.Native.Nat.{ℕ, _≤_, _-_, _<_}
 use borrow.Author.Needs.{needs}
 use Rattle.rename.proofs.lists.append.Statement.{statement}
 use Rattle.rename.proofs.lists.append.Tie as tie

@@ -8,8 +8,6 @@ use Rattle.inst.specs.Record.{write-at}
 use Rattle.pool.proofs.Registers.{among-made, word-made}
 use Rattle.rename.specs.Names.{Forgot}
 use Rattle.rename.proofs.Naming.{forgot-none, forgot-more, forgot-end}
-use Prim.Native.Nat.{_≤_, _-_}
-use Rattle.model.specs.Picture.{inst}
 use borrow.Author.Needs.{needs}
 use Rattle.rename.proofs.names.forget.Statement.{statement}
 use Rattle.rename.proofs.names.forget.Tie as tie

@@ -6,7 +6,6 @@ use lib.ListN.{length}
 use Rattle.pool.proofs.Registers.{among-made, word-made}
 use Rattle.rename.specs.Names.{slotted, Slotted}
 use Rattle.rename.proofs.Slotting.{slotted-none, slotted-more, slotted-end}
-use Prim.Native.Nat.{ℕ, _≤_, _-_, _<_}
 use borrow.Author.Needs.{needs}
 use Rattle.rename.proofs.slots.rename_slots.Statement.{statement}
 use Rattle.rename.proofs.slots.rename_slots.Tie as tie

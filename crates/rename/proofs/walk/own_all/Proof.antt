@@ -2,7 +2,6 @@
 use native.Mathlib.Omega.{arith}
 use Prim.Native.Nat.{_-_}
 use Rattle.rename.proofs.Owning.{Owning, owning-none, owning-ask, owning-more, owning-end}
-use borrow.Author.Needs.{needs}
 use Rattle.rename.proofs.walk.own_all.Statement.{statement}
 use Rattle.rename.proofs.walk.own_all.Tie as tie
 

@@ -3,7 +3,6 @@ use native.Mathlib.Omega.{arith}
 use Prim.Native.Nat.{_-_}
 use Rattle.rename.proofs.Positions.{part-among, pass-part, passed-part}
 use Rattle.rename.proofs.Passing.{Passing, passing-none, passing-ask, passing-more, passing-end}
-use borrow.Author.Needs.{needs}
 use Rattle.rename.proofs.walk.pass_all.Statement.{statement}
 use Rattle.rename.proofs.walk.pass_all.Tie as tie
 
