@@ -38,9 +38,9 @@ module _ {bounds recs ops work64 : List ℕ} {was regs from into : ℕ} (k : Ren
   pub regs-few : regs ≤ 65536
   regs-few = let ok = accepted (k .Q) (length work64) (k .w32) records (k .accepted) in let e = k .regs-are in let a = regs-lent (k .Q) ok in let b = few-types (k .Q) ok in omega arith
 
-  pub renew-ask : {r w : ℕ} (bits : List ℕ) → length bits ≡ length work64 → r ≡ regs → w ≡ width r → RowsAsk bounds recs ops w bits
-  renew-ask bits e er ew =
-      rows-asked (k .Q) (k .w32) bits (subst (λ (n : ℕ). refusal (k .Q) n (k .w32) records ≡ 0) (sym e) (k .accepted)) (k .bounds-are) (k .recs-are) (k .ops-are) (ew ∙ ap width (er ∙ k .regs-are))
+  pub renew-ask : {r : ℕ} (bits : List ℕ) → length bits ≡ length work64 → r ≡ regs → RowsAsk bounds recs ops r bits
+  renew-ask bits e er =
+      rows-asked (k .Q) (k .w32) bits (subst (λ (n : ℕ). refusal (k .Q) n (k .w32) records ≡ 0) (sym e) (k .accepted)) (k .bounds-are) (k .recs-are) (k .ops-are) (er ∙ k .regs-are)
 
 -- ---- what was made
 
@@ -73,6 +73,11 @@ renewed-two {bounds} {recs} {ops} {work64} {mid} {work64′} {v} {w} {from} {int
     go b h f (inr n) (inl e) = rows-else (drawn bounds recs ops [] []) w b mid work64′ into hi h n oi (subst (λ (c : ℕ). each bounds recs ops w c mid) (sym e) rf)
     go b h f (inr n) (inr m) =
         rows-else (drawn bounds recs ops [] []) w b mid work64′ into hi h n oi (rows-else (drawn bounds recs ops [] []) w b work64 mid from hf h m of (f ew m n))
+
+-- with numbers of blocks that are equal
+pub renewed-for : {bounds recs ops work64 work64′ : List ℕ} {v w from into x y : ℕ} → from ≡ x → into ≡ y → Renewed bounds recs ops work64 v w x y work64′ → Renewed bounds recs ops work64 v w from into work64′
+renewed-for {bounds} {recs} {ops} {work64} {work64′} {v} {w} {from} {into} {x} {y} e f n =
+    subst (λ (z : ℕ). Renewed bounds recs ops work64 v w z into work64′) (sym e) (subst (λ (z : ℕ). Renewed bounds recs ops work64 v w x z work64′) (sym f) n)
 
 -- with widths that are equal
 pub renewed-at : {bounds recs ops work64 work64′ : List ℕ} {v w v′ w′ from into : ℕ} → v ≡ v′ → w ≡ w′ → Renewed bounds recs ops work64 v w from into work64′ → Renewed bounds recs ops work64 v′ w′ from into work64′

@@ -4,6 +4,8 @@ use apply::needs::Counts;
 use apply::needs::needs;
 use flow::rows::all_rows;
 use flow::rows::block_rows;
+use inst::index::BlockId;
+use inst::index::MaybeBlock;
 use model::CHAIN_WORDS;
 use trial::block::Move;
 use words::bits::width;
@@ -142,13 +144,20 @@ fn renew(
     requires { ⌜ (now t ≡ rows) × Renewing (now bounds) (now recs) (now ops) (now work64) was regs from into ⌝ }
     ensures { λ _. ⌜ Renewed (now (bounds .entry)) (now (recs .entry)) (now (ops .entry)) (now (work64 .entry)) (width was) (width regs) from into (now (work64 .exit)) ⌝ }
 {
-    let w = width(wide(regs));
-    if w != width(wide(was)) {
-        all_rows(work64, t, bounds, recs, ops, w);
+    let k = wide(regs);
+    if width(k) != width(wide(was)) {
+        all_rows(work64, t, bounds, recs, ops, k);
         return;
     }
-    block_rows(work64, t, bounds, recs, ops, w, from);
-    block_rows(work64, t, bounds, recs, ops, w, into);
+    let n = (bounds.len() / 2) as u32;
+    let MaybeBlock::Is(x) = BlockId::new(from as u32, n) else {
+        return;
+    };
+    let MaybeBlock::Is(y) = BlockId::new(into as u32, n) else {
+        return;
+    };
+    block_rows(work64, t, bounds, recs, ops, k, x);
+    block_rows(work64, t, bounds, recs, ops, k, y);
 }
 
 // The move mv, the round's.
