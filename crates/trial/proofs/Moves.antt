@@ -18,7 +18,8 @@ use Rattle.chains.specs.declared.chain.Chain.{Chain}
 use Rattle.chains.specs.Chain.{blocks-of}
 use Rattle.legalset.specs.Chain.{cell}
 use Rattle.sizes.specs.declared.Sizes.{Sizes}
-use Rattle.trial.specs.declared.block.Move.{Move}
+use Rattle.inst.specs.declared.index.BlockId.{BlockId}
+use Rattle.apply.specs.declared.moves.Move.{Move}
 use Rattle.trial.specs.declared.block.MaybeMove.{MaybeMove}
 use Rattle.trial.specs.declared.block.MaybeMove.the-variants.{Is, Not}
 use Rattle.chainwords.specs.Work.{chain-words, Lists, Tabled, Held}
@@ -39,26 +40,26 @@ module _ (k least : ℕ) where
 
 -- ---- `found`
 
-module _ (x : ℕ) (c : Chain) (m n k l : ℕ) where
-  abbrev in-t : ℕ → ℕ → MaybeMove
-  in-t j i = Is (record { from = j; into = i; inside = m; places = n; moved = k })
+module _ (x : BlockId) (c : Chain) (m n k l : ℕ) where
+  abbrev in-t : MaybeMove
+  in-t = Is (record { from = x; into = c .t; inside = m; places = n; moved = k })
 
-  abbrev in-f : ℕ → ℕ → MaybeMove
-  in-f j i = Is (record { from = j; into = i; inside = m; places = n; moved = l })
+  abbrev in-f : MaybeMove
+  in-f = Is (record { from = x; into = c .f; inside = m; places = n; moved = l })
 
-  pub found-t : {j i : ℕ} → 0 < k → j ≡ x → i ≡ c .t .0 → in-t j i ≡ found x c m n k l
+  pub found-t : 0 < k → in-t ≡ found x c m n k l
   unfolding found
-  found-t h d e = ap₂ in-t d e ∙ ap (λ (b : Bool). cond b (in-t x (c .t .0)) (cond (ltb 0 l) (in-f x (c .f .0)) Not)) (sym (lt-ltb 0 k h))
+  found-t h = ap (λ (b : Bool). cond b in-t (cond (ltb 0 l) in-f Not)) (sym (lt-ltb 0 k h))
 
-  not-t : k ≤ 0 → cond (ltb 0 l) (in-f x (c .f .0)) Not ≡ found x c m n k l
+  not-t : k ≤ 0 → cond (ltb 0 l) in-f Not ≡ found x c m n k l
   unfolding found
-  not-t h = ap (λ (b : Bool). cond b (in-t x (c .t .0)) (cond (ltb 0 l) (in-f x (c .f .0)) Not)) (sym (le-ltb 0 k h))
+  not-t h = ap (λ (b : Bool). cond b in-t (cond (ltb 0 l) in-f Not)) (sym (le-ltb 0 k h))
 
-  pub found-f : {j i : ℕ} → k ≤ 0 → 0 < l → j ≡ x → i ≡ c .f .0 → in-f j i ≡ found x c m n k l
-  found-f h b d e = ap₂ in-f d e ∙ ap (λ (z : Bool). cond z (in-f x (c .f .0)) Not) (sym (lt-ltb 0 l b)) ∙ not-t h
+  pub found-f : k ≤ 0 → 0 < l → in-f ≡ found x c m n k l
+  found-f h b = ap (λ (z : Bool). cond z in-f Not) (sym (lt-ltb 0 l b)) ∙ not-t h
 
   pub found-none : k ≤ 0 → l ≤ 0 → Not ≡ found x c m n k l
-  found-none h b = ap (λ (z : Bool). cond z (in-f x (c .f .0)) Not) (sym (le-ltb 0 l b)) ∙ not-t h
+  found-none h b = ap (λ (z : Bool). cond z in-f Not) (sym (le-ltb 0 l b)) ∙ not-t h
 
 -- ---- the move along chain c, into t or else into f
 
@@ -74,8 +75,8 @@ plan-in P G x c least =
 pub record Moves (P : Picture) (G : Facts) (x : ℕ) (c : Chain) (least m n : ℕ) (mv : Move) (w : List ℕ) : Type 0 where
   pub a : Plan
   pub is : plan-in P G x c least ≡ some a
-  pub from-is : mv .from ≡ x
-  pub into-is : mv .into ≡ a .into
+  pub from-is : mv .from .0 ≡ x
+  pub into-is : mv .into .0 ≡ a .into
   pub moved-is : mv .moved ≡ count (a .set)
   pub inside-is : mv .inside ≡ m
   pub places-is : mv .places ≡ n
@@ -100,7 +101,7 @@ module _ {bounds recs ops pairs targets : List ℕ} {s : Sizes} {c : Chain} {w w
   held-both P G r u d = q .held P G (lists-of (p .size64) (p .size32) r) u (p .held P G r u d)
 
   module _ (some? : 0 < least) (P : Picture) (G : Facts) (x : ℕ) (r : Lists P bounds recs ops s (length work64) (length work32)) (u : Tabled P pairs targets) (d : Held P G work64 work32)
-      (a : Along P G c w work32 n) (f : FromX P c x m) where
+      (a : Along P G c w work32 n) (f : FromX P c x m) (from : BlockId) (here : from .0 ≡ x) where
     abbrev plan-for : ℕ → ℕ → ℕ → Option Plan
     plan-for y i j = plan P (run-of P G (chain-in c)) x (chain-in c) y i j
 
@@ -108,15 +109,15 @@ module _ {bounds recs ops pairs targets : List ℕ} {s : Sizes} {c : Chain} {w w
     answer v = moves P G x c least m n v (chain-words work32″)
 
     -- into t: the words stay as they are
-    into-t : 0 < k → answer (found x c m n k l)
+    into-t : 0 < k → answer (found from c m n k l)
     into-t h =
         let z = p .some-is P G x r u d a f (λ y. omega arith) in
         let same : chain-words work32″ ≡ chain-words work32′ = ap chain-words (q .still (q .unwanted (sym (else-none k least (λ y. omega arith))))) in
-        let it : answer (Is (record { from = x; into = c .t .0; inside = m; places = n; moved = k })) =
+        let it : answer (Is (record { from = from; into = c .t; inside = m; places = n; moved = k })) =
         record {
           a = z .0;
           is = first-some (plan-for least (c .f .0) (c .t .0)) (z .1);
-          from-is = refl;
+          from-is = here;
           into-is = sym (laws.planned P (run-of P G (chain-in c)) x (chain-in c) least (c .t .0) (c .f .0) (z .0) (z .1) .into-is);
           moved-is = z .2;
           inside-is = refl;
@@ -124,7 +125,7 @@ module _ {bounds recs ops pairs targets : List ℕ} {s : Sizes} {c : Chain} {w w
           marked = subst (Marked P (z .0) m n) (sym same) (z .3);
           numbers = λ j b. ap (λ (v : List ℕ). cell v j 0) same ∙ z .4 j b;
         } in
-        subst answer (found-t x c m n k l h refl refl) it
+        subst answer (found-t from c m n k l h) it
 
     -- not into t
     module _ (k0 : k ≡ 0) where
@@ -137,15 +138,15 @@ module _ {bounds recs ops pairs targets : List ℕ} {s : Sizes} {c : Chain} {w w
       again : plan-for least (c .f .0) (c .t .0) ≡ plan-for (else-least k least) (c .f .0) (c .t .0)
       again = ap (λ (y : ℕ). plan-for y (c .f .0) (c .t .0)) (sym same-least)
 
-      into-f : 0 < l → answer (found x c m n k l)
+      into-f : 0 < l → answer (found from c m n k l)
       into-f h =
           let z = q .some-is P G x (lists-of (p .size64) (p .size32) r) u (p .held P G r u d) (along-behind (p .behind) a) f (λ y. omega arith) in
           let there : plan-for least (c .f .0) (c .t .0) ≡ some (z .0) = again ∙ z .1 in
-          let it : answer (Is (record { from = x; into = c .f .0; inside = m; places = n; moved = l })) =
+          let it : answer (Is (record { from = from; into = c .f; inside = m; places = n; moved = l })) =
           record {
             a = z .0;
             is = no-t ∙ there;
-            from-is = refl;
+            from-is = here;
             into-is = sym (laws.planned P (run-of P G (chain-in c)) x (chain-in c) least (c .f .0) (c .t .0) (z .0) there .into-is);
             moved-is = z .2;
             inside-is = refl;
@@ -153,14 +154,14 @@ module _ {bounds recs ops pairs targets : List ℕ} {s : Sizes} {c : Chain} {w w
             marked = z .3;
             numbers = z .4;
           } in
-          subst answer (found-f x c m n k l (omega arith) h refl refl) it
+          subst answer (found-f from c m n k l (omega arith) h) it
 
-      neither : l ≡ 0 → answer (found x c m n k l)
+      neither : l ≡ 0 → answer (found from c m n k l)
       neither l0 =
           let it : plan-in P G x c least ≡ none =
           no-t ∙ again
           ∙ q .none-is (subst (λ (y : ℕ). 0 < y) (sym same-least) some?) P G x (lists-of (p .size64) (p .size32) r) u (p .held P G r u d) (along-behind (p .behind) a) f l0 in
-          subst answer (found-none x c m n k l (omega arith) (omega arith)) it
+          subst answer (found-none from c m n k l (omega arith) (omega arith)) it
 
-    pub first-plan : answer (found x c m n k l)
+    pub first-plan : answer (found from c m n k l)
     first-plan = ⊎-elim (λ (k0 : k ≡ 0). ⊎-elim (neither k0) (into-f k0) (some-or l)) into-t (some-or k)

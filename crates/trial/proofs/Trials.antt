@@ -25,6 +25,7 @@ use Rattle.apply.specs.Apply.{Stands}
 use Rattle.legalset.specs.Chain.{cell}
 use Rattle.sizes.specs.declared.Sizes.{Sizes}
 use Rattle.trial.specs.declared.block.Ask.{Ask}
+use Rattle.inst.specs.declared.index.BlockId.{BlockId}
 use Rattle.trial.specs.declared.block.MaybeMove.{MaybeMove}
 use Rattle.trial.specs.declared.block.MaybeMove.the-variants.{Is, Not}
 use Rattle.chainwords.specs.Work.{chain-words, Lists}
@@ -173,12 +174,12 @@ module _ {bounds recs ops pairs targets replay : List ℕ} {s : Sizes} {x : ℕ}
           omega arith,
         )
 
-    pub followed : (fs₃ : List F.Fact) {work64₃ work32₃ : List ℕ} {l : ℕ}
+    pub followed : (from : BlockId) → from .0 ≡ x → (fs₃ : List F.Fact) {work64₃ work32₃ : List ℕ} {l : ℕ}
         → Following bounds recs ops pairs targets replay s x c work64 work32 → 800 ≤ length fs → Learnt bounds recs ops s c work64 work32 work64₁ work32₁ fs₁ n → length fs₁ ≡ length fs → Wanted bounds replay x c w
         → PlanTried bounds recs ops pairs targets s c (cells fs₁) work64₁ work32₁ (w .least) (c .t .0) (c .f .0) (w .inside) n work64₂ work32₂ k × (cells fs₂ ≡ cells fs₁) → length fs₂ ≡ length fs₁
         → PlanTried bounds recs ops pairs targets s c (cells fs₂) work64₂ work32₂ (else-least k (w .least)) (c .f .0) (c .t .0) (w .inside) n work64₃ work32₃ l × (cells fs₃ ≡ cells fs₂)
-        → Followed bounds recs ops pairs targets replay s x c work64 work32 work64₃ work32₃ (found x c (w .inside) n k l)
-    followed fs₃ {work64₃} {work32₃} {l} p h q e v o g j =
+        → Followed bounds recs ops pairs targets replay s x c work64 work32 work64₃ work32₃ (found from c (w .inside) n k l)
+    followed from here fs₃ {work64₃} {work32₃} {l} p h q e v o g j =
         let first = o .0 in
         let second : PlanTried bounds recs ops pairs targets s c (cells fs₁) work64₂ work32₂ (else-least k (w .least)) (c .f .0) (c .t .0) (w .inside) n work64₃ work32₃ l =
         subst (λ (y : List ℕ). PlanTried bounds recs ops pairs targets s c y work64₂ work32₂ (else-least k (w .least)) (c .f .0) (c .t .0) (w .inside) n work64₃ work32₃ l) (o .1) (j .0) in
@@ -190,6 +191,6 @@ module _ {bounds recs ops pairs targets replay : List ℕ} {s : Sizes} {x : ℕ}
               let m : w .inside ≡ size P x - 1 = v .0 ∙ ap (λ (z : ℕ). z - 1) (size-is x (d .lists)) in
               let least-is : w .least ≡ minimum (replays P (chain-in c)) = v .1 ∙ ap (λ (z : List ℕ). minimum (mem (c .t .0) z || mem (c .f .0) z)) (d .replay-are) in
               let some? : 0 < w .least = let z = minimum-some (replays P (chain-in c)) in omega arith in
-              tried-is P x c (b .is-chain) G (w .least) (w .inside) n (chain-words work32₃) (b .worth) least-is m (found x c (w .inside) n k l)
-              (first-plan first second some? P G x (lists-of (q .size64) (q .size32) (d .lists)) (d .tabled) (q .held P G (d .lists) y) (q .along P G (d .lists) y (chained-here b)) (record { first = first-is P x c (b .is-chain); inside = m }));
+              tried-is P x c (b .is-chain) G (w .least) (w .inside) n (chain-words work32₃) (b .worth) least-is m (found from c (w .inside) n k l)
+              (first-plan first second some? P G x (lists-of (q .size64) (q .size32) (d .lists)) (d .tabled) (q .held P G (d .lists) y) (q .along P G (d .lists) y (chained-here b)) (record { first = first-is P x c (b .is-chain); inside = m }) from here);
         }

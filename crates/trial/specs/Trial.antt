@@ -12,8 +12,9 @@ use Rattle.model.specs.Picture.{Picture, absent, size}
 use Rattle.model.specs.Analyse.{Facts}
 use Rattle.model.specs.Move.{Chain, Plan, chain, chain-places, try-block}
 use Rattle.pool.specs.Pool.{last-at, wrote-at}
+use Rattle.inst.specs.declared.index.BlockId.{BlockId}
 use Rattle.apply.specs.Apply.{Stands}
-use Rattle.trial.specs.declared.block.Move.{Move}
+use Rattle.apply.specs.declared.moves.Move.{Move}
 use Rattle.trial.specs.declared.block.MaybeMove.{MaybeMove}
 use Rattle.trial.specs.declared.block.MaybeMove.the-variants.{Is, Not}
 use Rattle.chainwords.specs.Work.{Shown, Given, Held, chain-words}
@@ -27,8 +28,8 @@ pub record Found (P : Picture) (G : Facts) (x : ℕ) (mv : Move) (w : List ℕ) 
   pub c : Chain
   pub is : try-block P G x ≡ some a
   pub is-chain : chain P x ≡ some c
-  pub from-is : mv .from ≡ x
-  pub into-is : mv .into ≡ a .into
+  pub from-is : mv .from .0 ≡ x
+  pub into-is : mv .into .0 ≡ a .into
   pub moved-is : mv .moved ≡ count (a .set)
   pub in-x : mv .inside ≡ size P x - 1
   pub stands : Stands P a (mv .inside) (mv .places) w
@@ -47,9 +48,9 @@ abbrev pub else-least : ℕ → ℕ → ℕ
 else-least k least = cond (eqb k 0) least 0
 
 -- k members move into t, or else l into f
-unfoldable pub found : ℕ → C.Chain → ℕ → ℕ → ℕ → ℕ → MaybeMove
+unfoldable pub found : BlockId → C.Chain → ℕ → ℕ → ℕ → ℕ → MaybeMove
 found x c m n k l =
-    cond (ltb 0 k) (Is (record { from = x; into = c .t .0; inside = m; places = n; moved = k })) (cond (ltb 0 l) (Is (record { from = x; into = c .f .0; inside = m; places = n; moved = l })) Not)
+    cond (ltb 0 k) (Is (record { from = x; into = c .t; inside = m; places = n; moved = k })) (cond (ltb 0 l) (Is (record { from = x; into = c .f; inside = m; places = n; moved = l })) Not)
 
 -- ---- `try_chain`
 

@@ -1,6 +1,7 @@
 // The move from a block along its chain (01, "A round"; 000's `try_block`): the facts, then the targets t, then f.
 use crate::learn::learn;
 use crate::target::plan;
+use apply::moves::Move;
 use chains::chain::Chain;
 use chains::pass::Sink;
 use facts::Fact;
@@ -16,16 +17,6 @@ ghost use Rattle.words.specs.Lists.{mem};
 ghost use Rattle.model.specs.Move.{minimum};
 ghost use Rattle.inst.specs.Table.{rows};
 ghost use Rattle.trial.specs.Trial.{else-least, found, Following, Followed};
-
-// From and into which block; the positions of the chain that are in the first one, but for its last, and of the whole chain; how
-// many of them move.
-pub struct Move {
-    pub from: usize,
-    pub into: usize,
-    pub inside: usize,
-    pub places: usize,
-    pub moved: u32,
-}
 
 pub enum MaybeMove {
     Is(Move),
@@ -65,14 +56,14 @@ fn else_least(k: u32, least: u32) -> u32
 
 // k members move into t, or else l into f.
 fn found(x: BlockId, c: Chain, m: usize, n: usize, k: u32, l: u32) -> MaybeMove
-    ensures { λ r. ⌜ r ≡ found (x .0) c m n k l ⌝ }
+    ensures { λ r. ⌜ r ≡ found x c m n k l ⌝ }
 {
     let a = c.t;
     let b = c.f;
     if 0 < k {
         let mv = Move {
-            from: x.at(),
-            into: a.at(),
+            from: x,
+            into: a,
             inside: m,
             places: n,
             moved: k,
@@ -81,8 +72,8 @@ fn found(x: BlockId, c: Chain, m: usize, n: usize, k: u32, l: u32) -> MaybeMove
     }
     if 0 < l {
         let mv = Move {
-            from: x.at(),
-            into: b.at(),
+            from: x,
+            into: b,
             inside: m,
             places: n,
             moved: l,

@@ -263,15 +263,15 @@ module _ {M : Type 1} (𝓤 : URA M) (H : Heap 𝓤) (A : Atoms 𝓤) (W : Given
                   found-args = pass-data 𝓤 H A W block-data start ∷ pass-data 𝓤 H A W chain-data chain ∷ pass-number 𝓤 H A W w64 (q .inside) inside-fits ∷ pass-number 𝓤 H A W w64 n n-fits ∷ pass-number 𝓤 H A W w32 k k-fits ∷ pass-number 𝓤 H A W w32 j j-fits ∷ []
 
                   abbrev Found-says : MaybeMove → Lasts 𝓤 H A found-args → Type 0
-                  Found-says r y = r ≡ found (start .it .0) (chain .it) (q .inside) n k j
+                  Found-says r y = r ≡ found (start .it) (chain .it) (q .inside) n k j
 
                   found-call : ent 𝓤 (⋆ 𝓤 H A (G.hads 𝓤 H A found-args)) (H .⇛ (C #trial·block·found (G.flat 𝓤 H A found-args) (G.Then 𝓤 H A W found-args Y.the-row Found-says)))
                   found-call = calls-of 𝓤 H A W C fm #trial·block·found (Founds 𝓤 H A mem run) known-found found-args (λ g. ((G.lfts 𝓤 H A found-args g, G.shares 𝓤 H A found-args, tt, G.values 𝓤 H A found-args g, G.machs 𝓤 H A found-args), tt)) (λ g. refl)
                       (λ g. qed W (raw (G.tokens 𝓤 H A found-args g) ∷ ‵ (G.owns 𝓤 H A found-args g) ∷ []) ∵ join ! $ frame ! $ done !) Y.the-row Found-says (λ g w. id⊢ 𝓤 _)
 
-                  followed : {r : MaybeMove} → r ≡ found (start .it .0) (chain .it) (q .inside) n k j → Followed (bounds .list) (recs .list) (ops .list) (pairs .list) (targets .list) (replay .list) (sizes .it) (start .it .0) (chain .it) (work64 .list) (work32 .list) xs₃ ws₃ r
+                  followed : {r : MaybeMove} → r ≡ found (start .it) (chain .it) (q .inside) n k j → Followed (bounds .list) (recs .list) (ops .list) (pairs .list) (targets .list) (replay .list) (sizes .it) (start .it .0) (chain .it) (work64 .list) (work32 .list) xs₃ ws₃ r
                   followed e = subst (Followed (bounds .list) (recs .list) (ops .list) (pairs .list) (targets .list) (replay .list) (sizes .it) (start .it .0) (chain .it) (work64 .list) (work32 .list) xs₃ ws₃) (sym e)
-                      (law.followed (facts .list) q fs₂ fs₃ (ready .1) (ready .2) learnt e-f asked into-t e-f₂ (subst (λ (i : ℕ). PlanTried (bounds .list) (recs .list) (ops .list) (pairs .list) (targets .list) (sizes .it) (chain .it) (numbers fs₂) xs₂ ws₂ i (chain .it .f .0) (chain .it .t .0) (q .inside) n xs₃ ws₃ j × (numbers fs₃ ≡ numbers fs₂)) v-is into-f))
+                      (law.followed (facts .list) q fs₂ (start .it) refl fs₃ (ready .1) (ready .2) learnt e-f asked into-t e-f₂ (subst (λ (i : ℕ). PlanTried (bounds .list) (recs .list) (ops .list) (pairs .list) (targets .list) (sizes .it) (chain .it) (numbers fs₂) xs₂ ws₂ i (chain .it .f .0) (chain .it .t .0) (q .inside) n xs₃ ws₃ j × (numbers fs₃ ≡ numbers fs₂)) v-is into-f))
 
                   -- the move, and the answer; nothing is handed over, ops an operand's local stands one place higher
                   finds : ent 𝓤 (⋆ 𝓤 H A (At xs₃ ws₃ fs₃ (vint w64 n ∷ O′.lowered q ∷ vint w32 k ∷ vint w32 v ∷ vint w32 j ∷ []))) (Wp 𝓤 H C Λ En body.t-24 (atReturn 𝓤 H En Post))
