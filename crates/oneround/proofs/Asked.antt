@@ -37,7 +37,7 @@ use Rattle.inst.proofs.Words.{slots-long, slot-is}
 use Rattle.flow.proofs.Accepted.{graph-given}
 use Rattle.rename.specs.Runs.{Line, Operands}
 use Rattle.apply.specs.Apply.{Asks}
-use Rattle.trial.specs.declared.block.Move.{Move}
+use Rattle.apply.specs.declared.moves.Move.{Move}
 use Rattle.trial.specs.Trial.{Found}
 
 -- ---- the plan of a block
@@ -163,6 +163,7 @@ module _ (P : Picture) (ok : Accepted P) where
   pub line-given : (q : ℕ) → q < length (P .locs) → Line (P .regs) (P .opers) (P .recs) q
   line-given q h = record {
     known = known;
+    few-regs = let a = S.regs-lent P ok in let b = S.few-types P ok in omega arith;
     slots-ok = λ s l a.
         let i = inst (P .recs) q in
         let same : getD (slots i) s 0 ≡ getD (P .recs) (16 * q + 2 + s) 0 =
@@ -235,6 +236,7 @@ module _ {P : Picture} (ok : Accepted P) {G : Facts} {x : ℕ} {mv : Move} {w : 
     whole = recs-length P ok;
     few-insts = S.few-insts P ok;
     names = S.regs-lent P ok;
+    few-names = let a = S.few-types P ok in omega arith;
     regs = S.regs-lent P ok;
     few-types = S.few-types P ok;
     types-ok = λ d h. let z = S.types-low P ok d h in omega arith;

@@ -7,7 +7,7 @@ use borrow.Rule.Slice.PartMut.{putMid, mid-len, same-len-mid, take-put}
 use lib.ListN.{length, take, drop, length-append, length-drop}
 use lib.Seq.{length-take-le, take-at, drop-at}
 use Rattle.words.proofs.Parts.{rows-small}
-use Rattle.trial.specs.declared.block.Move.{Move}
+use Rattle.apply.specs.declared.moves.Move.{Move}
 use Rattle.words.specs.Bits.{width}
 use Rattle.chainwords.specs.Work.{chain-words}
 use Rattle.apply.specs.declared.needs.Counts.{Counts}
@@ -29,15 +29,15 @@ module _ {bounds recs types ops work64 work32 : List ℕ} {regs opers insts : �
   names-long a r e f = let m = words-there r e in mid-len a (a + length types) work64 (omega arith) ∙ omega arith
 
   pub ask-names : (a r u : ℕ) → r ≡ width (length types) → a ≡ 4 * (length bounds / 2) * r + length types → u ≡ opers
-      → Asks (mv .from) (mv .into) (mv .inside) (mv .places) regs u (length (take (a + length types - a) (drop a work64))) insts bounds recs types ops (chain-words work32)
+      → Asks (mv .from .0) (mv .into .0) (mv .inside) (mv .places) regs u (length (take (a + length types - a) (drop a work64))) insts bounds recs types ops (chain-words work32)
   ask-names a r u e f g =
-      subst (λ (n : ℕ). Asks (mv .from) (mv .into) (mv .inside) (mv .places) regs u n insts bounds recs types ops (chain-words work32)) (sym (names-long a r e f))
-      (subst (λ (n : ℕ). Asks (mv .from) (mv .into) (mv .inside) (mv .places) regs n (length types) insts bounds recs types ops (chain-words work32)) (sym g) (k .asks))
+      subst (λ (n : ℕ). Asks (mv .from .0) (mv .into .0) (mv .inside) (mv .places) regs u n insts bounds recs types ops (chain-words work32)) (sym (names-long a r e f))
+      (subst (λ (n : ℕ). Asks (mv .from .0) (mv .into .0) (mv .inside) (mv .places) regs n (length types) insts bounds recs types ops (chain-words work32)) (sym g) (k .asks))
 
-  pub needed : {locs vias : List ℕ} {c : Counts} (a r u : ℕ) (ys zs : List ℕ) → r ≡ width (length types) → a ≡ 4 * (length bounds / 2) * r + length types → u ≡ opers
-      → length ys ≡ length (take (a + length types - a) (drop a work64)) → Counted (mv .from) (mv .into) (mv .inside) (mv .places) regs u bounds recs locs vias types ops (chain-words work32) zs (c .regs) (c .opers)
-      → Needed bounds recs locs vias types ops work64 work32 regs opers mv (putMid a (a + length types - a) work64 ys) (zs ++ drop 8000 work32) c
-  needed {locs} {vias} {c} a r u ys zs e f g long n =
+  pub needed : {c : Counts} (a r u : ℕ) (ys zs : List ℕ) → r ≡ width (length types) → a ≡ 4 * (length bounds / 2) * r + length types → u ≡ opers
+      → length ys ≡ length (take (a + length types - a) (drop a work64)) → Counted (mv .from .0) (mv .into .0) (mv .inside) (mv .places) regs u bounds recs types ops (chain-words work32) zs (c .regs) (c .opers)
+      → Needed bounds recs types ops work64 work32 regs opers mv (putMid a (a + length types - a) work64 ys) (zs ++ drop 8000 work32) c
+  needed {c} a r u ys zs e f g long n =
       let m = words-there r e in
       let at : 4 * (length bounds / 2) * width (length types) + length types ≡ a = ap (λ (z : ℕ). 4 * (length bounds / 2) * z + length types) (sym e) ∙ sym f in
       let words : length zs ≡ 8000 = n .size ∙ length-take-le 8000 work32 (k .room32) in
@@ -48,6 +48,6 @@ module _ {bounds recs types ops work64 work32 : List ℕ} {regs opers insts : �
         size32 = length-append zs (drop 8000 work32) ∙ omega (arith, length-drop 8000 work32);
         before = subst (λ (z : ℕ). take z (putMid a (a + length types - a) work64 ys) ≡ take z work64) (sym at) (take-put a (a + length types - a) work64 ys (omega arith));
         behind = drop-at zs (drop 8000 work32) 8000 words;
-        counted = subst (λ (v : List ℕ). Counted (mv .from) (mv .into) (mv .inside) (mv .places) regs opers bounds recs locs vias types ops (chain-words work32) v (c .regs) (c .opers)) (sym back)
-            (subst (λ (z : ℕ). Counted (mv .from) (mv .into) (mv .inside) (mv .places) regs z bounds recs locs vias types ops (chain-words work32) zs (c .regs) (c .opers)) g n);
+        counted = subst (λ (v : List ℕ). Counted (mv .from .0) (mv .into .0) (mv .inside) (mv .places) regs opers bounds recs types ops (chain-words work32) v (c .regs) (c .opers)) (sym back)
+            (subst (λ (z : ℕ). Counted (mv .from .0) (mv .into .0) (mv .inside) (mv .places) regs z bounds recs types ops (chain-words work32) zs (c .regs) (c .opers)) g n);
       }

@@ -24,7 +24,7 @@ use Rattle.laws.proofs.Sizes as S
 use Rattle.apply.specs.declared.needs.Counts.{Counts}
 use Rattle.apply.specs.Apply.{Asks, Counted, Stands, Given}
 use Rattle.apply.proofs.Done.{asks-kept}
-use Rattle.trial.specs.declared.block.Move.{Move}
+use Rattle.apply.specs.declared.moves.Move.{Move}
 use Rattle.chainwords.specs.Work.{at-stamps, chain-words}
 use Rattle.trial.specs.Trial.{Found}
 use Rattle.oneround.specs.declared.round.Line.{Line}
@@ -38,18 +38,18 @@ use Rattle.oneround.proofs.Asked.{x-is, asked}
 -- ---- a move that was counted
 
 module _ {P : Picture} (ok : Accepted P) {G : Facts} {x : ℕ} {mv : Move} {w v : List ℕ} (c : Counts) (f : Found P G x mv w) (long : length w ≡ 8000)
-    (n : Counted (mv .from) (mv .into) (mv .inside) (mv .places) (P .regs) (P .opers) (P .bounds) (P .recs) (P .locs) (P .vias) (P .types) (P .ops) w v (c .regs) (c .opers))
+    (n : Counted (mv .from .0) (mv .into .0) (mv .inside) (mv .places) (P .regs) (P .opers) (P .bounds) (P .recs) (P .types) (P .ops) w v (c .regs) (c .opers))
     (q : Pass.round P G ≡ some (f .a)) where
-  from-is : mv .from ≡ f .a .x
+  from-is : mv .from .0 ≡ f .a .x
   from-is = f .from-is ∙ sym (x-is ok f long)
 
-  counted : Counted (f .a .x) (f .a .into) (mv .inside) (mv .places) (P .regs) (P .opers) (P .bounds) (P .recs) (P .locs) (P .vias) (P .types) (P .ops) w v (c .regs) (c .opers)
+  counted : Counted (f .a .x) (f .a .into) (mv .inside) (mv .places) (P .regs) (P .opers) (P .bounds) (P .recs) (P .types) (P .ops) w v (c .regs) (c .opers)
   counted =
-      subst (λ (z : ℕ). Counted (f .a .x) z (mv .inside) (mv .places) (P .regs) (P .opers) (P .bounds) (P .recs) (P .locs) (P .vias) (P .types) (P .ops) w v (c .regs) (c .opers)) (f .into-is)
-      (subst (λ (z : ℕ). Counted z (mv .into) (mv .inside) (mv .places) (P .regs) (P .opers) (P .bounds) (P .recs) (P .locs) (P .vias) (P .types) (P .ops) w v (c .regs) (c .opers)) from-is n)
+      subst (λ (z : ℕ). Counted (f .a .x) z (mv .inside) (mv .places) (P .regs) (P .opers) (P .bounds) (P .recs) (P .types) (P .ops) w v (c .regs) (c .opers)) (f .into-is)
+      (subst (λ (z : ℕ). Counted z (mv .into .0) (mv .inside) (mv .places) (P .regs) (P .opers) (P .bounds) (P .recs) (P .types) (P .ops) w v (c .regs) (c .opers)) from-is n)
 
   after : Stands P (f .a) (mv .inside) (mv .places) v × Given P (f .a) (mv .inside) v × (c .regs ≡ apply P (f .a) .regs) × (c .opers ≡ apply P (f .a) .opers)
-  after = counted .counts (record { pairs = P .pairs; targets = P .targets; replay = P .replay }) (f .a .run) (f .a .set) (f .stands)
+  after = counted .counts (P .locs) (P .vias) (record { pairs = P .pairs; targets = P .targets; replay = P .replay }) (f .a .run) (f .a .set) (f .stands)
 
   asks-after : Asks (f .a .x) (f .a .into) (mv .inside) (mv .places) (P .regs) (P .opers) (length (P .types)) (length (P .locs)) (P .bounds) (P .recs) (P .types) (P .ops) v
   asks-after =
@@ -103,7 +103,7 @@ module _ {P : Picture} {work64 work32 : List ℕ} {mv : Move} (k : Ready P work6
   needing =
       let f = k .sure .found in
       record {
-        asks = subst (λ (z : ℕ). Asks z (mv .into) (mv .inside) (mv .places) (P .regs) (P .opers) (length (P .types)) (length (P .locs)) (P .bounds) (P .recs) (P .types) (P .ops) (chain-words work32)) (sym (f .from-is))
+        asks = subst (λ (z : ℕ). Asks z (mv .into .0) (mv .inside) (mv .places) (P .regs) (P .opers) (length (P .types)) (length (P .locs)) (P .bounds) (P .recs) (P .types) (P .ops) (chain-words work32)) (sym (f .from-is))
             (subst (λ (z : ℕ). Asks (k .sure .x) z (mv .inside) (mv .places) (P .regs) (P .opers) (length (P .types)) (length (P .locs)) (P .bounds) (P .recs) (P .types) (P .ops) (chain-words work32)) (sym (f .into-is)) (asked good f words-long));
         few-blocks = rooms-of P (length work64) (length work32) (k .accepted) .few-blocks;
         room64 = let r = rooms-of P (length work64) (length work32) (k .accepted) .room64 in omega arith;
@@ -111,7 +111,7 @@ module _ {P : Picture} {work64 work32 : List ℕ} {mv : Move} (k : Ready P work6
       }
 
   pub decided : {work64′ work32′ : List ℕ} {c : Counts} {r : Step}
-      → Needed (P .bounds) (P .recs) (P .locs) (P .vias) (P .types) (P .ops) work64 work32 (P .regs) (P .opers) mv work64′ work32′ c
+      → Needed (P .bounds) (P .recs) (P .types) (P .ops) work64 work32 (P .regs) (P .opers) mv work64′ work32′ c
       → stepped mv c (length (P .types)) (length (P .ops)) r → Decided P work64 work32 mv r work64′ work32′
   decided {work64′} {work32′} {c} {r} n h = record {
     size64 = n .size64;

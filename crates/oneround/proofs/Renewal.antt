@@ -74,11 +74,6 @@ renewed-two {bounds} {recs} {ops} {work64} {mid} {work64′} {v} {w} {from} {int
     go b h f (inr n) (inr m) =
         rows-else (drawn bounds recs ops [] []) w b mid work64′ into hi h n oi (rows-else (drawn bounds recs ops [] []) w b work64 mid from hf h m of (f ew m n))
 
--- with numbers of blocks that are equal
-pub renewed-for : {bounds recs ops work64 work64′ : List ℕ} {v w from into x y : ℕ} → from ≡ x → into ≡ y → Renewed bounds recs ops work64 v w x y work64′ → Renewed bounds recs ops work64 v w from into work64′
-renewed-for {bounds} {recs} {ops} {work64} {work64′} {v} {w} {from} {into} {x} {y} e f n =
-    subst (λ (z : ℕ). Renewed bounds recs ops work64 v w z into work64′) (sym e) (subst (λ (z : ℕ). Renewed bounds recs ops work64 v w x z work64′) (sym f) n)
-
 -- with widths that are equal
 pub renewed-at : {bounds recs ops work64 work64′ : List ℕ} {v w v′ w′ from into : ℕ} → v ≡ v′ → w ≡ w′ → Renewed bounds recs ops work64 v w from into work64′ → Renewed bounds recs ops work64 v′ w′ from into work64′
 renewed-at {bounds} {recs} {ops} {work64} {work64′} {v} {w} {v′} {w′} {from} {into} e f n =

@@ -27,7 +27,7 @@ use Rattle.apply.specs.Apply.{Rest, picture, plan, Stands, Given, Asks, Fits, H
 use Rattle.kept.specs.Walk.{after, Keeps}
 use Rattle.kept.proofs.Stages.{last-round}
 use Rattle.kept.proofs.Answer.{kept-after}
-use Rattle.trial.specs.declared.block.Move.{Move}
+use Rattle.apply.specs.declared.moves.Move.{Move}
 use Rattle.words.specs.Bits.{width}
 use Rattle.chainwords.specs.Work.{at-stamps, chain-words, Begun}
 use Rattle.oneround.specs.declared.round.Step.{Step}
@@ -118,11 +118,11 @@ module _ {P : Picture} {work64 work32 work64′ work32′ : List ℕ} {mv : Move
   goes-with l e G b = subst (λ (s : Step). prepared P G s (chain-words work32′)) e (d .is G b)
 
   pub asked : (l : Line) → r ≡ Goes l → {R U K : ℕ} → R ≡ P .regs → U ≡ P .opers → K ≡ length (P .types)
-      → Asks (l .moved .from) (l .moved .into) (l .moved .inside) (l .moved .places) R U K (length (P .locs)) (P .bounds) (P .recs) (P .types) (P .ops) (chain-words work32′)
+      → Asks (l .moved .from .0) (l .moved .into .0) (l .moved .inside) (l .moved .places) R U K (length (P .locs)) (P .bounds) (P .recs) (P .types) (P .ops) (chain-words work32′)
   asked l e eR eU eK = let z = goes-with l e (h .G) (h .sure) in asks-for (z .3 .from-is) (z .3 .into-is) eR eU eK (z .4)
 
   pub fitted : (l : Line) → r ≡ Goes l → {R U : ℕ} → R ≡ P .regs → U ≡ P .opers
-      → Fits (l .moved .from) (l .moved .into) (l .moved .inside) (l .moved .places) R U (P .bounds) (P .recs) (P .types) (P .ops) (chain-words work32′)
+      → Fits (l .moved .from .0) (l .moved .into .0) (l .moved .inside) (l .moved .places) R U (P .bounds) (P .recs) (P .types) (P .ops) (chain-words work32′)
   fitted l e eR eU = let z = goes-with l e (h .G) (h .sure) in fits-for (z .3 .from-is) (z .3 .into-is) eR eU (z .5)
 
   -- the first new name's place, with rows of q words; the part that is lent, and the slice with the part back
@@ -140,7 +140,7 @@ module _ {P : Picture} {work64 work32 work64′ work32′ : List ℕ} {mv : Move
 
   -- and what is then, before and after the rows are made anew
   module _ (l : Line) (e : r ≡ Goes l) {R U : ℕ} (eR : R ≡ P .regs) (eU : U ≡ P .opers) (q : ℕ) (eq : q ≡ width (length (P .types))) (names : List ℕ) (same : length names ≡ length (lent-part q))
-      (bounds recs locs vias types ops : List ℕ) (f : Applies P (l .moved .from) (l .moved .into) (l .moved .inside) (l .moved .places) R U (chain-words work32′) bounds recs locs vias types ops) where
+      (bounds recs locs vias types ops : List ℕ) (f : Applies P (l .moved .from .0) (l .moved .into .0) (l .moved .inside) (l .moved .places) R U (chain-words work32′) bounds recs locs vias types ops) where
     at-start : start q ≡ at-stamps P
     at-start = ap (λ (z : ℕ). 4 * nblocks P * z + length (P .types)) eq
 
@@ -174,7 +174,7 @@ module _ {P : Picture} {work64 work32 work64′ work32′ : List ℕ} {mv : Move
           let k : length bounds / 2 ≡ nblocks P = ap (λ (x : List ℕ). length x / 2) (holds .bounds-are) ∙ same-blocks P G (ready .0) moves in
           omega arith
 
-      renewing-for : Renewing bounds recs ops (put-back q names) (P .regs) (l .registers) (l .moved .from) (l .moved .into)
+      renewing-for : Renewing bounds recs ops (put-back q names) (P .regs) (l .registers) (l .moved .from .0) (l .moved .into .0)
       renewing-for = record {
         Q = Q;
         w32 = length work32;
@@ -188,19 +188,19 @@ module _ {P : Picture} {work64 work32 work64′ work32′ : List ℕ} {mv : Move
         into-block = block-low (says .into-is) (into-block P G (ready .0) moves);
       }
 
-      begun-then : {work64″ : List ℕ} → Renewed bounds recs ops (put-back q names) (width (P .regs)) (width (l .registers)) (l .moved .from) (l .moved .into) work64″ → Begun Q G work64″ work32′
+      begun-then : {work64″ : List ℕ} → Renewed bounds recs ops (put-back q names) (width (P .regs)) (width (l .registers)) (l .moved .from .0) (l .moved .into .0) work64″ → Begun Q G work64″ work32′
       begun-then {work64″} n =
           begun-after P G (ready .0) moves work64′ (put-back q names) work64″ work32′ (accepted Q (length work64) (length work32) records not-refused)
           (holds .bounds-are) (holds .recs-are) (holds .ops-are) names-behind
           (subst (λ (x : ℕ). Renewed bounds recs ops (put-back q names) (width (P .regs)) (width (Q .regs)) x (ready .0 .into) work64″) (says .from-is)
-          (subst (λ (x : ℕ). Renewed bounds recs ops (put-back q names) (width (P .regs)) (width (Q .regs)) (l .moved .from) x work64″) (says .into-is)
-          (subst (λ (x : ℕ). Renewed bounds recs ops (put-back q names) (width (P .regs)) (width x) (l .moved .from) (l .moved .into) work64″) (says .registers-are) n)))
+          (subst (λ (x : ℕ). Renewed bounds recs ops (put-back q names) (width (P .regs)) (width (Q .regs)) (l .moved .from .0) x work64″) (says .into-is)
+          (subst (λ (x : ℕ). Renewed bounds recs ops (put-back q names) (width (P .regs)) (width x) (l .moved .from .0) (l .moved .into .0) work64″) (says .registers-are) n)))
           (d .begun G (b .begun))
 
-    pub renewing : Renewing bounds recs ops (put-back q names) (P .regs) (l .registers) (l .moved .from) (l .moved .into)
+    pub renewing : Renewing bounds recs ops (put-back q names) (P .regs) (l .registers) (l .moved .from .0) (l .moved .into .0)
     renewing = renewing-for (h .G) (h .sure)
 
-    pub stepped-goes : {work64″ : List ℕ} → Renewed bounds recs ops (put-back q names) (width (P .regs)) (width (l .registers)) (l .moved .from) (l .moved .into) work64″
+    pub stepped-goes : {work64″ : List ℕ} → Renewed bounds recs ops (put-back q names) (width (P .regs)) (width (l .registers)) (l .moved .from .0) (l .moved .into .0) work64″
         → Stepped P work64 work32 mv (Goes l) bounds recs locs vias types ops work64″ work32′
     stepped-goes n = record {
       size64 = n .size ∙ part-back q names same;

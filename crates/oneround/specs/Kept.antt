@@ -8,7 +8,7 @@ use Rattle.model.specs.Picture.{Picture}
 use Rattle.model.specs.Refusal.{refusal, records}
 use Rattle.model.specs.Analyse.{facts}
 use Rattle.kept.specs.Walk.{after, Keeps}
-use Rattle.trial.specs.declared.block.Move.{Move}
+use Rattle.apply.specs.declared.moves.Move.{Move}
 use Rattle.oneround.specs.Round.{Sure}
 use Rattle.oneround.specs.declared.round.Step.{Step}
 use Rattle.oneround.specs.declared.round.Step.the-variants as step

@@ -16,7 +16,7 @@ use Rattle.apply.specs.declared.needs.Counts.{Counts}
 use Rattle.apply.specs.Apply.{Holds, Stands, Given, Asks, Counted, Fits}
 use Rattle.cfg.specs.Drawn.{drawn}
 use Rattle.flow.specs.Live.{Rows}
-use Rattle.trial.specs.declared.block.Move.{Move}
+use Rattle.apply.specs.declared.moves.Move.{Move}
 use Rattle.words.specs.Bits.{width}
 use Rattle.chainwords.specs.Work.{Begun, chain-words}
 use Rattle.trial.specs.Trial.{Found}
@@ -39,18 +39,18 @@ pub record Ready (P : Picture) (work64 work32 : List ℕ) (mv : Move) : Type 0 w
 
 -- the move mv can be counted: the words of the chain are as the move asks, and the words for new names are there
 pub record Needing (bounds recs types ops work64 work32 : List ℕ) (regs opers insts : ℕ) (mv : Move) : Type 0 where
-  pub asks : Asks (mv .from) (mv .into) (mv .inside) (mv .places) regs opers (length types) insts bounds recs types ops (chain-words work32)
+  pub asks : Asks (mv .from .0) (mv .into .0) (mv .inside) (mv .places) regs opers (length types) insts bounds recs types ops (chain-words work32)
   pub few-blocks : length bounds / 2 ≤ 4096
   pub room64 : 4 * (length bounds / 2) * width (length types) + 2 * length types ≤ length work64
   pub room32 : 8000 ≤ length work32
 
 -- c was counted; of the work slices, the words of the chain and those for new names changed
-pub record Needed (bounds recs locs vias types ops work64 work32 : List ℕ) (regs opers : ℕ) (mv : Move) (work64′ work32′ : List ℕ) (c : Counts) : Type 0 where
+pub record Needed (bounds recs types ops work64 work32 : List ℕ) (regs opers : ℕ) (mv : Move) (work64′ work32′ : List ℕ) (c : Counts) : Type 0 where
   pub size64 : length work64′ ≡ length work64
   pub size32 : length work32′ ≡ length work32
   pub before : take (4 * (length bounds / 2) * width (length types) + length types) work64′ ≡ take (4 * (length bounds / 2) * width (length types) + length types) work64
   pub behind : drop 8000 work32′ ≡ drop 8000 work32
-  pub counted : Counted (mv .from) (mv .into) (mv .inside) (mv .places) regs opers bounds recs locs vias types ops (chain-words work32) (chain-words work32′) (c .regs) (c .opers)
+  pub counted : Counted (mv .from .0) (mv .into .0) (mv .inside) (mv .places) regs opers bounds recs types ops (chain-words work32) (chain-words work32′) (c .regs) (c .opers)
 
 -- what move mv, of these counts, comes to where so many registers and operands are lent
 abbrev pub stepped : Move → Counts → ℕ → ℕ → Step → Type 0
@@ -59,8 +59,8 @@ stepped mv c lent room Short = c .regs ≤ lent → room < c .opers
 
 -- the line says what the plan a does to P
 pub record Says (P : Picture) (a : Plan) (l : Line) : Type 0 where
-  pub from-is : l .moved .from ≡ a .x
-  pub into-is : l .moved .into ≡ a .into
+  pub from-is : l .moved .from .0 ≡ a .x
+  pub into-is : l .moved .into .0 ≡ a .into
   pub moved-is : l .moved .moved ≡ count (a .set)
   pub registers-are : l .registers ≡ apply P a .regs
   pub operands-are : l .operands ≡ apply P a .opers

@@ -1,13 +1,12 @@
 // The move of a round (01, "A round"), once it is found, and what it comes to.
 use apply::apply;
+use apply::moves::Move;
 use apply::needs::Counts;
 use apply::needs::needs;
 use flow::rows::all_rows;
 use flow::rows::block_rows;
 use inst::index::BlockId;
-use inst::index::MaybeBlock;
 use model::CHAIN_WORDS;
-use trial::block::Move;
 use words::bits::width;
 use words::numbers::wide;
 ghost use mathlib.Core.Path.{_≡_};
@@ -15,6 +14,7 @@ ghost use Prim.Native.Nat.{_≤_};
 ghost use lib.ListN.{length};
 ghost use Rattle.inst.specs.Table.{rows};
 ghost use Rattle.checks.specs.Causes.{picture-of};
+ghost use Rattle.rename.specs.Names.{Some};
 ghost use Rattle.words.specs.Bits.{width};
 ghost use Rattle.oneround.specs.Round.{Ready, Needing, Needed, stepped, Decided, Renewing, Renewed, Stepped};
 ghost use Rattle.oneround.specs.Kept.{registers-then, operands-then, StepKept};
@@ -37,8 +37,6 @@ fn count_needs(
     t: &[u32; 202],
     bounds: &[u32],
     recs: &[u32],
-    locs: &[u32],
-    vias: &[u32],
     types: &[u32],
     ops: &[u32],
     work64: &mut [u64],
@@ -47,27 +45,25 @@ fn count_needs(
     opers: u32,
     mv: Move,
 ) -> Counts
-    requires { ⌜ (now t ≡ rows) × Needing (now bounds) (now recs) (now types) (now ops) (now work64) (now work32) regs opers (length (now locs)) mv ⌝ }
-    ensures { λ r. ⌜ Needed (now (bounds .entry)) (now (recs .entry)) (now (locs .entry)) (now (vias .entry)) (now (types .entry)) (now (ops .entry)) (now (work64 .entry)) (now (work32 .entry)) regs opers mv (now (work64 .exit)) (now (work32 .exit)) r ⌝ }
+    requires { ⌜ (now t ≡ rows) × Some (λ n. Needing (now bounds) (now recs) (now types) (now ops) (now work64) (now work32) regs opers n mv) ⌝ }
+    ensures { λ r. ⌜ Needed (now (bounds .entry)) (now (recs .entry)) (now (types .entry)) (now (ops .entry)) (now (work64 .entry)) (now (work32 .entry)) regs opers mv (now (work64 .exit)) (now (work32 .exit)) r ⌝ }
 {
     let lent = types.len();
     let a = 4 * (bounds.len() / 2) * width(lent) + lent;
+    let c = Counts {
+        regs: regs,
+        opers: wide(opers),
+    };
     needs(
         t,
         bounds,
         recs,
-        locs,
-        vias,
         types,
-        regs,
         ops,
-        wide(opers),
         &mut work64[a..a + lent],
         &mut work32[..CHAIN_WORDS],
-        mv.from,
-        mv.into,
-        mv.inside,
-        mv.places,
+        mv,
+        c,
     )
 }
 
@@ -116,8 +112,6 @@ fn weigh(
         t,
         bounds,
         recs,
-        locs,
-        vias,
         types,
         ops,
         work64,
@@ -138,26 +132,19 @@ fn renew(
     work64: &mut [u64],
     was: u32,
     regs: u32,
-    from: usize,
-    into: usize,
+    from: BlockId,
+    into: BlockId,
 )
-    requires { ⌜ (now t ≡ rows) × Renewing (now bounds) (now recs) (now ops) (now work64) was regs from into ⌝ }
-    ensures { λ _. ⌜ Renewed (now (bounds .entry)) (now (recs .entry)) (now (ops .entry)) (now (work64 .entry)) (width was) (width regs) from into (now (work64 .exit)) ⌝ }
+    requires { ⌜ (now t ≡ rows) × Renewing (now bounds) (now recs) (now ops) (now work64) was regs (from .0) (into .0) ⌝ }
+    ensures { λ _. ⌜ Renewed (now (bounds .entry)) (now (recs .entry)) (now (ops .entry)) (now (work64 .entry)) (width was) (width regs) (from .0) (into .0) (now (work64 .exit)) ⌝ }
 {
     let k = wide(regs);
     if width(k) != width(wide(was)) {
         all_rows(work64, t, bounds, recs, ops, k);
         return;
     }
-    let n = (bounds.len() / 2) as u32;
-    let MaybeBlock::Is(x) = BlockId::new(from as u32, n) else {
-        return;
-    };
-    let MaybeBlock::Is(y) = BlockId::new(into as u32, n) else {
-        return;
-    };
-    block_rows(work64, t, bounds, recs, ops, k, x);
-    block_rows(work64, t, bounds, recs, ops, k, y);
+    block_rows(work64, t, bounds, recs, ops, k, from);
+    block_rows(work64, t, bounds, recs, ops, k, into);
 }
 
 // The move mv, the round's.
@@ -203,6 +190,10 @@ pub fn round(
         let k = types.len();
         let a = 4 * (bounds.len() / 2) * width(k) + k;
         let m = l.moved;
+        let c = Counts {
+            regs: regs,
+            opers: wide(opers),
+        };
         apply(
             t,
             bounds,
@@ -210,15 +201,11 @@ pub fn round(
             locs,
             vias,
             types,
-            wide(regs),
             ops,
-            wide(opers),
             &mut work64[a..a + k],
             &work32[..CHAIN_WORDS],
-            m.from,
-            m.into,
-            m.inside,
-            m.places,
+            m,
+            c,
         );
         renew(
             t,

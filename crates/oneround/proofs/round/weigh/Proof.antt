@@ -1,10 +1,13 @@
 -- `oneround::round::weigh` meets its contract. Assumes nothing.
+use lib.ListN.{length}
 use Rattle.oneround.proofs.Prepared.{ops-few, needing, decided}
 use Rattle.oneround.proofs.round.weigh.Statement.{statement}
 use Rattle.oneround.proofs.round.weigh.Tie as tie
 
 count-needs-requires : tie.Need-count-needs-requires
-count-needs-requires c κs = (c .before .before .before .before .before .before .before .before .before .before .before .before .before .pre .0, needing (c .before .before .before .before .before .before .before .before .before .before .before .before .before .pre .1))
+count-needs-requires c κs =
+    let at-pre = c .before .before .before .before .before .before .before .before .before .before .before .before .before in
+    (at-pre .pre .0, record { u = length (at-pre .args .locs .now); is = needing (at-pre .pre .1) })
 
 step-of-requires : tie.Need-step-of-requires
 step-of-requires c κs = ops-few (c .before .before .before .before .before .before .before .before .before .before .before .before .before .before .before .before .before .before .pre .1)
