@@ -21,14 +21,13 @@ use Rattle.model.specs.Analyse.{Facts, facts}
 use Rattle.model.specs.Move.{Plan, apply, try-block}
 use Rattle.model.specs.Pass.{Outcome, used, rounds, ends-in, after-line, first-plan, sink-all, sink, most-rounds}
 use Rattle.laws.proofs.Accepted.{accepted}
-use Rattle.laws.proofs.Moving.{x-block, into-block}
-use Rattle.laws.proofs.Keeps.{moving, round-not-refused}
+use Rattle.laws.proofs.Keeps.{round-not-refused}
 use Rattle.laws.proofs.Rounds.{line-of, sink-done, sink-short, sink-more}
 use Rattle.checks.specs.Causes.{picture-of}
 use Rattle.apply.specs.Apply.{Holds}
 use Rattle.flow.specs.Live.{Live}
 use Rattle.sizes.specs.declared.Sizes.{Sizes}
-use Rattle.trial.specs.declared.block.Move.{Move}
+use Rattle.apply.specs.declared.moves.Move.{Move}
 use Rattle.trial.specs.declared.block.MaybeMove.{MaybeMove}
 use Rattle.trial.specs.declared.block.MaybeMove.the-variants as tries
 use Rattle.words.specs.Bits.{width}
@@ -242,14 +241,7 @@ module _ {P : Picture} {w64 w32 nf : ℕ} {Q : Picture} {m : At} {k : Look} {wor
     advancing = record { long = b .long; line = go step (s .is (facts P) sure) }
       where
         go : (step : Step) → next Q step Left (facts P) → small (m .rounds) step
-        go (Goes l) z =
-            let mv = moving Q (facts P) (z .0) (accepted Q (length work64) (length work32) records (b .accepted)) (z .1) (z .2) in
-            let k = blocks-few b in
-            record {
-              few = b .few;
-              from-small = omega (arith, z .3 .from-is, x-block Q (facts P) (z .0) mv);
-              into-small = omega (arith, z .3 .into-is, into-block Q (facts P) (z .0) mv);
-            }
+        go (Goes l) z = b .few
         go Short z = tt
 
     abbrev at-next : At → Picture

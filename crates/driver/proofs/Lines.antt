@@ -13,7 +13,7 @@ use Rattle.oneround.specs.declared.round.Step.{Step}
 use Rattle.oneround.specs.declared.round.Step.the-variants.{Goes, Short}
 use Rattle.oneround.specs.declared.round.Line.{Line}
 use Rattle.driver.specs.declared.rounds.At.{At}
-use Rattle.driver.specs.Rounds.{Small, line-words, with-line, small, Advancing, gone, halted, advanced, opens-after}
+use Rattle.driver.specs.Rounds.{line-words, with-line, small, Advancing, gone, halted, advanced, opens-after}
 
 -- six words, stored one by one
 pub six : (l : List ℕ) (a u v w x y z : ℕ)
@@ -45,7 +45,7 @@ module _ (i : ℕ) (l : Line) (lines : List ℕ) (few : i < most-rounds) (long :
 
 -- ---- one round on, by what its move came to
 
-pub small-line : {m : At} {r : Step} {l : Line} → r ≡ Goes l → Advancing m r → Small (m .rounds) l × (length (m .lines) ≡ 48)
+pub small-line : {m : At} {r : Step} {l : Line} → r ≡ Goes l → Advancing m r → (m .rounds < most-rounds) × (length (m .lines) ≡ 48)
 small-line {m} e h = (subst (small (m .rounds)) e (h .line), h .long)
 
 pub advanced-goes : (m : At) {r : Step} {l : Line} {lines : List ℕ} → r ≡ Goes l → lines ≡ with-line (m .rounds) l (m .lines) → gone m l lines ≡ advanced m r

@@ -20,15 +20,9 @@ use Rattle.driver.specs.declared.rounds.At.{At}
 
 -- ---- lines
 
--- there is a line for round i + 1, and its block numbers are words
-pub record Small (i : ℕ) (l : Line) : Type 0 where
-  pub few : i < most-rounds
-  pub from-small : l .moved .from < 4294967296
-  pub into-small : l .moved .into < 4294967296
-
 -- the words of the line of round n
 abbrev pub line-words : ℕ → Line → List ℕ
-line-words n l = n ∷ l .moved .from ∷ l .moved .into ∷ l .moved .moved ∷ l .registers ∷ l .operands ∷ []
+line-words n l = n ∷ l .moved .from .0 ∷ l .moved .into .0 ∷ l .moved .moved ∷ l .registers ∷ l .operands ∷ []
 
 -- behind the lines of i rounds, that of round i + 1; all else stays
 abbrev pub with-line : ℕ → Line → List ℕ → List ℕ
@@ -42,7 +36,7 @@ first-at answer s opers = record { next = Not; answer = answer; rounds = 0; oper
 -- ---- one round on
 
 abbrev pub small : ℕ → Step → Type 0
-small i (Goes l) = Small i l
+small i (Goes l) = i < most-rounds
 small i Short = Unit {0}
 
 pub record Advancing (m : At) (r : Step) : Type 0 where

@@ -7,8 +7,10 @@ use oneround::round::Step;
 use search::find::MaybeLook;
 use sizes::Sizes;
 ghost use mathlib.Core.Path.{_≡_};
+ghost use Prim.Native.Nat.{_<_};
 ghost use lib.ListN.{length};
-ghost use Rattle.driver.specs.Rounds.{Small, with-line, first-at, Advancing, advanced, opens-after, taken-up};
+ghost use Rattle.model.specs.Pass.{most-rounds};
+ghost use Rattle.driver.specs.Rounds.{with-line, first-at, Advancing, advanced, opens-after, taken-up};
 
 // The answer, and a line of six words for each round: its number, from, into, moved, then registers and operands in use. Zeros behind.
 pub struct Ran {
@@ -55,15 +57,18 @@ pub fn at_first(answer: Answer, s: Sizes, opers: u32) -> At
 
 // The lines with that of round i + 1.
 fn put_line(lines: [u32; 48], i: u32, l: Line) -> [u32; 48]
-    requires { ⌜ Small i l × (length lines ≡ 48) ⌝ }
+    requires { ⌜ (i < most-rounds) × (length lines ≡ 48) ⌝ }
     ensures { λ r. ⌜ r ≡ with-line i l lines ⌝ }
 {
     let a = 6 * (i as usize);
     let mut r = lines;
+    let m = l.moved;
+    let x = m.from;
+    let into = m.into;
     r[a] = i + 1;
-    r[a + 1] = l.moved.from as u32;
-    r[a + 2] = l.moved.into as u32;
-    r[a + 3] = l.moved.moved;
+    r[a + 1] = x.number();
+    r[a + 2] = into.number();
+    r[a + 3] = m.moved;
     r[a + 4] = l.registers;
     r[a + 5] = l.operands;
     r

@@ -18,7 +18,7 @@ put-line-requires : tie.Need-put-line-requires
 put-line-requires c κs = small-line (c .before .r .given .1) (c .before .before .before .before .before .pre)
 
 add-done : tie.Need-add-done
-add-done c = let h = small-line (c .before .before .r .given .1) (c .before .before .before .before .before .before .pre) in omega (arith, h .0 .few)
+add-done c = let h = small-line (c .before .before .r .given .1) (c .before .before .before .before .before .before .pre) in omega (arith, h .0)
 
 returns-2 : tie.Need-returns-2
 returns-2 c = advanced-goes (c .before .before .before .before .before .before .args .m) (c .before .before .r .given .1) (c .put-line .ensures)

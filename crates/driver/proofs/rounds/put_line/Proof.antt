@@ -1,5 +1,8 @@
 -- `driver::rounds::put_line` meets its contract. Assumes nothing.
-use Prim.Native.Nat.{_+_, _*_}
+use mathlib.Core.Path.{ap₂, _∙_}
+use mathlib.Core.List.{[], _∷_}
+use Prim.Native.Nat.{ℕ, _+_, _*_}
+use lib.Seq.{sets}
 use Rattle.driver.proofs.Lines.{six}
 use borrow.Author.Needs.{needs}
 use Rattle.driver.proofs.rounds.put_line.Statement.{statement}
@@ -17,8 +20,8 @@ mul-r c = search needs
 array-write-r : tie.Need-array-write-r
 array-write-r c = search needs
 
-cast-r : tie.Need-cast-r
-cast-r c = search needs
+number-requires : tie.Need-number-requires
+number-requires c κs = search needs
 
 add-r-2 : tie.Need-add-r-2
 add-r-2 c = search needs
@@ -29,8 +32,8 @@ mul-r-2 c = search needs
 array-write-r-2 : tie.Need-array-write-r-2
 array-write-r-2 c = search needs
 
-cast-r-2 : tie.Need-cast-r-2
-cast-r-2 c = search needs
+number-requires-2 : tie.Need-number-requires-2
+number-requires-2 c κs = search needs
 
 add-r-3 : tie.Need-add-r-3
 add-r-3 c = search needs
@@ -69,7 +72,11 @@ array-write-r-6 : tie.Need-array-write-r-6
 array-write-r-6 c = search needs
 
 returns : tie.Need-returns
-returns c = let g = c .before .before .args in six (g .lines) (6 * g .i) (g .i + 1) (g .l .moved .from) (g .l .moved .into) (g .l .moved .moved) (g .l .registers) (g .l .operands)
+returns c =
+    let g = c .before .before .before .before .before .args in
+    let l = g .l in
+    six (g .lines) (6 * g .i) (g .i + 1) (c .before .number .result) (c .number2 .result) (l .moved .moved) (l .registers) (l .operands)
+    ∙ ap₂ (λ (x y : ℕ). sets (g .lines) (6 * g .i) ((g .i + 1) ∷ x ∷ y ∷ l .moved .moved ∷ l .registers ∷ l .operands ∷ [])) (c .before .number .ensures) (c .number2 .ensures)
 
 pub put-line-spec : {M : Type 1} → statement M
 put-line-spec =
@@ -79,11 +86,11 @@ put-line-spec =
     add-r
     mul-r
     array-write-r
-    cast-r
+    number-requires
     add-r-2
     mul-r-2
     array-write-r-2
-    cast-r-2
+    number-requires-2
     add-r-3
     mul-r-3
     array-write-r-3
