@@ -17,7 +17,7 @@ use Rattle.apply.specs.Apply.{Stands}
 use Rattle.laws.proofs.Accepted.{work-room}
 use Rattle.facts.specs.declared.Fact.{Fact}
 use Rattle.sizes.specs.declared.Sizes.{Sizes}
-use Rattle.trial.specs.declared.block.Move.{Move}
+use Rattle.apply.specs.declared.moves.Move.{Move}
 use Rattle.trial.specs.declared.block.MaybeMove.{MaybeMove}
 use Rattle.trial.specs.declared.block.MaybeMove.the-variants as tries
 use Rattle.chainwords.specs.Work.{chain-words}

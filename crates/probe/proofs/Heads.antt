@@ -1,5 +1,5 @@
 -- The words written at the head of a slice. Assumes nothing.
-use mathlib.Core.Path.{_≡_, refl, sym, ap, _∙_, subst}
+use mathlib.Core.Path.{_≡_, refl, sym, ap, ap₂, _∙_, subst}
 use mathlib.Core.List.{List, [], _∷_}
 use Prim.Native.Nat.{ℕ, _+_, _≤_, _<_}
 use native.Mathlib.Omega.{arith}
@@ -8,7 +8,7 @@ use Rattle.model.specs.declared.Used.{Used}
 use Rattle.model.specs.declared.Answer.{Answer}
 use Rattle.model.specs.declared.Answer.the-variants.{Done, Short, Refused}
 use Rattle.model.specs.Pass.{Outcome, number}
-use Rattle.trial.specs.declared.block.Move.{Move}
+use Rattle.apply.specs.declared.moves.Move.{Move}
 use Rattle.trial.specs.declared.block.MaybeMove.{MaybeMove}
 use Rattle.trial.specs.declared.block.MaybeMove.the-variants.{Is}
 use Rattle.probe.specs.Heads.{with-two, with-four, with-used}
@@ -66,6 +66,6 @@ told-out o out h e = h ∙ ap (with-used out) e
 
 -- ---- of a move
 
-pub move-told : (out : List ℕ) {out′ : List ℕ} {r : MaybeMove} {mv : Move} {w : ℕ} → r ≡ Is mv → w ≡ mv .moved → out′ ≡ with-four out (mv .into) (mv .inside) (mv .places) w
+pub move-told : (out : List ℕ) {out′ : List ℕ} {r : MaybeMove} {mv : Move} {w b : ℕ} → r ≡ Is mv → w ≡ mv .moved → b ≡ mv .into .0 → out′ ≡ with-four out b (mv .inside) (mv .places) w
     → (1 ≡ move-number r) × (out′ ≡ with-move out r)
-move-told out {mv = mv} e g h = (sym (ap move-number e), h ∙ ap (with-four out (mv .into) (mv .inside) (mv .places)) g ∙ sym (ap (with-move out) e))
+move-told out {mv = mv} e g i h = (sym (ap move-number e), h ∙ ap₂ (λ (x y : ℕ). with-four out x (mv .inside) (mv .places) y) i g ∙ sym (ap (with-move out) e))

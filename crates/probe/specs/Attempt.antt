@@ -32,7 +32,7 @@ move-number (tries.Is mv) = 1
 move-number tries.Not = 0
 
 abbrev pub with-move : List ℕ → MaybeMove → List ℕ
-with-move out (tries.Is mv) = with-four out (mv .into) (mv .inside) (mv .places) (mv .moved)
+with-move out (tries.Is mv) = with-four out (mv .into .0) (mv .inside) (mv .places) (mv .moved)
 with-move out tries.Not = out
 
 -- of `model`'s plan

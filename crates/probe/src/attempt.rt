@@ -52,7 +52,8 @@ fn put_move(out: &mut [usize], r: MaybeMove) -> u32
     let MaybeMove::Is(mv) = r else {
         return 0;
     };
-    put_four(out, mv.into, mv.inside, mv.places, wide(mv.moved));
+    let into = mv.into;
+    put_four(out, into.at(), mv.inside, mv.places, wide(mv.moved));
     1
 }
 

@@ -13,6 +13,9 @@ enum-told c = search needs
 returns : tie.Need-returns
 returns c = search needs
 
+at-requires : tie.Need-at-requires
+at-requires c κs = search needs
+
 wide-requires : tie.Need-wide-requires
 wide-requires c κs = search needs
 
@@ -23,7 +26,7 @@ same-length : tie.Need-same-length
 same-length c = search needs
 
 returns-2 : tie.Need-returns-2
-returns-2 c = move-told (c .before .before .before .before .before .before .before .before .before .args .out .now) (c .before .before .before .before .before .before .r .given .1) (c .before .before .before .wide .ensures) (c .before .before .put-four .ensures)
+returns-2 c = move-told (c .before .before .before .before .before .before .before .before .before .before .before .args .out .now) (c .before .before .before .before .before .before .before .before .r .given .1) (c .before .before .before .wide .ensures) (c .before .before .before .before .at .ensures) (c .before .before .put-four .ensures)
 
 pub put-move-spec : {M : Type 1} → statement M
 put-move-spec =
@@ -32,6 +35,7 @@ put-move-spec =
     enum-known-r
     enum-told
     returns
+    at-requires
     wide-requires
     put-four-requires
     same-length
