@@ -108,18 +108,7 @@ fn weigh(
     requires { ⌜ (now t ≡ rows) × Ready (picture-of (now bounds) (now recs) (now locs) (now vias) (now types) regs (now ops) opers (now pairs) (now targets) (now replay)) (now work64) (now work32) mv ⌝ }
     ensures { λ r. ⌜ Decided (picture-of (now (bounds .entry)) (now (recs .entry)) (now (locs .entry)) (now (vias .entry)) (now (types .entry)) regs (now (ops .entry)) opers (now (pairs .entry)) (now (targets .entry)) (now (replay .entry))) (now (work64 .entry)) (now (work32 .entry)) mv r (now (work64 .exit)) (now (work32 .exit)) ⌝ }
 {
-    let c = count_needs(
-        t,
-        bounds,
-        recs,
-        types,
-        ops,
-        work64,
-        work32,
-        regs,
-        opers,
-        mv,
-    );
+    let c = count_needs(t, bounds, recs, types, ops, work64, work32, regs, opers, mv);
     step_of(mv, c, types.len(), ops.len())
 }
 

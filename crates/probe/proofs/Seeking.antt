@@ -52,13 +52,13 @@ module _ (P : Picture) (work64 work32 : List ℕ) (ok : refusal P (length work64
     sees {x} h = (subst (λ (s : Sizes). Seeking (P .bounds) (P .recs) (P .replay) s work32′) (sym es) (seeking looking), subst (λ (s : Sizes). x < s .blocks) (sym es) h)
 
     -- with live-in made: the chain from block x, and what trying it leaves
-    module _ {r w : ℕ} {bits : List ℕ} (er : r ≡ P .regs) (ew : w ≡ width r) (n : Anew (P .bounds) (P .recs) (P .ops) (P .pairs) (P .targets) work64′ bits w)
+    module _ {r : ℕ} {bits : List ℕ} (er : r ≡ P .regs) (n : Anew (P .bounds) (P .recs) (P .pairs) (P .targets) work64′ bits (width r))
         {x : ℕ} {o : MaybeLook} (l₀ : Looked (P .bounds) (P .recs) (P .replay) s work32′ x o) where
       l : Looked (P .bounds) (P .recs) (P .replay) (sizes-of P) work32′ x o
       l = subst (λ (s : Sizes). Looked (P .bounds) (P .recs) (P .replay) s work32′ x o) es l₀
 
       held : Held P (facts P) bits work32′
-      held = held-anew er ew n P (facts P) shown-after begun
+      held = held-anew er n P (facts P) shown-after begun
 
       shown-anew : Shown P (P .bounds) (P .recs) (P .ops) (P .pairs) (P .targets) (P .replay) (sizes-of P) (length bits) (length work32′)
       shown-anew = shown-at (n .size) refl shown-after

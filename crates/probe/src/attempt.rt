@@ -10,7 +10,6 @@ use search::begin::begin;
 use search::find::MaybeLook;
 use search::find::look_from;
 use sizes::Sizes;
-use sizes::width;
 use trial::block::MaybeMove;
 use trial::block::try_chain;
 use words::numbers::wide;
@@ -97,8 +96,7 @@ fn seek<'a>(
     ensures { λ r. ⌜ Seen (picture-of (now (bounds .entry)) (now (recs .entry)) (now (locs .entry)) (now (vias .entry)) (now (types .entry)) registers (now (ops .entry)) operands (now (pairs .entry)) (now (targets .entry)) (now (replay .entry))) (now (work64 .entry)) (now (work32 .entry)) (now (work64 .exit)) (now (work32 .exit)) (x .0) r ⌝ }
 {
     begin(t, bounds, recs, ops, pairs, targets, work64, work32, s);
-    let w = width(wide(registers));
-    live_in(work64, t, bounds, recs, ops, pairs, targets, w);
+    live_in(work64, t, bounds, recs, pairs, targets, wide(registers));
     look_from(bounds, recs, replay, work32, s, x)
 }
 

@@ -8,10 +8,11 @@ use flow::live::live_in;
 use flow::rows::all_rows;
 use inst::table::table;
 use picture::refusal;
+use words::numbers::wide;
 ghost use mathlib.Core.Path.{_≡_};
 ghost use mathlib.Core.List.{[]};
-ghost use Prim.Native.Nat.{_+_, _/_};
 ghost use lib.ListN.{length};
+ghost use Rattle.words.specs.Bits.{width};
 ghost use Rattle.model.specs.Refusal.{refusal};
 ghost use Rattle.checks.specs.Causes.{picture-of};
 ghost use Rattle.flow.specs.Live.{Live};
@@ -101,13 +102,6 @@ pub extern "C" fn virdzeba_preds<'a>(
     0
 }
 
-// The words of a row for so many registers.
-fn row_words(registers: u32) -> usize
-    ensures { λ w. ⌜ w ≡ (registers + 63) / 64 ⌝ }
-{
-    (registers as usize + 63) / 64
-}
-
 // Live-in of an accepted picture: a row of bits for each block, a word for each 64 registers in use. The slice is as long as the
 // pass's work in 64-bit words; the answer is that of `virdzeba_refusal`, and unless it is 0 nothing is written.
 #[no_mangle]
@@ -128,7 +122,7 @@ pub extern "C" fn virdzeba_live<'a>(
 ) -> u32
     ensures { λ r. ⌜ r ≡ refusal (picture-of (now (bounds .entry)) (now (recs .entry)) (now (locs .entry)) (now (vias .entry)) (now (types .entry)) registers (now (ops .entry)) operands (now (pairs .entry)) (now (targets .entry)) []) (length (now (bits .entry))) w32 records ⌝ }
     ensures { λ r. ⌜ ((r ≡ 0 → ⊥) → now (bits .exit) ≡ now (bits .entry)) ⌝ }
-    ensures { λ r. ⌜ (r ≡ 0 → Live (picture-of (now (bounds .entry)) (now (recs .entry)) (now (locs .entry)) (now (vias .entry)) (now (types .entry)) registers (now (ops .entry)) operands (now (pairs .entry)) (now (targets .entry)) []) ((registers + 63) / 64) (now (bits .exit))) ⌝ }
+    ensures { λ r. ⌜ (r ≡ 0 → Live (picture-of (now (bounds .entry)) (now (recs .entry)) (now (locs .entry)) (now (vias .entry)) (now (types .entry)) registers (now (ops .entry)) operands (now (pairs .entry)) (now (targets .entry)) []) (width registers) (now (bits .exit))) ⌝ }
 {
     let t = table();
     let r = refusal(
@@ -150,8 +144,8 @@ pub extern "C" fn virdzeba_live<'a>(
     if r != 0 {
         return r;
     }
-    let w = row_words(registers);
-    all_rows(bits, &t, bounds, recs, ops, w);
-    live_in(bits, &t, bounds, recs, ops, pairs, targets, w);
+    let k = wide(registers);
+    all_rows(bits, &t, bounds, recs, ops, k);
+    live_in(bits, &t, bounds, recs, pairs, targets, k);
     0
 }
