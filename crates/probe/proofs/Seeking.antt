@@ -9,7 +9,7 @@ use Rattle.model.specs.Analyse.{facts}
 use Rattle.sizes.specs.declared.Sizes.{Sizes}
 use Rattle.trial.specs.declared.block.MaybeMove.{MaybeMove}
 use Rattle.trial.specs.declared.block.MaybeMove.the-variants as tries
-use Rattle.sizes.specs.Parts.{width}
+use Rattle.words.specs.Bits.{width}
 use Rattle.chainwords.specs.Work.{Shown, Begun, Held, chain-words}
 use Rattle.trial.specs.Trial.{tried, Following, Followed}
 use Rattle.worth.specs.Worth.{Chosen}

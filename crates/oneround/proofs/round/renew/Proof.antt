@@ -40,7 +40,7 @@ block-rows-requires-2 : tie.Need-block-rows-requires-2
 block-rows-requires-2 c κs =
     let k = c .before .before .before .before .before .before .before .before .before .before .before .before .before .before .pre .1 in
     let z = renew-ask k _ (c .before .before .work642 .given) (c .before .before .before .before .before .before .before .before .before .wide .ensures) in
-    (c .before .before .before .before .before .before .before .before .before .before .before .before .before .before .pre .0, z .0, z .1, z .2, k .into-block)
+    (c .before .before .before .before .before .before .before .before .before .before .before .before .before .before .pre .0, z .0, z .1, z .2, omega (arith, k .from-block, k .into-block))
 
 same-length-2 : tie.Need-same-length-2
 same-length-2 c = c .before .work643 .given ∙ c .before .before .before .before .before .work642 .given

@@ -66,8 +66,10 @@ put-needed-requires c κs =
     let in-f = c .before .before .before .before .before .before .before .before .before .before .before .before .before .before .before .before in
     let t = in-f .pre .1 in
     let l = t .lists in
+    let low = block-lent l (t .into-block) in
+    let other = block-lent l (t .other-block) in
     let ew = c .width .ensures ∙ ap width (c .before .wide2 .ensures) in
-    (in-f .pre .0, graph-lent l (t .tabled), block-lent l (t .into-block), block-lent l (t .other-block), row-lent l (t .into-block) ew)
+    (in-f .pre .0, graph-lent l (t .tabled), omega (arith, low, other), omega (arith, low, other), row-lent l (t .into-block) ew)
 
 from-start-requires-2 : tie.Need-from-start-requires-2
 from-start-requires-2 c κs = search needs
