@@ -11,19 +11,40 @@ put-count-requires : tie.Need-put-count-requires
 put-count-requires c κs = search needs
 
 put-count-requires-2 : tie.Need-put-count-requires-2
-put-count-requires-2 c κs = (omega (arith, words-next (c .before .before .before .before .before .before .args .a ∷ []) (c .before .before .before .put-count .ensures), c .before .before .before .put-count .kept .0), omega arith)
+put-count-requires-2 c κs =
+    let in-f = c .before .before .before .before .before .before .args in
+    let first = c .before .before .before .put-count in
+    (omega (arith, words-next (in-f .a ∷ []) (first .ensures), first .kept .0), omega arith)
 
 put-count-requires-3 : tie.Need-put-count-requires-3
-put-count-requires-3 c κs = (omega (arith, words-next (c .before .before .before .before .before .before .before .before .before .before .args .a ∷ []) (c .before .before .before .before .before .before .before .put-count .ensures), c .before .before .before .before .before .before .before .put-count .kept .0, words-next (c .before .before .before .before .before .before .before .before .before .before .args .b ∷ []) (c .before .before .before .put-count2 .ensures), c .before .before .before .put-count2 .kept .0), omega arith)
+put-count-requires-3 c κs =
+    let in-f = c .before .before .before .before .before .before .before .before .before .before .args in
+    let first = c .before .before .before .before .before .before .before .put-count in
+    let second = c .before .before .before .put-count2 in
+    (omega (arith, words-next (in-f .a ∷ []) (first .ensures), first .kept .0, words-next (in-f .b ∷ []) (second .ensures), second .kept .0), omega arith)
 
 put-count-requires-4 : tie.Need-put-count-requires-4
-put-count-requires-4 c κs = (omega (arith, words-next (c .before .before .before .before .before .before .before .before .before .before .before .before .before .before .args .a ∷ []) (c .before .before .before .before .before .before .before .before .before .before .before .put-count .ensures), c .before .before .before .before .before .before .before .before .before .before .before .put-count .kept .0, words-next (c .before .before .before .before .before .before .before .before .before .before .before .before .before .before .args .b ∷ []) (c .before .before .before .before .before .before .before .put-count2 .ensures), c .before .before .before .before .before .before .before .put-count2 .kept .0, words-next (c .before .before .before .before .before .before .before .before .before .before .before .before .before .before .args .c ∷ []) (c .before .before .before .put-count3 .ensures), c .before .before .before .put-count3 .kept .0), omega arith)
+put-count-requires-4 c κs =
+    let in-f = c .before .before .before .before .before .before .before .before .before .before .before .before .before .before .args in
+    let first = c .before .before .before .before .before .before .before .before .before .before .before .put-count in
+    let second = c .before .before .before .before .before .before .before .put-count2 in
+    let third = c .before .before .before .put-count3 in
+    let two = words-next (in-f .b ∷ []) (second .ensures) in
+    let three = words-next (in-f .c ∷ []) (third .ensures) in
+    (omega (arith, words-next (in-f .a ∷ []) (first .ensures), first .kept .0, two, second .kept .0, three, third .kept .0), omega arith)
 
 same-length : tie.Need-same-length
 same-length c = search needs
 
 returns : tie.Need-returns
-returns c = words-then (c .before .before .before .before .before .before .before .before .before .before .before .before .before .before .before .before .before .args .a ∷ c .before .before .before .before .before .before .before .before .before .before .before .before .before .before .before .before .before .args .b ∷ c .before .before .before .before .before .before .before .before .before .before .before .before .before .before .before .before .before .args .c ∷ []) (c .before .before .before .before .before .before .before .before .before .before .before .before .before .before .before .before .before .args .d ∷ []) (words-then (c .before .before .before .before .before .before .before .before .before .before .before .before .before .before .before .before .before .args .a ∷ c .before .before .before .before .before .before .before .before .before .before .before .before .before .before .before .before .before .args .b ∷ []) (c .before .before .before .before .before .before .before .before .before .before .before .before .before .before .before .before .before .args .c ∷ []) (words-then (c .before .before .before .before .before .before .before .before .before .before .before .before .before .before .before .before .before .args .a ∷ []) (c .before .before .before .before .before .before .before .before .before .before .before .before .before .before .before .before .before .args .b ∷ []) (c .before .before .before .before .before .before .before .before .before .before .before .before .before .before .put-count .ensures) (c .before .before .before .before .before .before .before .before .before .before .put-count2 .ensures)) (c .before .before .before .before .before .before .put-count3 .ensures)) (c .before .before .put-count4 .ensures)
+returns c =
+    let in-f = c .before .before .before .before .before .before .before .before .before .before .before .before .before .before .before .before .before .args in
+    let one = in-f .a ∷ [] in
+    let two = in-f .a ∷ in-f .b ∷ [] in
+    let three = in-f .a ∷ in-f .b ∷ in-f .c ∷ [] in
+    let ab = words-then one (in-f .b ∷ []) (c .before .before .before .before .before .before .before .before .before .before .before .before .before .before .put-count .ensures) (c .before .before .before .before .before .before .before .before .before .before .put-count2 .ensures) in
+    let abc = words-then two (in-f .c ∷ []) ab (c .before .before .before .before .before .before .put-count3 .ensures) in
+    words-then three (in-f .d ∷ []) abc (c .before .before .put-count4 .ensures)
 
 pub put-four-spec : {M : Type 1} → statement M
 put-four-spec =
