@@ -7,3 +7,4 @@ pub mod Outs
 pub mod Standing
 pub mod Renewed
 pub mod Accepted
+pub mod Elsewhere

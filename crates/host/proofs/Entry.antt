@@ -10,7 +10,7 @@ use Rattle.words.specs.Bytes.{words-of}
 use Rattle.words.proofs.Bools.{clash}
 use Rattle.model.specs.Pass.{number}
 use Rattle.layout.specs.Layout.{readable, picture-in}
-use Rattle.driver.specs.declared.rounds.Ran.{Ran}
+use Rattle.rounds.specs.declared.state.Ran.{Ran}
 use Rattle.host.specs.declared.run.Reply.{Reply}
 use Rattle.host.specs.Host as Host
 use Rattle.host.specs.Host.{sunk, within-bounds, returned, put-left, written, ran-by, replied, Ran-as}

@@ -20,8 +20,8 @@ use Rattle.model.specs.Move.{Plan, apply}
 use Rattle.model.specs.Pass.{Outcome, used, rounds, number, ends-in, sink-all, most-rounds, gated, sink}
 use Rattle.layout.specs.Layout.{picture-bytes, Fitting}
 use Rattle.apply.specs.Apply.{Holds}
-use Rattle.driver.specs.declared.rounds.Ran.{Ran}
-use Rattle.driver.specs.Ended.{Did}
+use Rattle.rounds.specs.declared.state.Ran.{Ran}
+use Rattle.rounds.specs.Ended.{Did}
 use Rattle.sink.specs.Sink.{registers, operands}
 use Rattle.sink.proofs.Call.{Promised-here}
 use Rattle.host.specs.Host.{put-by, put-left, left-by, ran-by, Ran-as, Roomy}

@@ -13,7 +13,7 @@ use Rattle.checks.specs.Causes.{picture-of}
 use Rattle.layout.specs.declared.Counts.{Counts}
 use Rattle.layout.specs.Layout.{readable, held, room, picture-in}
 use Rattle.layout.proofs.Reading.{Sizes, sizes, whole, drop-zeros}
-use Rattle.driver.specs.declared.rounds.Ran.{Ran}
+use Rattle.rounds.specs.declared.state.Ran.{Ran}
 use Rattle.host.specs.Host.{Ran-as, Loaded, Roomy}
 
 -- ---- the head of a list

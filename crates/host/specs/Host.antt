@@ -14,7 +14,7 @@ use Rattle.model.specs.Pass.{Outcome, rounds, number, sink}
 use Rattle.model.specs.Picture.{Picture}
 use Rattle.model.specs.Refusal.{records}
 use Rattle.layout.specs.Layout.{readable, picture-in, picture-bytes, pictured}
-use Rattle.driver.specs.declared.rounds.Ran.{Ran}
+use Rattle.rounds.specs.declared.state.Ran.{Ran}
 use Rattle.sink.specs.Sink.{registers, operands}
 use Rattle.host.specs.declared.run.Reply.{Reply}
 

@@ -9,7 +9,7 @@ use crate::load::load_replay;
 use crate::load::load_targets;
 use crate::load::load_types;
 use crate::load::load_vias;
-use driver::rounds::Ran;
+use rounds::state::Ran;
 use layout::BLOCKS;
 use layout::OPERANDS;
 use layout::PICTURE_BYTES;

@@ -5,7 +5,7 @@ use flow::live::live_in;
 use inst::index::BlockId;
 use inst::index::MaybeBlock;
 use inst::table::table;
-use picture::refusal;
+use acceptance::refusal;
 use search::begin::begin;
 use search::find::MaybeLook;
 use search::find::look_from;

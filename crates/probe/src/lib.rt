@@ -7,7 +7,7 @@ use cfg::graph::find_preds;
 use flow::live::live_in;
 use flow::rows::all_rows;
 use inst::table::table;
-use picture::refusal;
+use acceptance::refusal;
 use words::numbers::wide;
 ghost use mathlib.Core.Path.{_≡_};
 ghost use mathlib.Core.List.{[]};
@@ -18,7 +18,7 @@ ghost use Rattle.checks.specs.Causes.{picture-of};
 ghost use Rattle.flow.specs.Live.{Live};
 ghost use Rattle.cfg.specs.Preds.{Preds};
 
-// The lowest number whose cause is present, or 0: `picture::refusal`, the table of roles made for this one call.
+// The lowest number whose cause is present, or 0: `acceptance::refusal`, the table of roles made for this one call.
 #[no_mangle]
 pub extern "C" fn virdzeba_refusal(
     bounds: &[u32],

@@ -8,7 +8,7 @@ ghost use lib.ListN.{length};
 ghost use Rattle.model.specs.Refusal.{refusal};
 ghost use Rattle.model.specs.Pass.{sink, number};
 ghost use Rattle.checks.specs.Causes.{picture-of};
-ghost use Rattle.driver.specs.Ended.{Work};
+ghost use Rattle.rounds.specs.Ended.{Work};
 ghost use Rattle.sink.specs.Sink.{Lent};
 ghost use Rattle.probe.specs.Heads.{with-two, with-used, Told};
 

@@ -1,5 +1,5 @@
 // The text of `sinkrounds` as a function from bytes to bytes (01, "One listing whole").
-use driver::rounds::Ran;
+use rounds::state::Ran;
 use host::run::sink_bytes;
 use layout::OPERANDS;
 use layout::PICTURE_BYTES;

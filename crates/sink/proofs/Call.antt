@@ -25,14 +25,14 @@ use Rattle.trial.specs.declared.block.MaybeMove.{MaybeMove}
 use Rattle.trial.specs.Trial.{Followed}
 use Rattle.search.specs.declared.find.Look.{Look}
 use Rattle.search.specs.declared.find.MaybeLook.the-variants.{Is, Not}
-use Rattle.driver.specs.declared.rounds.At.{At}
-use Rattle.driver.specs.declared.rounds.Ran.{Ran}
+use Rattle.rounds.specs.declared.state.At.{At}
+use Rattle.rounds.specs.declared.state.Ran.{Ran}
 use Rattle.sink.specs.Sink.{Lent, Coming, Finished, registers, operands}
-use Rattle.driver.specs.Ended.{Did, Work}
-use Rattle.driver.specs.Going.{Next, stands, Going, GoneOn, Started}
+use Rattle.rounds.specs.Ended.{Did, Work}
+use Rattle.rounds.specs.Going.{Next, stands, Going, GoneOn, Started}
 use Rattle.oneround.specs.Kept.{Kept}
 use Rattle.oneround.proofs.Step.{holds-is, kept-of}
-use Rattle.driver.proofs.Going.{Sized, next-still, was-tried}
+use Rattle.rounds.proofs.Going.{Sized, next-still, was-tried}
 
 -- ---- the answer's counts are those of the picture left, and what a round does not touch is as it was
 

@@ -20,9 +20,9 @@ use Rattle.search.specs.declared.find.MaybeLook.{MaybeLook}
 use Rattle.search.specs.declared.find.MaybeLook.the-variants as may
 use Rattle.sizes.proofs.Sizes as Z
 use Rattle.sizes.proofs.Sizes.Laws as Z′
-use Rattle.driver.proofs.rounds.At as B
-use Rattle.driver.proofs.rounds.At.Laws as B′
-use Rattle.driver.specs.declared.rounds.At.{At as Stand}
+use Rattle.rounds.proofs.state.At as B
+use Rattle.rounds.proofs.state.At.Laws as B′
+use Rattle.rounds.specs.declared.state.At.{At as Stand}
 
 -- what follows a statement of a sequence, and the first n
 abbrev pub behind : Body → Body

@@ -9,9 +9,9 @@ use Rattle.model.specs.declared.Answer.the-variants.{Done, Short, Refused}
 use Rattle.model.specs.Picture.{Picture}
 use Rattle.model.specs.Refusal.{refusal}
 use Rattle.model.specs.Pass.{sink}
-use Rattle.driver.specs.declared.rounds.At.{At}
-use Rattle.driver.specs.Ended.{Did, Work}
-use Rattle.driver.specs.Going.{Going}
+use Rattle.rounds.specs.declared.state.At.{At}
+use Rattle.rounds.specs.Ended.{Did, Work}
+use Rattle.rounds.specs.Going.{Going}
 
 -- the registers and operands in use that the answer gives
 abbrev pub registers : Answer → ℕ

@@ -1,6 +1,6 @@
 // The call for a caller that lends no list of facts: the list is its own, of as many records as are asked for.
 use crate::sink_all;
-use driver::rounds::Ran;
+use rounds::state::Ran;
 use facts::Fact;
 use model::RECORDS;
 ghost use mathlib.Core.Path.{_≡_};
@@ -12,7 +12,7 @@ ghost use Rattle.model.specs.Refusal.{refusal, records};
 ghost use Rattle.model.specs.Pass.{sink, number, values, rounds};
 ghost use Rattle.checks.specs.Causes.{picture-of};
 ghost use Rattle.sink.specs.Sink.{registers, operands};
-ghost use Rattle.driver.specs.Ended.{Work};
+ghost use Rattle.rounds.specs.Ended.{Work};
 ghost use Rattle.oneround.specs.Kept.{Kept};
 
 // The call, with a line for each round, and what `sink_all` promises of it.

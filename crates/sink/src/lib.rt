@@ -1,11 +1,11 @@
 // The call (01, "The call" and "A round"; 000's `sink_all`): `sink_all` over lent slices of any contents.
 pub mod here; // here.rt: the call with a list of facts of its own
 
-use driver::rounds::At;
-use driver::rounds::Ran;
-use driver::rounds::given;
-use driver::steps::go_on;
-use driver::steps::start;
+use rounds::state::At;
+use rounds::state::Ran;
+use rounds::state::given;
+use rounds::steps::go_on;
+use rounds::steps::start;
 use facts::Fact;
 use inst::table::table;
 use search::find::MaybeLook;
@@ -20,7 +20,7 @@ ghost use Rattle.model.specs.Refusal.{refusal};
 ghost use Rattle.model.specs.Pass.{sink, number, values, rounds};
 ghost use Rattle.checks.specs.Causes.{picture-of};
 ghost use Rattle.sink.specs.Sink.{Lent, Coming, Finished, registers, operands};
-ghost use Rattle.driver.specs.Ended.{Work};
+ghost use Rattle.rounds.specs.Ended.{Work};
 ghost use Rattle.oneround.specs.Kept.{Kept};
 
 // Chain after chain is tried, and each move made, until the search is at its end.

@@ -1,7 +1,7 @@
 // A word a register, in a lent slice: the registers that a position writes, or reads, are stamped. Its fact says which they are where
 // it has all, else its record does.
-use crate::chain::places;
-use crate::chain::read_place;
+use crate::reads::places;
+use crate::reads::read_place;
 use facts::Fact;
 use inst::index::MaybeReg;
 use inst::index::Reg;

@@ -25,7 +25,7 @@ use Rattle.chains.specs.declared.chain.Chain.{Chain}
 use Rattle.chains.specs.Chain.{blocks-of, last-of, Preds}
 use Rattle.summary.specs.Passes.{Row}
 use Rattle.plan.specs.declared.settle.Cycle.{Cycle}
-use Rattle.worth.specs.Needed.{Shows, Needed}
+use Rattle.flow.specs.Needed.{Shows, Needed}
 use Rattle.sizes.specs.declared.Sizes.{Sizes}
 use Rattle.trial.specs.declared.target.Sunk.{Sunk}
 use Rattle.sizes.specs.Parts.{needed-at, stamps-at, preds-at}

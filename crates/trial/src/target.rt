@@ -14,7 +14,7 @@ use sizes::at_preds;
 use sizes::at_stamps;
 use words::bits::width;
 use words::numbers::wide;
-use worth::needed::put_needed;
+use flow::needed::put_needed;
 ghost use mathlib.Core.Path.{_≡_};
 ghost use mathlib.Core.Bool.{true, false};
 ghost use Prim.Native.Nat.{_+_, _*_, _≤_, _<_};

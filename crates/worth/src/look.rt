@@ -4,7 +4,7 @@ use chains::chain::Chain;
 use chains::pass::Sink;
 use chains::places::chain_len;
 use inst::index::BlockId;
-use picture::gates::plain_cat;
+use acceptance::gates::plain_cat;
 use words::numbers::wide;
 ghost use mathlib.Core.Path.{_≡_};
 ghost use mathlib.Core.Bool.{_||_};

@@ -70,30 +70,30 @@ use Rattle.trial.proofs.block.MaybeMove as Y
 use Rattle.trial.proofs.block.MaybeMove.Laws as Y′
 use Rattle.trial.specs.declared.block.MaybeMove.{MaybeMove}
 use Rattle.trial.specs.Trial.{Followed}
-use Rattle.driver.proofs.rounds.At as B
-use Rattle.driver.proofs.rounds.At.Laws as B′
-use Rattle.driver.proofs.rounds.Ran as R
-use Rattle.driver.proofs.rounds.Ran.Laws as R′
-use Rattle.driver.specs.declared.rounds.At.{At as Stand}
-use Rattle.driver.specs.declared.rounds.Ran.{Ran}
-use Rattle.driver.specs.Rounds.{taken-up}
-use Rattle.driver.specs.Going.{to-come, GoneOn}
+use Rattle.rounds.proofs.state.At as B
+use Rattle.rounds.proofs.state.At.Laws as B′
+use Rattle.rounds.proofs.state.Ran as R
+use Rattle.rounds.proofs.state.Ran.Laws as R′
+use Rattle.rounds.specs.declared.state.At.{At as Stand}
+use Rattle.rounds.specs.declared.state.Ran.{Ran}
+use Rattle.rounds.specs.Rounds.{taken-up}
+use Rattle.rounds.specs.Going.{to-come, GoneOn}
 use Rattle.sink.specs.Sink.{Coming, Finished}
-use Rattle.driver.proofs.Going.{Sized, following, onward}
+use Rattle.rounds.proofs.Going.{Sized, following, onward}
 use Rattle.sink.proofs.Turn.{after, first-arm, stands, is-sizes, is-look, is-parts}
 use Rattle.sink.proofs.Call.{Running, running-start, running-next, running-many, running-more, running-end}
 use Rattle.trial.proofs.block.try_chain as try-chain
 use Rattle.trial.proofs.block.try_chain.Symbol as try-chain-def
 use Rattle.trial.proofs.block.try_chain.Symbol.{name as #try-chain}
 use Rattle.trial.proofs.block.try_chain.Met as try-chain-thm
-use Rattle.driver.proofs.steps.go_on as go-on
-use Rattle.driver.proofs.steps.go_on.Symbol as go-on-def
-use Rattle.driver.proofs.steps.go_on.Symbol.{name as #go-on}
-use Rattle.driver.proofs.steps.go_on.Met as go-on-thm
-use Rattle.driver.proofs.rounds.given as given-fn
-use Rattle.driver.proofs.rounds.given.Symbol as given-fn-def
-use Rattle.driver.proofs.rounds.given.Symbol.{name as #given}
-use Rattle.driver.proofs.rounds.given.Met as given-fn-thm
+use Rattle.rounds.proofs.steps.go_on as go-on
+use Rattle.rounds.proofs.steps.go_on.Symbol as go-on-def
+use Rattle.rounds.proofs.steps.go_on.Symbol.{name as #go-on}
+use Rattle.rounds.proofs.steps.go_on.Met as go-on-thm
+use Rattle.rounds.proofs.state.given as given-fn
+use Rattle.rounds.proofs.state.given.Symbol as given-fn-def
+use Rattle.rounds.proofs.state.given.Symbol.{name as #given}
+use Rattle.rounds.proofs.state.given.Met as given-fn-thm
 use Rattle.sink.proofs.run.Key.{name as #run}
 use Rattle.sink.proofs.run as f
 use Rattle.sink.proofs.run.Statement as stated
@@ -460,5 +460,5 @@ run-spec 𝓤 H 𝓜 𝓖 𝓡 =
     (tables 𝓤 H 𝓜 𝓡 code.env .C) (tables 𝓤 H 𝓜 𝓡 code.env .Λ) #run code.function (code.unfolded 𝓤 H 𝓜 𝓡)
     (run-meets 𝓤 H (𝓖 .A) (givenOf 𝓤 H 𝓜 𝓖) (𝓜 .mem) (𝓡 .run) (tablesOf 𝓤 H 𝓜 (tables 𝓤 H 𝓜 𝓡 code.env))
     (cited 𝓤 H (Tries 𝓤 H (𝓖 .A) (𝓜 .mem) (𝓡 .run)) 𝓜 𝓡 code.env #try-chain try-chain-def.routine code.calls-trial·block·try-chain (try-chain-thm.met 𝓤 H 𝓜 𝓖 𝓡))
-    (cited 𝓤 H (GoesOn 𝓤 H (𝓖 .A) (𝓜 .mem) (𝓡 .run)) 𝓜 𝓡 code.env #go-on go-on-def.routine code.calls-driver·steps·go-on (go-on-thm.met 𝓤 H 𝓜 𝓖 𝓡))
-    (cited 𝓤 H (Gives 𝓤 H (𝓖 .A) (𝓜 .mem) (𝓡 .run)) 𝓜 𝓡 code.env #given given-fn-def.routine code.calls-driver·rounds·given (given-fn-thm.met 𝓤 H 𝓜 𝓖 𝓡)))
+    (cited 𝓤 H (GoesOn 𝓤 H (𝓖 .A) (𝓜 .mem) (𝓡 .run)) 𝓜 𝓡 code.env #go-on go-on-def.routine code.calls-rounds·steps·go-on (go-on-thm.met 𝓤 H 𝓜 𝓖 𝓡))
+    (cited 𝓤 H (Gives 𝓤 H (𝓖 .A) (𝓜 .mem) (𝓡 .run)) 𝓜 𝓡 code.env #given given-fn-def.routine code.calls-rounds·state·given (given-fn-thm.met 𝓤 H 𝓜 𝓖 𝓡)))

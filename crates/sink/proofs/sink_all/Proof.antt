@@ -50,23 +50,23 @@ use Rattle.facts.proofs.Statements.{loads, lends-on}
 use Rattle.inst.specs.Table.{rows}
 use Rattle.checks.specs.Causes.{picture-of}
 use Rattle.model.specs.Picture.{Picture}
-use Rattle.driver.proofs.rounds.At as B
-use Rattle.driver.proofs.rounds.At.Laws as B′
-use Rattle.driver.proofs.rounds.Ran as R
-use Rattle.driver.proofs.rounds.Ran.Laws as R′
-use Rattle.driver.specs.declared.rounds.At.{At as Stand}
-use Rattle.driver.specs.declared.rounds.Ran.{Ran}
-use Rattle.driver.specs.Going.{Started}
+use Rattle.rounds.proofs.state.At as B
+use Rattle.rounds.proofs.state.At.Laws as B′
+use Rattle.rounds.proofs.state.Ran as R
+use Rattle.rounds.proofs.state.Ran.Laws as R′
+use Rattle.rounds.specs.declared.state.At.{At as Stand}
+use Rattle.rounds.specs.declared.state.Ran.{Ran}
+use Rattle.rounds.specs.Going.{Started}
 use Rattle.sink.specs.Sink.{Finished}
 use Rattle.sink.proofs.Call.{Promised, coming, promised}
 use Rattle.inst.proofs.table.table as table
 use Rattle.inst.proofs.table.table.Symbol as table-def
 use Rattle.inst.proofs.table.table.Symbol.{name as #table}
 use Rattle.inst.proofs.table.table.Met as table-thm
-use Rattle.driver.proofs.steps.start as start
-use Rattle.driver.proofs.steps.start.Symbol as start-def
-use Rattle.driver.proofs.steps.start.Symbol.{name as #start}
-use Rattle.driver.proofs.steps.start.Met as start-thm
+use Rattle.rounds.proofs.steps.start as start
+use Rattle.rounds.proofs.steps.start.Symbol as start-def
+use Rattle.rounds.proofs.steps.start.Symbol.{name as #start}
+use Rattle.rounds.proofs.steps.start.Met as start-thm
 use Rattle.sink.proofs.run as run-fn
 use Rattle.sink.proofs.run.Symbol as run-fn-def
 use Rattle.sink.proofs.run.Symbol.{name as #run-fn}
@@ -349,5 +349,5 @@ sink-all-spec 𝓤 H 𝓜 𝓖 𝓡 =
     (tables 𝓤 H 𝓜 𝓡 code.env .C) (tables 𝓤 H 𝓜 𝓡 code.env .Λ) #self code.function (code.unfolded 𝓤 H 𝓜 𝓡)
     (sink-all-meets 𝓤 H (𝓖 .A) (givenOf 𝓤 H 𝓜 𝓖) (𝓜 .mem) (𝓡 .run) (tablesOf 𝓤 H 𝓜 (tables 𝓤 H 𝓜 𝓡 code.env))
     (cited 𝓤 H (Makes 𝓤 H (𝓖 .A) (𝓜 .mem) (𝓡 .run)) 𝓜 𝓡 code.env #table table-def.routine code.calls-inst·table·table (table-thm.met 𝓤 H 𝓜 𝓖 𝓡))
-    (cited 𝓤 H (Starts 𝓤 H (𝓖 .A) (𝓜 .mem) (𝓡 .run)) 𝓜 𝓡 code.env #start start-def.routine code.calls-driver·steps·start (start-thm.met 𝓤 H 𝓜 𝓖 𝓡))
+    (cited 𝓤 H (Starts 𝓤 H (𝓖 .A) (𝓜 .mem) (𝓡 .run)) 𝓜 𝓡 code.env #start start-def.routine code.calls-rounds·steps·start (start-thm.met 𝓤 H 𝓜 𝓖 𝓡))
     (cited 𝓤 H (Runs 𝓤 H (𝓖 .A) (𝓜 .mem) (𝓡 .run)) 𝓜 𝓡 code.env #run-fn run-fn-def.routine code.calls-sink·run (run-fn-thm.met 𝓤 H 𝓜 𝓖 𝓡)))

@@ -17,7 +17,7 @@ use Rattle.probe.proofs.attempt.set_out.Tie as tie
 use Rattle.probe.proofs.attempt.set_out.Reads as reads
 use Rattle.probe.proofs.attempt.set_out.Lts as lts
 use Rattle.inst.proofs.index.BlockId.new.Reads as new-reads
-use Rattle.picture.proofs.refusal.Reads as refusal-reads
+use Rattle.acceptance.proofs.refusal.Reads as refusal-reads
 use Rattle.probe.proofs.attempt.seek.Reads as seek-reads
 use Rattle.probe.proofs.attempt.without.Reads as without-reads
 

@@ -50,10 +50,10 @@ use Rattle.model.specs.Pass.{number, sink}
 use Rattle.model.proofs.Answer as N
 use Rattle.model.proofs.Answer.Laws as N′
 use Rattle.checks.specs.Causes.{picture-of}
-use Rattle.driver.specs.declared.rounds.Ran.{Ran}
-use Rattle.driver.proofs.rounds.Ran as R
-use Rattle.driver.proofs.rounds.Ran.Laws as R′
-use Rattle.driver.specs.Ended.{Work}
+use Rattle.rounds.specs.declared.state.Ran.{Ran}
+use Rattle.rounds.proofs.state.Ran as R
+use Rattle.rounds.proofs.state.Ran.Laws as R′
+use Rattle.rounds.specs.Ended.{Work}
 use Rattle.sink.specs.Sink.{Lent}
 use Rattle.sink.proofs.Call.{Promised}
 use Rattle.sink.proofs.sink_all as all-fn

@@ -51,9 +51,9 @@ use Rattle.facts.proofs.Statements.{loads, lends-on}
 use Rattle.model.specs.Picture.{Picture}
 use Rattle.model.specs.Refusal.{records}
 use Rattle.checks.specs.Causes.{picture-of}
-use Rattle.driver.proofs.rounds.Ran as R
-use Rattle.driver.proofs.rounds.Ran.Laws as R′
-use Rattle.driver.specs.declared.rounds.Ran.{Ran}
+use Rattle.rounds.proofs.state.Ran as R
+use Rattle.rounds.proofs.state.Ran.Laws as R′
+use Rattle.rounds.specs.declared.state.Ran.{Ran}
 use Rattle.sink.proofs.Call.{Promised, Promised-here, without-list}
 use Rattle.sink.proofs.sink_all as all-fn
 use Rattle.sink.proofs.sink_all.Symbol as all-fn-def

@@ -1,0 +1,63 @@
+-- The lines of the rounds, six words each; one round on, and whether another opens. Assumes nothing.
+use mathlib.Core.Path.{_≡_, sym, ap, _∙_, subst}
+use mathlib.Core.Bool.{Bool, false}
+use mathlib.Core.List.{List, [], _∷_, _++_}
+use Prim.Native.Nat.{ℕ, suc, _+_, _-_, _*_, _<_}
+use native.Mathlib.Omega.{arith}
+use lib.Dec.{ltb}
+use lib.ListN.{length, take, drop, set, replicate}
+use lib.Seq.{sets, drop-drop, length-sets}
+use Rattle.words.proofs.Copying.{front-sets, drop-sets}
+use Rattle.model.specs.Pass.{most-rounds}
+use Rattle.oneround.specs.declared.round.Step.{Step}
+use Rattle.oneround.specs.declared.round.Step.the-variants.{Goes, Short}
+use Rattle.oneround.specs.declared.round.Line.{Line}
+use Rattle.rounds.specs.declared.state.At.{At}
+use Rattle.rounds.specs.Rounds.{line-words, with-line, small, Advancing, gone, halted, advanced, opens-after}
+
+-- six words, stored one by one
+pub six : (l : List ℕ) (a u v w x y z : ℕ)
+    → set (set (set (set (set (set l a u) (a + 1) v) (a + 2) w) (a + 3) x) (a + 4) y) (a + 5) z ≡ sets l a (u ∷ v ∷ w ∷ x ∷ y ∷ z ∷ [])
+six l a u v w x y z =
+    let e : a + 1 ≡ suc a = omega arith in
+    let f : a + 2 ≡ suc (suc a) = omega arith in
+    let g : a + 3 ≡ suc (suc (suc a)) = omega arith in
+    let h : a + 4 ≡ suc (suc (suc (suc a))) = omega arith in
+    let k : a + 5 ≡ suc (suc (suc (suc (suc a)))) = omega arith in
+    rw (e, f, g, h, k)
+
+-- the lines with one more: those so far, and zeros behind
+module _ (i : ℕ) (l : Line) (lines : List ℕ) (few : i < most-rounds) (long : length lines ≡ 48) where
+  pub long-still : length (with-line i l lines) ≡ 48
+  long-still = length-sets lines (6 * i) (line-words (i + 1) l) ∙ long
+
+  pub one-more : take (6 * (i + 1)) (with-line i l lines) ≡ take (6 * i) lines ++ line-words (i + 1) l
+  one-more = let e : 6 * (i + 1) ≡ 6 * i + 6 = omega arith in rw e (front-sets lines (6 * i) (line-words (i + 1) l) (omega arith))
+
+  pub zero-still : drop (6 * i) lines ≡ replicate (48 - 6 * i) 0 → drop (6 * (i + 1)) (with-line i l lines) ≡ replicate (48 - 6 * (i + 1)) 0
+  zero-still z =
+      let e : 6 * (i + 1) ≡ 6 * i + 6 = omega arith in
+      let f : 48 - 6 * i ≡ suc (suc (suc (suc (suc (suc (48 - 6 * (i + 1))))))) = omega arith in
+      drop-sets (6 * (i + 1)) lines (6 * i) (line-words (i + 1) l) (omega arith)
+      ∙ ap (λ (n : ℕ). drop n lines) e
+      ∙ sym (drop-drop 6 (6 * i) lines)
+      ∙ ap (drop 6) (z ∙ ap (λ (n : ℕ). replicate n 0) f)
+
+-- ---- one round on, by what its move came to
+
+pub small-line : {m : At} {r : Step} {l : Line} → r ≡ Goes l → Advancing m r → (m .rounds < most-rounds) × (length (m .lines) ≡ 48)
+small-line {m} e h = (subst (small (m .rounds)) e (h .line), h .long)
+
+pub advanced-goes : (m : At) {r : Step} {l : Line} {lines : List ℕ} → r ≡ Goes l → lines ≡ with-line (m .rounds) l (m .lines) → gone m l lines ≡ advanced m r
+advanced-goes m {r} {l} e h = ap (gone m l) h ∙ ap (advanced m) (sym e)
+
+pub advanced-short : (m : At) {r : Step} → r ≡ Short → halted m ≡ advanced m r
+advanced-short m e = ap (advanced m) (sym e)
+
+-- ---- does another round open?
+
+pub opens-goes : (done : ℕ) {r : Step} {l : Line} {b : Bool} → r ≡ Goes l → b ≡ ltb done most-rounds → b ≡ opens-after done r
+opens-goes done e h = h ∙ ap (opens-after done) (sym e)
+
+pub opens-short : (done : ℕ) {r : Step} → r ≡ Short → false ≡ opens-after done r
+opens-short done e = ap (opens-after done) (sym e)

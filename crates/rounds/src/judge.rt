@@ -1,0 +1,62 @@
+// Before anything is tried (01, "The call"): refusals, then gates. Nothing is changed.
+use model::Answer;
+use model::Used;
+use acceptance::gates::gated;
+use acceptance::refusal;
+ghost use mathlib.Core.Path.{_≡_};
+ghost use Rattle.inst.specs.Table.{rows};
+ghost use Rattle.rounds.specs.Judge.{Judged};
+
+// The answer, where no round is tried.
+pub enum Verdict {
+    Ends(Answer),
+    Opens,
+}
+
+pub fn judge(
+    t: &[u32; 202],
+    bounds: &[u32],
+    recs: &[u32],
+    locs: &[u32],
+    vias: &[u32],
+    types: &[u32],
+    regs: u32,
+    ops: &[u32],
+    opers: u32,
+    pairs: &[u32],
+    targets: &[u32],
+    w64: usize,
+    w32: usize,
+    records: usize,
+) -> Verdict
+    requires { ⌜ now t ≡ rows ⌝ }
+    ensures { λ r. ⌜ Judged (now (bounds .entry)) (now (recs .entry)) (now (locs .entry)) (now (vias .entry)) (now (types .entry)) regs (now (ops .entry)) opers (now (pairs .entry)) (now (targets .entry)) w64 w32 records r ⌝ }
+{
+    let n = refusal(
+        bounds,
+        recs,
+        locs,
+        vias,
+        types,
+        regs,
+        ops,
+        opers,
+        pairs,
+        targets,
+        w64,
+        w32,
+        records,
+        t,
+    );
+    if n != 0 {
+        return Verdict::Ends(Answer::Refused(n));
+    }
+    if gated(bounds, recs, locs, regs) {
+        return Verdict::Ends(Answer::Done(Used {
+            rounds: 0,
+            registers: regs,
+            operands: opers,
+        }));
+    }
+    Verdict::Opens
+}
