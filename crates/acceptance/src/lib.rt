@@ -1,17 +1,19 @@
 // Acceptance of a picture (01, "The call"): the lowest number whose cause is present, and the three gates. Nothing is
 // changed. Crate `checks` has causes 4 to 9.
-pub mod sizes; // sizes.rt: causes 1, 2 and 10
+pub mod lengths; // lengths.rt: causes 1, 2 and 10
 pub mod blocks; // blocks.rt: cause 3
 pub mod gates; // gates.rt: the three gates
 
 use crate::blocks::gaps;
-use crate::sizes::too_many;
-use crate::sizes::too_short;
-use crate::sizes::unlike;
+use crate::lengths::too_many;
+use crate::lengths::too_short;
+use crate::lengths::unlike;
 use checks::branches::bad_targets;
 use checks::lists::bad_lists;
 use checks::lists::bad_types;
 use checks::look::look;
+use sizes::InUse;
+use sizes::Room;
 ghost use mathlib.Core.Path.{_≡_};
 ghost use mathlib.Core.List.{[]};
 ghost use Rattle.model.specs.Refusal.{refusal};
@@ -26,23 +28,22 @@ pub fn refusal(
     locs: &[u32],
     vias: &[u32],
     types: &[u32],
-    regs: u32,
     ops: &[u32],
-    opers: u32,
     pairs: &[u32],
     targets: &[u32],
-    w64: usize,
-    w32: usize,
-    records: usize,
+    used: InUse,
+    room: Room,
     table: &[u32; 202],
 ) -> u32
     requires { ⌜ now table ≡ rows ⌝ }
-    ensures { λ r. ⌜ r ≡ refusal (picture-of (now (bounds .entry)) (now (recs .entry)) (now (locs .entry)) (now (vias .entry)) (now (types .entry)) regs (now (ops .entry)) opers (now (pairs .entry)) (now (targets .entry)) []) w64 w32 records ⌝ }
+    ensures { λ r. ⌜ r ≡ refusal (picture-of (now (bounds .entry)) (now (recs .entry)) (now (locs .entry)) (now (vias .entry)) (now (types .entry)) (used .regs) (now (ops .entry)) (used .opers) (now (pairs .entry)) (now (targets .entry)) []) (room .w64) (room .w32) (room .records) ⌝ }
 {
     let b = bounds.len();
     let n = locs.len();
     let k = types.len();
-    if too_many(b, n, k, ops.len(), pairs.len(), targets.len(), regs, opers) {
+    let regs = used.regs;
+    let opers = used.opers;
+    if too_many(b, n, k, ops.len(), pairs.len(), targets.len(), used) {
         return 1;
     }
     if unlike(recs.len(), n, vias.len(), b, pairs.len()) {
@@ -70,7 +71,7 @@ pub fn refusal(
     if bad_types(types, regs) {
         return 9;
     }
-    if too_short(b, k, w64, w32, records) {
+    if too_short(b, k, room) {
         return 10;
     }
     0

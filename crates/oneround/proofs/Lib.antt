@@ -3,3 +3,4 @@ pub mod Counted
 pub mod Prepared
 pub mod Renewal
 pub mod Step
+pub mod Kept

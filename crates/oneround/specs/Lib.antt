@@ -1,2 +1,4 @@
-pub mod Kept
+pub mod Weigh
+pub mod Make
 pub mod Round
+pub mod Kept

@@ -1,4 +1,4 @@
 pub mod Ended
-pub mod Rounds
+pub mod State
 pub mod Going
 pub mod Judge

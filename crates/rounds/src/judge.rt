@@ -3,6 +3,8 @@ use model::Answer;
 use model::Used;
 use acceptance::gates::gated;
 use acceptance::refusal;
+use sizes::InUse;
+use sizes::Room;
 ghost use mathlib.Core.Path.{_≡_};
 ghost use Rattle.inst.specs.Table.{rows};
 ghost use Rattle.rounds.specs.Judge.{Judged};
@@ -20,17 +22,14 @@ pub fn judge(
     locs: &[u32],
     vias: &[u32],
     types: &[u32],
-    regs: u32,
     ops: &[u32],
-    opers: u32,
     pairs: &[u32],
     targets: &[u32],
-    w64: usize,
-    w32: usize,
-    records: usize,
+    used: InUse,
+    room: Room,
 ) -> Verdict
     requires { ⌜ now t ≡ rows ⌝ }
-    ensures { λ r. ⌜ Judged (now (bounds .entry)) (now (recs .entry)) (now (locs .entry)) (now (vias .entry)) (now (types .entry)) regs (now (ops .entry)) opers (now (pairs .entry)) (now (targets .entry)) w64 w32 records r ⌝ }
+    ensures { λ r. ⌜ Judged (now (bounds .entry)) (now (recs .entry)) (now (locs .entry)) (now (vias .entry)) (now (types .entry)) (now (ops .entry)) (now (pairs .entry)) (now (targets .entry)) used room r ⌝ }
 {
     let n = refusal(
         bounds,
@@ -38,24 +37,21 @@ pub fn judge(
         locs,
         vias,
         types,
-        regs,
         ops,
-        opers,
         pairs,
         targets,
-        w64,
-        w32,
-        records,
+        used,
+        room,
         t,
     );
     if n != 0 {
         return Verdict::Ends(Answer::Refused(n));
     }
-    if gated(bounds, recs, locs, regs) {
+    if gated(bounds, recs, locs, used.regs) {
         return Verdict::Ends(Answer::Done(Used {
             rounds: 0,
-            registers: regs,
-            operands: opers,
+            registers: used.regs,
+            operands: used.opers,
         }));
     }
     Verdict::Opens

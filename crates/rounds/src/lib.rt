@@ -1,4 +1,4 @@
-// What the call does beside trying chains (01, "The call" and "A round"): refusals and gates, from one chain to the next.
-pub mod state; // state.rt: where the search stands; at most eight rounds
+// What the call does beside its rounds (01, "The call" and "A round"): refusals and gates, its start, and where it stands.
+pub mod state; // state.rt: where the call stands; at most eight rounds
 pub mod judge; // judge.rt: refusals and gates
-pub mod steps; // steps.rt: from one chain to the next
+pub mod start; // start.rt: before the first round

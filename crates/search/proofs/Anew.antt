@@ -57,10 +57,10 @@ pub record Anew (bounds recs pairs targets work64 bits : List ℕ) (w : ℕ) : T
   pub live : (ops : List ℕ) → ((b : ℕ) → b < length bounds / 2 → Rows (drawn bounds recs ops pairs targets) w b work64) → Live (drawn bounds recs ops pairs targets) w bits
   pub behind : drop (length bounds / 2 * w) bits ≡ drop (length bounds / 2 * w) work64
 
-module _ {bounds recs ops pairs targets replay : List ℕ} {s : Sizes} {work64 work32 bits : List ℕ} {r : ℕ}
+module _ {bounds recs pairs targets replay : List ℕ} {s : Sizes} {work64 work32 bits : List ℕ} {r : ℕ}
     (er : r ≡ s .regs) (n : Anew bounds recs pairs targets work64 bits (width r)) where
-  pub held-anew : (P : Picture) (G : Facts) → Shown P bounds recs ops pairs targets replay s (length work64) (length work32) → Begun P G work64 work32 → Held P G bits work32
-  held-anew P G sh b =
+  pub held-anew : {ops : List ℕ} (P : Picture) (G : Facts) → Shown P bounds recs ops pairs targets replay s (length work64) (length work32) → Begun P G work64 work32 → Held P G bits work32
+  held-anew {ops} P G sh b =
       let l = sh .lists in
       let d = drawn-is P (l .bounds-are) (l .recs-are) (l .ops-are) (sh .tabled .pairs-are) (sh .tabled .targets-are) in
       let wide : width r ≡ width (P .regs) = ap width (er ∙ l .regs-are) in
@@ -71,10 +71,10 @@ module _ {bounds recs ops pairs targets replay : List ℕ} {s : Sizes} {work64 w
         live = subst (λ (v : ℕ). Live P v bits) wide (live-rows-whole P (width r) bits (subst (λ (Q : Picture). Live Q (width r) bits) d (n .live ops stood)));
       }
 
-  pub opened : {o : MaybeLook} → Sought bounds recs replay s work32 0 o → Opened bounds recs ops pairs targets replay s work64 work32 bits o
-  opened f = record { size64 = n .size; held = held-anew; is = λ P G sh b. f .is P (sees-of sh b) }
+  pub opened : {o : MaybeLook} → Sought bounds recs replay s work32 0 o → Opened bounds recs pairs targets replay s work64 work32 bits o
+  opened f = record { size64 = n .size; held = λ P G sh b. held-anew P G sh b; is = λ P G sh b. f .is P (sees-of sh b) }
 
-module _ {bounds recs ops pairs targets replay : List ℕ} {s : Sizes} {work64 work32 : List ℕ} (k : Looking bounds recs ops pairs targets replay s work64 work32) where
+module _ {bounds recs pairs targets replay : List ℕ} {s : Sizes} {work64 work32 : List ℕ} (k : Looking bounds recs pairs targets replay s work64 work32) where
   good : Accepted (k .P)
   good = accepted (k .P) (length work64) (length work32) records (k .shown .lists .accepted)
 

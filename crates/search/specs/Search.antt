@@ -44,10 +44,10 @@ pub record Began (bounds recs ops pairs targets work64 work32 : List ℕ) (s : S
 -- ---- the search
 
 -- there is an accepted picture whose lists these are, and the work slices hold what the call began with
-pub record Looking (bounds recs ops pairs targets replay : List ℕ) (s : Sizes) (work64 work32 : List ℕ) : Type 0 where
+pub record Looking (bounds recs pairs targets replay : List ℕ) (s : Sizes) (work64 work32 : List ℕ) : Type 0 where
   pub P : Picture
   pub G : Facts
-  pub shown : Shown P bounds recs ops pairs targets replay s (length work64) (length work32)
+  pub shown : Shown P bounds recs (P .ops) pairs targets replay s (length work64) (length work32)
   pub begun : Begun P G work64 work32
 
 -- these lists are those of the accepted picture P that a search from a block reads, and the words hold the predecessors
@@ -81,7 +81,7 @@ pub record Sought (bounds recs replay : List ℕ) (s : Sizes) (work32 : List ℕ
   pub is : (P : Picture) → Sees P bounds recs replay s work32 → sought P from r
 
 -- a round's first, with live-in anew
-pub record Opened (bounds recs ops pairs targets replay : List ℕ) (s : Sizes) (work64 work32 work64′ : List ℕ) (r : MaybeLook) : Type 0 where
+pub record Opened (bounds recs pairs targets replay : List ℕ) (s : Sizes) (work64 work32 work64′ : List ℕ) (r : MaybeLook) : Type 0 where
   pub size64 : length work64′ ≡ length work64
-  pub held : (P : Picture) (G : Facts) → Shown P bounds recs ops pairs targets replay s (length work64) (length work32) → Begun P G work64 work32 → Held P G work64′ work32
-  pub is : (P : Picture) (G : Facts) → Shown P bounds recs ops pairs targets replay s (length work64) (length work32) → Begun P G work64 work32 → sought P 0 r
+  pub held : (P : Picture) (G : Facts) → Shown P bounds recs (P .ops) pairs targets replay s (length work64) (length work32) → Begun P G work64 work32 → Held P G work64′ work32
+  pub is : (P : Picture) (G : Facts) → Shown P bounds recs (P .ops) pairs targets replay s (length work64) (length work32) → Begun P G work64 work32 → sought P 0 r

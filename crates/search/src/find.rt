@@ -86,7 +86,6 @@ pub fn first_look<'a>(
     t: &[u32; 202],
     bounds: &[u32],
     recs: &'a [u32],
-    ops: &[u32],
     pairs: &[u32],
     targets: &'a [u32],
     replay: &[u32],
@@ -94,8 +93,8 @@ pub fn first_look<'a>(
     work32: &[u32],
     s: Sizes,
 ) -> MaybeLook
-    requires { ⌜ (now t ≡ rows) × Looking (now bounds) (now recs) (now ops) (now pairs) (now targets) (now replay) s (now work64) (now work32) ⌝ }
-    ensures { λ r. ⌜ Opened (now (bounds .entry)) (now (recs .entry)) (now (ops .entry)) (now (pairs .entry)) (now (targets .entry)) (now (replay .entry)) s (now (work64 .entry)) (now (work32 .entry)) (now (work64 .exit)) r ⌝ }
+    requires { ⌜ (now t ≡ rows) × Looking (now bounds) (now recs) (now pairs) (now targets) (now replay) s (now work64) (now work32) ⌝ }
+    ensures { λ r. ⌜ Opened (now (bounds .entry)) (now (recs .entry)) (now (pairs .entry)) (now (targets .entry)) (now (replay .entry)) s (now (work64 .entry)) (now (work32 .entry)) (now (work64 .exit)) r ⌝ }
 {
     live_in(work64, t, bounds, recs, pairs, targets, wide(s.regs));
     seek(bounds, recs, replay, work32, s, 0)

@@ -1,15 +1,15 @@
 // The call (01, "The call" and "A round"; 000's `sink_all`): `sink_all` over lent slices of any contents.
 pub mod here; // here.rt: the call with a list of facts of its own
 
-use rounds::state::At;
-use rounds::state::Ran;
-use rounds::state::given;
-use rounds::steps::go_on;
-use rounds::steps::start;
 use facts::Fact;
 use inst::table::table;
-use search::find::MaybeLook;
-use trial::block::try_chain;
+use oneround::round::round;
+use rounds::start::start;
+use rounds::state::At;
+use rounds::state::Ran;
+use rounds::state::advance;
+use rounds::state::given;
+use sizes::InUse;
 ghost use mathlib.Core.Path.{_≡_};
 ghost use mathlib.Core.List.{_++_};
 ghost use Prim.Native.Nat.{_*_, _-_};
@@ -23,7 +23,7 @@ ghost use Rattle.sink.specs.Sink.{Lent, Coming, Finished, registers, ope
 ghost use Rattle.rounds.specs.Ended.{Work};
 ghost use Rattle.oneround.specs.Kept.{Kept};
 
-// Chain after chain is tried, and each move made, until the search is at its end.
+// Round after round, until none is to be tried.
 fn run(
     t: &[u32; 202],
     bounds: &mut [u32],
@@ -41,30 +41,15 @@ fn run(
     m: At,
 ) -> Ran
     requires { ⌜ (
-        let P = picture-of (now bounds) (now recs) (now locs) (now vias) (now types) (m .sizes .regs) (now ops) (m .operands) (now pairs) (now targets) (now replay) in
+        let P = picture-of (now bounds) (now recs) (now locs) (now vias) (now types) (m .sizes .regs) (now ops) (m .sizes .opers) (now pairs) (now targets) (now replay) in
         (now t ≡ rows) × Coming P m (now work64) (now work32) (length (now facts))) ⌝ }
     ensures { λ r. ⌜ (
-        let P = picture-of (now (bounds .entry)) (now (recs .entry)) (now (locs .entry)) (now (vias .entry)) (now (types .entry)) (m .sizes .regs) (now (ops .entry)) (m .operands) (now (pairs .entry)) (now (targets .entry)) (now (replay .entry)) in
+        let P = picture-of (now (bounds .entry)) (now (recs .entry)) (now (locs .entry)) (now (vias .entry)) (now (types .entry)) (m .sizes .regs) (now (ops .entry)) (m .sizes .opers) (now (pairs .entry)) (now (targets .entry)) (now (replay .entry)) in
         Finished P m (now (work64 .entry)) (now (work32 .entry)) (now (facts .entry)) (r .answer) (r .lines) (now (bounds .exit)) (now (recs .exit)) (now (locs .exit)) (now (vias .exit)) (now (types .exit)) (now (ops .exit)) (now (work64 .exit)) (now (work32 .exit)) (now (facts .exit))) ⌝ }
 {
     let mut m = m;
-    while let MaybeLook::Is(k) = m.next {
-        let r = try_chain(
-            t,
-            bounds,
-            recs,
-            ops,
-            pairs,
-            targets,
-            replay,
-            work64,
-            work32,
-            facts,
-            m.sizes,
-            k.x,
-            k.c,
-        );
-        let next = go_on(
+    while m.more {
+        let r = round(
             t,
             bounds,
             recs,
@@ -77,10 +62,10 @@ fn run(
             replay,
             work64,
             work32,
-            m,
-            k,
-            r,
+            facts,
+            m.sizes,
         );
+        let next = advance(m, r);
         m = next;
     }
     given(m)
@@ -125,6 +110,10 @@ pub fn sink_all(
         × (cause ≡ 0 → Kept P Q (rounds (r .answer)))) ⌝ }
 {
     let t = table();
+    let used = InUse {
+        regs: regs,
+        opers: opers,
+    };
     let m = start(
         &t,
         bounds,
@@ -135,11 +124,9 @@ pub fn sink_all(
         ops,
         pairs,
         targets,
-        replay,
         work64,
         work32,
-        regs,
-        opers,
+        used,
         facts.len(),
     );
     run(

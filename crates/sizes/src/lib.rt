@@ -6,12 +6,26 @@ ghost use mathlib.Core.Path.{_≡_};
 ghost use Prim.Native.Nat.{_≤_};
 ghost use Rattle.sizes.specs.Parts.{regs-at, stamps-at, needed-at, preds-at};
 
-// Blocks; instructions; registers in use; registers lent.
+// Registers and operands in use.
+pub struct InUse {
+    pub regs: u32,
+    pub opers: u32,
+}
+
+// The lengths of the two work slices, and the records lent.
+pub struct Room {
+    pub w64: usize,
+    pub w32: usize,
+    pub records: usize,
+}
+
+// Blocks; instructions; registers in use and lent; operands in use.
 pub struct Sizes {
     pub blocks: u32,
     pub insts: usize,
     pub regs: u32,
     pub lent: usize,
+    pub opers: u32,
 }
 
 // Where the copied words of the registers in use begin: behind the chain's.

@@ -6,6 +6,7 @@ use chains::chain::Chain;
 use chains::pass::Sink;
 use facts::Fact;
 use inst::index::BlockId;
+use search::find::Look;
 use sizes::Sizes;
 use words::numbers::wide;
 use worth::look::replays;
@@ -83,7 +84,7 @@ fn found(x: BlockId, c: Chain, m: usize, n: usize, k: u32, l: u32) -> MaybeMove
     MaybeMove::Not
 }
 
-// The move from block x along chain c, which is worth a look. The facts along it are left in the list, marked for the target tried last.
+// The move from block k.x along its chain, which is worth a look. The facts along it are left in the list, marked for the target tried last.
 pub fn try_chain<'a>(
     t: &[u32; 202],
     bounds: &[u32],
@@ -96,15 +97,14 @@ pub fn try_chain<'a>(
     work32: &mut [u32],
     facts: &mut [Fact],
     s: Sizes,
-    x: BlockId,
-    c: Chain,
+    k: Look,
 ) -> MaybeMove
-    requires { ⌜ (now t ≡ rows) × Following (now bounds) (now recs) (now ops) (now pairs) (now targets) (now replay) s (x .0) c (now work64) (now work32) × (800 ≤ length (now facts)) ⌝ }
-    ensures { λ r. ⌜ Followed (now (bounds .entry)) (now (recs .entry)) (now (ops .entry)) (now (pairs .entry)) (now (targets .entry)) (now (replay .entry)) s (x .0) c (now (work64 .entry)) (now (work32 .entry)) (now (work64 .exit)) (now (work32 .exit)) r ⌝ }
+    requires { ⌜ (now t ≡ rows) × Following (now bounds) (now recs) (now ops) (now pairs) (now targets) (now replay) s (k .x .0) (k .c) (now work64) (now work32) × (800 ≤ length (now facts)) ⌝ }
+    ensures { λ r. ⌜ Followed (now (bounds .entry)) (now (recs .entry)) (now (ops .entry)) (now (pairs .entry)) (now (targets .entry)) (now (replay .entry)) s (k .x .0) (k .c) (now (work64 .entry)) (now (work32 .entry)) (now (work64 .exit)) (now (work32 .exit)) r ⌝ }
 {
-    let n = learn(t, bounds, recs, ops, work64, work32, facts, s, c);
-    let w = wanted(bounds, replay, x, c);
-    let k = plan(
+    let n = learn(t, bounds, recs, ops, work64, work32, facts, s, k.c);
+    let w = wanted(bounds, replay, k.x, k.c);
+    let moved = plan(
         t,
         bounds,
         recs,
@@ -115,14 +115,14 @@ pub fn try_chain<'a>(
         work32,
         facts,
         s,
-        c,
+        k.c,
         w.least,
-        c.t,
-        c.f,
+        k.c.t,
+        k.c.f,
         w.inside,
         n,
     );
-    let least = else_least(k, w.least);
+    let least = else_least(moved, w.least);
     let l = plan(
         t,
         bounds,
@@ -134,12 +134,12 @@ pub fn try_chain<'a>(
         work32,
         facts,
         s,
-        c,
+        k.c,
         least,
-        c.f,
-        c.t,
+        k.c.f,
+        k.c.t,
         w.inside,
         n,
     );
-    found(x, c, w.inside, n, k, l)
+    found(k.x, k.c, w.inside, n, moved, l)
 }

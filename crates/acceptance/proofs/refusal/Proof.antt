@@ -21,13 +21,13 @@ use Rattle.acceptance.proofs.refusal.Tie as tie
 abbrev pic : tie.Start → Picture
 pic s =
     let a = s .args in
-    picture-of (a .bounds .now) (a .recs .now) (a .locs .now) (a .vias .now) (a .types .now) (a .regs) (a .ops .now) (a .opers) (a .pairs .now) (a .targets .now) []
+    picture-of (a .bounds .now) (a .recs .now) (a .locs .now) (a .vias .now) (a .types .now) (a .used .regs) (a .ops .now) (a .used .opers) (a .pairs .now) (a .targets .now) []
 
 abbrev rest : (Picture → ℕ → ℕ → ℕ → List Bool) → tie.Start → List Bool
-rest f s = f (pic s) (s .args .w64) (s .args .w32) (s .args .records)
+rest f s = f (pic s) (s .args .room .w64) (s .args .room .w32) (s .args .room .records)
 
 abbrev answer : tie.Start → ℕ
-answer s = refusal (pic s) (s .args .w64) (s .args .w32) (s .args .records)
+answer s = refusal (pic s) (s .args .room .w64) (s .args .room .w32) (s .args .room .records)
 
 -- the entry, from past each test
 abbrev s1 : tie.Else1 → tie.Start
@@ -65,15 +65,15 @@ s10 c = s9 (c .before .before)
 kinds-in : (c : tie.After-look) → let a = c .before .before .before .before .before .before .before .before .before .before .before .before .before .before .before .args in c .look .result .kinds ≡ any bad-kind (code (a .recs .now) (length (a .locs .now)))
 kinds-in c = kinds-of _ _ _ _ _ (c .look .ensures)
 
-others-in : (c : tie.Else4) → let a = s4 c .args in c .before .look .result ≡ others (a .regs) (a .opers) (length (a .bounds .now) / 2) (code (a .recs .now) (length (a .locs .now)))
+others-in : (c : tie.Else4) → let a = s4 c .args in c .before .look .result ≡ others (a .used .regs) (a .used .opers) (length (a .bounds .now) / 2) (code (a .recs .now) (length (a .locs .now)))
 others-in c = others-of _ _ _ _ _ (c .before .look .ensures) (c .if4 .left)
 
-regs-in : (c : tie.Else4) → let a = s4 c .args in c .before .look .result .regs ≡ any (bad-regs (a .regs)) (code (a .recs .now) (length (a .locs .now)))
+regs-in : (c : tie.Else4) → let a = s4 c .args in c .before .look .result .regs ≡ any (bad-regs (a .used .regs)) (code (a .recs .now) (length (a .locs .now)))
 regs-in c = ap (λ (f : Found). f .regs) (others-in c)
 
 lists-in : (c : tie.After-bad-lists) → let a = s5 (c .before) .args in
-    c .bad-lists .result ≡ bad-lists (any (bad-list (a .opers)) (code (a .recs .now) (length (a .locs .now)))) (a .ops .now) (a .opers) (a .regs)
-lists-in c = let a = s5 (c .before) .args in c .bad-lists .ensures ∙ ap (λ (f : Found). bad-lists (f .lists) (a .ops .now) (a .opers) (a .regs)) (others-in (c .before .before))
+    c .bad-lists .result ≡ bad-lists (any (bad-list (a .used .opers)) (code (a .recs .now) (length (a .locs .now)))) (a .ops .now) (a .used .opers) (a .used .regs)
+lists-in c = let a = s5 (c .before) .args in c .bad-lists .ensures ∙ ap (λ (f : Found). bad-lists (f .lists) (a .ops .now) (a .used .opers) (a .used .regs)) (others-in (c .before .before))
 
 branches-in : (c : tie.After-bad-targets) → let a = s6 (c .before) .args in
     c .bad-targets .result ≡ bad-targets (any (bad-branch (length (a .bounds .now) / 2)) (code (a .recs .now) (length (a .locs .now)))) (a .targets .now) (a .pairs .now) (length (a .bounds .now) / 2)
@@ -86,7 +86,7 @@ cats-in c = ap (λ (f : Found). f .cats) (others-in c)
 
 past1 : (c : tie.Else1) → lowest 2 (rest from2 (s1 c)) ≡ answer (s1 c)
 unfolding from1
-past1 c = on 1 (rest from2 (s1 c)) (c .before .too-many .ensures) (c .if1 .left) ∙ whole-chain (pic (s1 c)) (s1 c .args .w64) (s1 c .args .w32) (s1 c .args .records)
+past1 c = on 1 (rest from2 (s1 c)) (c .before .too-many .ensures) (c .if1 .left) ∙ whole-chain (pic (s1 c)) (s1 c .args .room .w64) (s1 c .args .room .w32) (s1 c .args .room .records)
 
 past2 : (c : tie.Else2) → lowest 3 (rest from3 (s2 c)) ≡ answer (s2 c)
 unfolding from2
@@ -125,10 +125,10 @@ unfolding from10
 past10 c = on 10 (rest from11 (s10 c)) (c .before .too-short .ensures) (c .if10 .left) ∙ past9 (c .before .before)
 
 -- what the absence of causes 1, 2 and 4 gives
-few-at : (c : tie.Else1) → let a = s1 c .args in Few (length (a .bounds .now)) (length (a .locs .now)) (length (a .types .now)) (length (a .ops .now)) (a .regs) (a .opers)
+few-at : (c : tie.Else1) → let a = s1 c .args in Few (length (a .bounds .now)) (length (a .locs .now)) (length (a .types .now)) (length (a .ops .now)) (a .used .regs) (a .used .opers)
 few-at c =
     let a = s1 c .args in
-    few (length (a .bounds .now)) (length (a .locs .now)) (length (a .types .now)) (length (a .ops .now)) (length (a .pairs .now)) (length (a .targets .now)) (a .regs) (a .opers) (c .before .too-many .ensures) (c .if1 .left)
+    few (length (a .bounds .now)) (length (a .locs .now)) (length (a .types .now)) (length (a .ops .now)) (length (a .pairs .now)) (length (a .targets .now)) (a .used .regs) (a .used .opers) (c .before .too-many .ensures) (c .if1 .left)
 
 whole-at : (c : tie.Else2) → let a = s2 c .args in 16 * length (a .locs .now) ≤ length (a .recs .now)
 whole-at c =
@@ -143,7 +143,7 @@ too-many-requires c κs = search needs
 
 returns : tie.Need-returns
 unfolding from1
-returns c = stop 1 (rest from2 (c .before .before .before .before .before .before .before .before .before .before)) (c .before .too-many .ensures) (c .if1 .taken) ∙ whole-chain (pic (c .before .before .before .before .before .before .before .before .before .before)) (c .before .before .before .before .before .before .before .before .before .before .args .w64) (c .before .before .before .before .before .before .before .before .before .before .args .w32) (c .before .before .before .before .before .before .before .before .before .before .args .records)
+returns c = stop 1 (rest from2 (c .before .before .before .before .before .before .before .before .before .before)) (c .before .too-many .ensures) (c .if1 .taken) ∙ whole-chain (pic (c .before .before .before .before .before .before .before .before .before .before)) (c .before .before .before .before .before .before .before .before .before .before .args .room .w64) (c .before .before .before .before .before .before .before .before .before .before .args .room .w32) (c .before .before .before .before .before .before .before .before .before .before .args .room .records)
 
 unlike-requires : tie.Need-unlike-requires
 unlike-requires c κs = few-at c .locs
@@ -203,7 +203,7 @@ unfolding from10
 returns-10 c = stop 10 (rest from11 (s9 (c .before .before))) (c .before .too-short .ensures) (c .if10 .taken) ∙ past9 (c .before .before)
 
 returns-11 : tie.Need-returns-11
-returns-11 c = end (pic (s10 c)) (s10 c .args .w64) (s10 c .args .w32) (s10 c .args .records) (kinds-at (c .before .before .before .before .before .before .before .before .before .before)) ∙ past10 c
+returns-11 c = end (pic (s10 c)) (s10 c .args .room .w64) (s10 c .args .room .w32) (s10 c .args .room .records) (kinds-at (c .before .before .before .before .before .before .before .before .before .before)) ∙ past10 c
 
 pub refusal-spec : {M : Type 1} → statement M
 refusal-spec =

@@ -10,11 +10,11 @@ wide-requires c κs = search needs
 
 live-in-requires : tie.Need-live-in-requires
 live-in-requires c κs =
-    let z = live-ask (c .before .before .before .before .before .before .before .before .before .before .pre .1) _ (c .wide .ensures) in
-    (c .before .before .before .before .before .before .before .before .before .before .pre .0, z .0, z .1, z .2)
+    let z = live-ask (c .before .before .before .before .before .before .before .before .before .pre .1) _ (c .wide .ensures) in
+    (c .before .before .before .before .before .before .before .before .before .pre .0, z .0, z .1, z .2)
 
 seek-requires : tie.Need-seek-requires
-seek-requires c κs = (seeking (c .before .before .before .before .before .before .before .before .before .before .before .before .before .pre .1), omega arith)
+seek-requires c κs = (seeking (c .before .before .before .before .before .before .before .before .before .before .before .before .pre .1), omega arith)
 
 same-length : tie.Need-same-length
 same-length c = c .before .before .work64 .given

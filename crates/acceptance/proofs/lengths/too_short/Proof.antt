@@ -1,12 +1,12 @@
--- `acceptance::sizes::too_short` meets its contract. Assumes nothing.
+-- `acceptance::lengths::too_short` meets its contract. Assumes nothing.
 use Rattle.checks.specs.Causes.{too-short}
 use mathlib.Core.Path.{refl}
 use native.Mathlib.Omega.{arith}
 use Rattle.words.proofs.Parts.{rows-small}
 use Prim.Native.Nat.{_+_, _/_}
 use borrow.Author.Needs.{needs}
-use Rattle.acceptance.proofs.sizes.too_short.Statement.{statement}
-use Rattle.acceptance.proofs.sizes.too_short.Tie as tie
+use Rattle.acceptance.proofs.lengths.too_short.Statement.{statement}
+use Rattle.acceptance.proofs.lengths.too_short.Tie as tie
 
 mul-result : tie.Need-mul-result
 mul-result c = search needs

@@ -2,6 +2,8 @@
 // shape"), by lengths alone: they are tested before anything is indexed, and no product can wrap.
 use model::CHAIN_WORDS;
 use model::RECORDS;
+use sizes::InUse;
+use sizes::Room;
 use words::numbers::wide;
 ghost use mathlib.Core.Path.{_≡_};
 ghost use Prim.Native.Nat.{_/_, _≤_};
@@ -28,10 +30,9 @@ pub fn too_many(
     nq: usize,
     np: usize,
     ng: usize,
-    regs: u32,
-    opers: u32,
+    used: InUse,
 ) -> bool
-    ensures { λ r. ⌜ r ≡ too-many nb nl nt nq np ng regs opers ⌝ }
+    ensures { λ r. ⌜ r ≡ too-many nb nl nt nq np ng (used .regs) (used .opers) ⌝ }
 {
     (BLOCKS < nb / 2)
         | (INSTRUCTIONS < nl)
@@ -39,8 +40,8 @@ pub fn too_many(
         | (OPERANDS < nq)
         | (PAIRS < np)
         | (TARGETS < ng)
-        | (nt < wide(regs))
-        | (nq < wide(opers))
+        | (nt < wide(used.regs))
+        | (nq < wide(used.opers))
 }
 
 // 2: of the lengths of records, locs, vias, bounds and pairs.
@@ -52,11 +53,11 @@ pub fn unlike(nr: usize, nl: usize, nv: usize, nb: usize, np: usize) -> bool
 }
 
 // 10: of the lengths of bounds and types, of the two work slices, and of the records lent.
-pub fn too_short(nb: usize, nt: usize, w64: usize, w32: usize, records: usize) -> bool
+pub fn too_short(nb: usize, nt: usize, room: Room) -> bool
     requires { ⌜ (nb / 2 ≤ 4096) × (nt ≤ 65536) ⌝ }
-    ensures { λ r. ⌜ r ≡ too-short nb nt w64 w32 records ⌝ }
+    ensures { λ r. ⌜ r ≡ too-short nb nt (room .w64) (room .w32) (room .records) ⌝ }
 {
-    (w64 < 4 * (nb / 2) * ((nt + 63) / 64) + 2 * nt)
-        | (w32 < 8 * nt + 16 * (nb / 2) + CHAIN_WORDS)
-        | (records < RECORDS)
+    (room.w64 < 4 * (nb / 2) * ((nt + 63) / 64) + 2 * nt)
+        | (room.w32 < 8 * nt + 16 * (nb / 2) + CHAIN_WORDS)
+        | (room.records < RECORDS)
 }

@@ -1,8 +1,8 @@
--- `acceptance::sizes::too_many` meets its contract. Assumes nothing.
+-- `acceptance::lengths::too_many` meets its contract. Assumes nothing.
 use Rattle.checks.specs.Causes.{too-many}
 use borrow.Author.Needs.{needs}
-use Rattle.acceptance.proofs.sizes.too_many.Statement.{statement}
-use Rattle.acceptance.proofs.sizes.too_many.Tie as tie
+use Rattle.acceptance.proofs.lengths.too_many.Statement.{statement}
+use Rattle.acceptance.proofs.lengths.too_many.Tie as tie
 
 wide-requires : tie.Need-wide-requires
 wide-requires c κs = search needs

@@ -1,9 +1,9 @@
--- `acceptance::sizes::unlike` meets its contract. Assumes nothing.
+-- `acceptance::lengths::unlike` meets its contract. Assumes nothing.
 use Rattle.checks.specs.Causes.{unlike}
 use mathlib.Core.Path.{refl}
 use borrow.Author.Needs.{needs}
-use Rattle.acceptance.proofs.sizes.unlike.Statement.{statement}
-use Rattle.acceptance.proofs.sizes.unlike.Tie as tie
+use Rattle.acceptance.proofs.lengths.unlike.Statement.{statement}
+use Rattle.acceptance.proofs.lengths.unlike.Tie as tie
 
 mul-result : tie.Need-mul-result
 mul-result c = search needs
