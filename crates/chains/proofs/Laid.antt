@@ -19,7 +19,7 @@ use Rattle.model.specs.Move.{chain-places}
 use Rattle.chains.specs.declared.chain.Chain.{Chain}
 use Rattle.chains.specs.declared.places.Part.{Part}
 use Rattle.chains.specs.Chain.{blocks-of, Sound}
-use Rattle.chains.specs.Places.{start-in, end-past, Pairs, kept-in, IsPart}
+use Rattle.chains.specs.Places.{start-in, end-past, Pair, Laid, kept-in, IsPart}
 use Rattle.chains.proofs.Struct.{blocks-long}
 
 take-range : (m s n : ℕ) → m ≤ n → take m (range s n) ≡ range s m
@@ -59,18 +59,19 @@ module _ (P : Picture) {bounds : List ℕ} (e : P .bounds ≡ bounds) (bs : List
 
 -- ---- what `part` answers
 
-module _ {bounds : List ℕ} {B : ℕ} {c : Chain} {k : ℕ} (s : Sound c B) (h : k < c .count) (p : Pairs bounds B) where
+-- a chain of blocks that all have their bounds
+pub laid-in : {bounds : List ℕ} {B : ℕ} {c : Chain} → Sound c B → ((b : ℕ) → b < B → Pair bounds b) → Laid bounds c
+laid-in {c = c} s p = record { few = s .few; each = λ k h. p (getD (blocks-of c) k 0) (s .each k h) }
+
+module _ {bounds : List ℕ} {c : Chain} {k : ℕ} (s : Laid bounds c) (h : k < c .count) where
   abbrev bs : List ℕ
   bs = blocks-of c
 
   abbrev b : ℕ
   b = getD bs k 0
 
-  pub block-below : b < B
-  block-below = s .each k h
-
   pub block-fits : {a : ℕ} → a ≡ b → 2 * a + 2 ≤ length bounds
-  block-fits {a} e = let l = block-below in omega (arith, p .size, l, e)
+  block-fits {a} e = let l = s .each k h .size in omega (arith, l, e)
 
   more : length bs - (k + 1) ≡ c .count - (k + 1)
   more = ap (λ (n : ℕ). n - (k + 1)) (blocks-long (s .few))
@@ -93,7 +94,7 @@ module _ {bounds : List ℕ} {B : ℕ} {c : Chain} {k : ℕ} (s : Sound c B) (h 
     part-outer t = record { from = ex; past = go (lt? 0 (length bs - (k + 1))); fits = omega (arith, ey); low = omega arith }
       where
         o : start-in bounds b ≤ end-past bounds b
-        o = p .order b block-below
+        o = s .each k h .order
 
         none : k + 1 < c .count → y ≤ x
         none l = ltb-false x y (sym (ap (λ (z : Bool). z && ltb x y) (lt-ltb (k + 1) (c .count) l)) ∙ t)

@@ -11,8 +11,8 @@ use Rattle.model.specs.Move.{chain-places}
 use Rattle.chains.specs.declared.chain.Chain.{Chain}
 use Rattle.chains.specs.declared.places.Part.{Part}
 use Rattle.chains.specs.declared.cursor.Cursor.{Cursor}
-use Rattle.chains.specs.Chain.{blocks-of, Sound}
-use Rattle.chains.specs.Places.{IsPart}
+use Rattle.chains.specs.Chain.{blocks-of}
+use Rattle.chains.specs.Places.{Laid, IsPart}
 use Rattle.chains.specs.Cursor.{left-of, Inside, Standing}
 use Rattle.chains.proofs.Struct.{blocks-long}
 use Rattle.chains.proofs.Laid.{part-step}
@@ -46,22 +46,22 @@ pub record Seeking (bounds : List ℕ) (c : Chain) (k₀ g₀ past₀ k g past :
 pub seeking-none : {bounds : List ℕ} {c : Chain} {k g past : ℕ} → Inside bounds c k g past → Seeking bounds c k g past k g past
 seeking-none i = record { inside = i; same = λ P e. refl }
 
-pub seeking-more : {bounds : List ℕ} {c : Chain} {B k₀ g₀ past₀ k g past : ℕ} (x : Part) → Sound c B → Seeking bounds c k₀ g₀ past₀ k g past → past ≤ g → k + 1 < c .count → IsPart bounds (blocks-of c) (k + 1) x → Seeking bounds c k₀ g₀ past₀ (k + 1) (x .from) (x .past)
-seeking-more {bounds} {c} {B} {k₀} {g₀} {past₀} {k} {g} {past} x s q h l i = record {
+pub seeking-more : {bounds : List ℕ} {c : Chain} {k₀ g₀ past₀ k g past : ℕ} (x : Part) → Laid bounds c → Seeking bounds c k₀ g₀ past₀ k g past → past ≤ g → k + 1 < c .count → IsPart bounds (blocks-of c) (k + 1) x → Seeking bounds c k₀ g₀ past₀ (k + 1) (x .from) (x .past)
+seeking-more {bounds} {c} {k₀} {g₀} {past₀} {k} {g} {past} x s q h l i = record {
   inside = block-inside x l i;
   same = λ P e. q .same P e ∙ none-left P (blocks-of c) k g past h ∙ block-left P (k + 1) x e i (rw (blocks-long (s .few)) l);
 }
 
 -- ---- the first, and the next
 
-pub first-left : (P : Picture) {bounds : List ℕ} {c : Chain} {B : ℕ} (x : Part) → Sound c B → P .bounds ≡ bounds → IsPart bounds (blocks-of c) 0 x → chain-places P (blocks-of c) ≡ left-of P (blocks-of c) 0 (x .from) (x .past)
+pub first-left : (P : Picture) {bounds : List ℕ} {c : Chain} (x : Part) → Laid bounds c → P .bounds ≡ bounds → IsPart bounds (blocks-of c) 0 x → chain-places P (blocks-of c) ≡ left-of P (blocks-of c) 0 (x .from) (x .past)
 first-left P x s e i = block-left P 0 x e i (rw (blocks-long (s .few)) (s .few .least))
 
 pub next-left : (P : Picture) (bs : List ℕ) (x : Cursor) → x .g < x .past → left-of P bs (x .k) (x .g) (x .past) ≡ x .g ∷ left-of P bs (x .k) (x .g + 1) (x .past)
 next-left P bs x h = one-left P bs (x .k) (x .g) (x .past) h
 
 -- where the records of its block are at their end, no position is left
-pub nothing-left : (P : Picture) {bounds : List ℕ} {c : Chain} {B : ℕ} {x : Cursor} → Sound c B → Standing bounds c x → x .past ≤ x .g → left-of P (blocks-of c) (x .k) (x .g) (x .past) ≡ []
-nothing-left P {bounds} {c} {B} {x} s t h =
+pub nothing-left : (P : Picture) {bounds : List ℕ} {c : Chain} {x : Cursor} → Laid bounds c → Standing bounds c x → x .past ≤ x .g → left-of P (blocks-of c) (x .k) (x .g) (x .past) ≡ []
+nothing-left P {bounds} {c} {x} s t h =
     none-left P (blocks-of c) (x .k) (x .g) (x .past) h
     ∙ ap (chain-places P) (drop-of-length-le (blocks-of c) {i = x .k + 1} (rw (blocks-long (s .few)) (t .ended h)))

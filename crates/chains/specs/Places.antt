@@ -5,7 +5,9 @@ use mathlib.Core.List.{List}
 use Prim.Native.Nat.{ℕ, _+_, _*_, _-_, _≤_, _<_}
 use lib.Dec.{ltb}
 use lib.ListN.{getD, length}
+use Rattle.chains.specs.declared.chain.Chain.{Chain}
 use Rattle.chains.specs.declared.places.Part.{Part}
+use Rattle.chains.specs.Chain.{blocks-of, Few}
 
 abbrev pub start-in : List ℕ → ℕ → ℕ
 start-in bounds b = getD bounds (2 * b) 0
@@ -13,10 +15,15 @@ start-in bounds b = getD bounds (2 * b) 0
 abbrev pub end-past : List ℕ → ℕ → ℕ
 end-past bounds b = getD bounds (2 * b + 1) 0
 
--- each block has its bounds, in order
-pub record Pairs (bounds : List ℕ) (B : ℕ) : Type 0 where
-  pub size : 2 * B ≤ length bounds
-  pub order : (b : ℕ) → b < B → start-in bounds b ≤ end-past bounds b
+-- block b has its bounds, in order
+pub record Pair (bounds : List ℕ) (b : ℕ) : Type 0 where
+  pub size : 2 * b + 2 ≤ length bounds
+  pub order : start-in bounds b ≤ end-past bounds b
+
+-- a chain of one to six blocks, each of which has its bounds
+pub record Laid (bounds : List ℕ) (c : Chain) : Type 0 where
+  pub few : Few c
+  pub each : (k : ℕ) → k < c .count → Pair bounds (getD (blocks-of c) k 0)
 
 -- how many positions of a block there are, where so many blocks follow
 abbrev pub kept-in : List ℕ → ℕ → ℕ → ℕ

@@ -6,8 +6,8 @@ ghost use Prim.Native.Nat.{_+_, _*_, _≤_, _<_};
 ghost use lib.ListN.{length};
 ghost use Rattle.model.specs.Picture.{Picture};
 ghost use Rattle.model.specs.Move.{chain-places};
-ghost use Rattle.chains.specs.Chain.{blocks-of, Sound};
-ghost use Rattle.chains.specs.Places.{Pairs, IsPart};
+ghost use Rattle.chains.specs.Chain.{blocks-of};
+ghost use Rattle.chains.specs.Places.{Laid, IsPart};
 
 // The records from one number up to another.
 pub struct Part {
@@ -16,8 +16,8 @@ pub struct Part {
 }
 
 // The positions in the k-th block: all, or all but the Br where another block follows.
-pub fn part_of(bounds: &[u32], c: Chain, k: u32, blocks: u32) -> Part
-    requires { ⌜ Sound c blocks × (k < c .count) × Pairs (now bounds) blocks ⌝ }
+pub fn part_of(bounds: &[u32], c: Chain, k: u32) -> Part
+    requires { ⌜ Laid (now bounds) c × (k < c .count) ⌝ }
     ensures { λ r. ⌜ IsPart (now (bounds .entry)) (blocks-of c) k r ⌝ }
 {
     let b = c.nth(k).at();
@@ -33,15 +33,15 @@ pub fn part_of(bounds: &[u32], c: Chain, k: u32, blocks: u32) -> Part
 }
 
 // How many positions the chain has.
-pub fn chain_len(bounds: &[u32], c: Chain, blocks: u32) -> usize
-    requires { ⌜ Sound c blocks × Pairs (now bounds) blocks ⌝ }
+pub fn chain_len(bounds: &[u32], c: Chain) -> usize
+    requires { ⌜ Laid (now bounds) c ⌝ }
     ensures { λ r. ⌜ ((P : Picture) → P .bounds ≡ now (bounds .entry) → r ≡ length (chain-places P (blocks-of c))) ⌝ }
 {
     let count = c.count;
     let mut n = 0usize;
     let mut k = 0u32;
     while k < count {
-        let x = part_of(bounds, c, k, blocks);
+        let x = part_of(bounds, c, k);
         n += x.past - x.from;
         k += 1;
     }

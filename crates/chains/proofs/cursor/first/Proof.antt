@@ -12,7 +12,7 @@ seek-requires : tie.Need-seek-requires
 seek-requires c κs = search needs
 
 returns : tie.Need-returns
-returns c = (c .seek .ensures .0, λ P e. first-left P _ (c .before .before .before .pre .0) e (c .before .part-of .ensures) ∙ c .seek .ensures .1 P e)
+returns c = (c .seek .ensures .0, λ P e. first-left P _ (c .before .before .before .pre) e (c .before .part-of .ensures) ∙ c .seek .ensures .1 P e)
 
 pub first-spec : {M : Type 1} → statement M
 first-spec = tie.close (tie.spec part-of-requires seek-requires returns)

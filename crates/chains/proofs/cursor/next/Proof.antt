@@ -8,14 +8,14 @@ use borrow.Author.Needs.{needs}
 use Rattle.chains.proofs.cursor.next.Statement.{statement}
 use Rattle.chains.proofs.cursor.next.Tie as tie
 
-add-t6 : tie.Need-add-t6
-add-t6 c = search needs
+add-t5 : tie.Need-add-t5
+add-t5 c = search needs
 
 seek-requires : tie.Need-seek-requires
 seek-requires c κs = search needs
 
 returns : tie.Need-returns
-returns c = (c .seek .ensures .0, λ P e. next-left P (blocks-of (c .before .before .before .args .c)) (c .before .before .before .args .at) (c .before .before .before .pre .3) ∙ ap (λ (l : List ℕ). c .before .before .before .args .at .g ∷ l) (c .seek .ensures .1 P e))
+returns c = (c .seek .ensures .0, λ P e. next-left P (blocks-of (c .before .before .before .args .c)) (c .before .before .before .args .at) (c .before .before .before .pre .2) ∙ ap (λ (l : List ℕ). c .before .before .before .args .at .g ∷ l) (c .seek .ensures .1 P e))
 
 pub next-spec : {M : Type 1} → statement M
-next-spec = tie.close (tie.spec add-t6 seek-requires returns)
+next-spec = tie.close (tie.spec add-t5 seek-requires returns)

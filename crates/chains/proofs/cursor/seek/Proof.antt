@@ -6,13 +6,13 @@ use Rattle.chains.proofs.cursor.seek.Statement.{statement}
 use Rattle.chains.proofs.cursor.seek.Tie as tie
 
 abbrev Inv-loop : tie.InvT-loop
-Inv-loop bounds c blocks many k₀ g₀ past₀ k g past = Seeking bounds c k₀ g₀ past₀ k g past
+Inv-loop bounds c many k₀ g₀ past₀ k g past = Seeking bounds c k₀ g₀ past₀ k g past
 
 abbrev μ-loop : tie.MeasureT-loop
-μ-loop bounds c blocks many k₀ g₀ past₀ k g past = many - k
+μ-loop bounds c many k₀ g₀ past₀ k g past = many - k
 
 loop-holds : tie.Need-loop-holds Inv-loop μ-loop
-loop-holds c = seeking-none (c .before .pre .2)
+loop-holds c = seeking-none (c .before .pre .1)
 
 add-loop : tie.Need-add-loop Inv-loop μ-loop
 add-loop c = omega (arith, c .loop .inv .inside .block, c .before .before .pre .0 .few .most)
@@ -24,7 +24,7 @@ add-k : tie.Need-add-k Inv-loop μ-loop
 add-k c = omega (arith, c .before .before .loop .inv .inside .block, c .before .before .before .before .pre .0 .few .most)
 
 part-of-requires : tie.Need-part-of-requires Inv-loop μ-loop
-part-of-requires c κs = (c .before .before .before .before .pre .0, c .before .loop-test .taken, c .before .before .before .before .pre .1)
+part-of-requires c κs = (c .before .before .before .before .pre .0, c .before .loop-test .taken)
 
 loop-less : tie.Need-loop-less Inv-loop μ-loop
 loop-less c = omega (arith, c .before .before .loop-test .taken)

@@ -9,22 +9,22 @@ use Rattle.chains.proofs.places.chain_len.Statement.{statement}
 use Rattle.chains.proofs.places.chain_len.Tie as tie
 
 abbrev Inv-loop : tie.InvT-loop
-Inv-loop bounds c blocks count n₀ k₀ n k = Counted bounds (blocks-of c) n k
+Inv-loop bounds c count n₀ k₀ n k = Counted bounds (blocks-of c) n k
 
 abbrev μ-loop : tie.MeasureT-loop
-μ-loop bounds c blocks count n₀ k₀ n k = count - k
+μ-loop bounds c count n₀ k₀ n k = count - k
 
 loop-holds : tie.Need-loop-holds Inv-loop μ-loop
 loop-holds c = counted-none _ _
 
 part-of-requires : tie.Need-part-of-requires Inv-loop μ-loop
-part-of-requires c κs = (c .before .before .before .pre .0, c .loop-test .taken, c .before .before .before .pre .1)
+part-of-requires c κs = (c .before .before .before .pre, c .loop-test .taken)
 
 sub-n : tie.Need-sub-n Inv-loop μ-loop
 sub-n c = omega (arith, c .before .part-of .ensures .past)
 
 add-n : tie.Need-add-n Inv-loop μ-loop
-add-n c = omega (arith, c .before .before .before .loop .inv .low, c .before .before .loop-test .taken, c .before .before .before .before .before .pre .0 .few .most, c .before .part-of .ensures .low)
+add-n c = omega (arith, c .before .before .before .loop .inv .low, c .before .before .loop-test .taken, c .before .before .before .before .before .pre .few .most, c .before .part-of .ensures .low)
 
 add-k : tie.Need-add-k Inv-loop μ-loop
 add-k c = search needs
@@ -33,10 +33,10 @@ loop-less : tie.Need-loop-less Inv-loop μ-loop
 loop-less c = search needs
 
 loop-again : tie.Need-loop-again Inv-loop μ-loop
-loop-again c = counted-more _ _ _ (c .before .before .before .loop .inv) (rw (blocks-long (c .before .before .before .before .before .pre .0 .few)) (c .before .before .loop-test .taken)) (c .before .part-of .ensures)
+loop-again c = counted-more _ _ _ (c .before .before .before .loop .inv) (rw (blocks-long (c .before .before .before .before .before .pre .few)) (c .before .before .loop-test .taken)) (c .before .part-of .ensures)
 
 returns : tie.Need-returns Inv-loop μ-loop
-returns c = counted-end _ _ (c .before .loop .inv) (rw (blocks-long (c .before .before .before .pre .0 .few)) (c .loop-test .left))
+returns c = counted-end _ _ (c .before .loop .inv) (rw (blocks-long (c .before .before .before .pre .few)) (c .loop-test .left))
 
 pub chain-len-spec : {M : Type 1} → statement M
 chain-len-spec =

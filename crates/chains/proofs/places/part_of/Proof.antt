@@ -25,7 +25,11 @@ mul-wide-2 : tie.Need-mul-wide-2
 mul-wide-2 c = search needs
 
 shared-slice-read-wide : tie.Need-shared-slice-read-wide
-shared-slice-read-wide c = let f = block-fits (c .before .before .before .before .pre .0) (c .before .before .before .before .pre .1) (c .before .before .before .before .pre .2) (c .before .at .ensures ∙ c .before .before .nth .ensures) in omega (arith, f)
+shared-slice-read-wide c =
+    let at-nth = c .before .before in
+    let p = at-nth .before .before .pre in
+    let f = block-fits (p .0) (p .1) (c .before .at .ensures ∙ at-nth .nth .ensures) in
+    omega (arith, f)
 
 wide-requires : tie.Need-wide-requires
 wide-requires c κs = search needs
@@ -40,7 +44,11 @@ mul-wide-4 : tie.Need-mul-wide-4
 mul-wide-4 c = search needs
 
 shared-slice-read-wide-2 : tie.Need-shared-slice-read-wide-2
-shared-slice-read-wide-2 c = let f = block-fits (c .before .before .before .before .before .before .pre .0) (c .before .before .before .before .before .before .pre .1) (c .before .before .before .before .before .before .pre .2) (c .before .before .before .at .ensures ∙ c .before .before .before .before .nth .ensures) in omega (arith, f)
+shared-slice-read-wide-2 c =
+    let at-nth = c .before .before .before .before in
+    let p = at-nth .before .before .pre in
+    let f = block-fits (p .0) (p .1) (c .before .before .before .at .ensures ∙ at-nth .nth .ensures) in
+    omega (arith, f)
 
 wide-requires-2 : tie.Need-wide-requires-2
 wide-requires-2 c κs = search needs
@@ -48,14 +56,38 @@ wide-requires-2 c κs = search needs
 add-if1 : tie.Need-add-if1
 add-if1 c = search needs
 
-sub-t18 : tie.Need-sub-t18
-sub-t18 c = let m = ltb-true (c .before .before .before .before .wide .result) (c .before .before .wide2 .result) (right-true (ltb (c .before .before .before .before .before .before .before .before .before .args .k + 1) (c .before .before .before .before .before .before .before .before .before .args .c .count)) (ltb (c .before .before .before .before .wide .result) (c .before .before .wide2 .result)) (c .if1 .taken)) in omega (arith, m)
+sub-t17 : tie.Need-sub-t17
+sub-t17 c =
+    let at-from = c .before .before .before .before in
+    let x = at-from .wide .result in
+    let y = c .before .before .wide2 .result in
+    let a = at-from .before .before .before .before .before .args in
+    let m = ltb-true x y (right-true (ltb (a .k + 1) (a .c .count)) (ltb x y) (c .if1 .taken)) in
+    omega (arith, m)
 
 returns : tie.Need-returns
-returns c = part-inner (c .before .before .before .before .before .before .before .before .before .pre .0) (c .before .before .before .before .before .before .before .before .before .pre .1) (c .before .before .before .before .before .before .before .before .before .pre .2) (c .before .before .before .before .wide .ensures ∙ ap (λ (n : ℕ). getD (now (c .before .before .before .before .before .before .before .before .before .args .bounds)) (2 * n) 0) (c .before .before .before .before .before .before .at .ensures ∙ c .before .before .before .before .before .before .before .nth .ensures)) (c .before .before .wide2 .ensures ∙ ap (λ (n : ℕ). getD (now (c .before .before .before .before .before .before .before .before .before .args .bounds)) (2 * n + 1) 0) (c .before .before .before .before .before .before .at .ensures ∙ c .before .before .before .before .before .before .before .nth .ensures)) (omega (arith, c .before .before .before .before .before .shared-slice-known2 .given (2 * c .before .before .before .before .before .before .at .result + 1), c .before .before .wide2 .ensures)) (c .if1 .taken)
+returns c =
+    let at-past = c .before .before in
+    let at-from = at-past .before .before in
+    let at-block = at-from .before .before in
+    let e = at-block .before .before .before in
+    let b = at-block .at .ensures ∙ at-block .before .nth .ensures in
+    let from = at-from .wide .ensures ∙ ap (λ (n : ℕ). getD (now (e .args .bounds)) (2 * n) 0) b in
+    let past = at-past .wide2 .ensures ∙ ap (λ (n : ℕ). getD (now (e .args .bounds)) (2 * n + 1) 0) b in
+    let low = at-from .before .shared-slice-known2 .given (2 * at-block .at .result + 1) in
+    part-inner (e .pre .0) (e .pre .1) from past (omega (arith, low, at-past .wide2 .ensures)) (c .if1 .taken)
 
 returns-2 : tie.Need-returns-2
-returns-2 c = part-outer (c .before .before .before .before .before .before .before .before .before .pre .0) (c .before .before .before .before .before .before .before .before .before .pre .1) (c .before .before .before .before .before .before .before .before .before .pre .2) (c .before .before .before .before .wide .ensures ∙ ap (λ (n : ℕ). getD (now (c .before .before .before .before .before .before .before .before .before .args .bounds)) (2 * n) 0) (c .before .before .before .before .before .before .at .ensures ∙ c .before .before .before .before .before .before .before .nth .ensures)) (c .before .before .wide2 .ensures ∙ ap (λ (n : ℕ). getD (now (c .before .before .before .before .before .before .before .before .before .args .bounds)) (2 * n + 1) 0) (c .before .before .before .before .before .before .at .ensures ∙ c .before .before .before .before .before .before .before .nth .ensures)) (omega (arith, c .before .before .before .before .before .shared-slice-known2 .given (2 * c .before .before .before .before .before .before .at .result + 1), c .before .before .wide2 .ensures)) (c .if1 .left)
+returns-2 c =
+    let at-past = c .before .before in
+    let at-from = at-past .before .before in
+    let at-block = at-from .before .before in
+    let e = at-block .before .before .before in
+    let b = at-block .at .ensures ∙ at-block .before .nth .ensures in
+    let from = at-from .wide .ensures ∙ ap (λ (n : ℕ). getD (now (e .args .bounds)) (2 * n) 0) b in
+    let past = at-past .wide2 .ensures ∙ ap (λ (n : ℕ). getD (now (e .args .bounds)) (2 * n + 1) 0) b in
+    let low = at-from .before .shared-slice-known2 .given (2 * at-block .at .result + 1) in
+    part-outer (e .pre .0) (e .pre .1) from past (omega (arith, low, at-past .wide2 .ensures)) (c .if1 .left)
 
 pub part-of-spec : {M : Type 1} → statement M
 part-of-spec =
@@ -73,6 +105,6 @@ part-of-spec =
     shared-slice-read-wide-2
     wide-requires-2
     add-if1
-    sub-t18
+    sub-t17
     returns
     returns-2)
