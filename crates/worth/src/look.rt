@@ -1,21 +1,20 @@
 // What a chain must have to be looked at (01, "A round": "x without its terminator needs 8 instructions (3 if t or f is in replay);
 // the chain, inner Brs dropped, may have 800; without replay x needs a Cat of form 0").
+use acceptance::gates::plain_cat;
 use chains::chain::Chain;
 use chains::pass::Sink;
 use chains::places::chain_len;
 use inst::index::BlockId;
-use acceptance::gates::plain_cat;
 use words::numbers::wide;
 ghost use mathlib.Core.Path.{_≡_};
 ghost use mathlib.Core.Bool.{_||_};
 ghost use mathlib.Core.List.{map};
-ghost use Prim.Native.Nat.{_-_, _*_, _≤_, _<_};
+ghost use Prim.Native.Nat.{_-_, _*_, _≤_};
 ghost use lib.ListN.{length};
 ghost use Rattle.words.specs.Lists.{range, any, mem};
 ghost use Rattle.model.specs.Picture.{inst};
 ghost use Rattle.checks.specs.Causes.{plain-cat};
-ghost use Rattle.chains.specs.Chain.{Sound};
-ghost use Rattle.chains.specs.Places.{Pairs, end-past};
+ghost use Rattle.chains.specs.Places.{Pair, Laid, end-past};
 ghost use Rattle.worth.specs.Worth.{Worth};
 
 // Is block b in the list?
@@ -55,16 +54,9 @@ pub fn plain_cat_in(recs: &[u32], a: usize, e: usize) -> bool
     false
 }
 
-// Is the chain c from block x, of so many blocks, to be looked at?
-pub fn worth_a_look(
-    bounds: &[u32],
-    recs: &[u32],
-    replay: &[u32],
-    c: Chain,
-    x: BlockId,
-    blocks: u32,
-) -> bool
-    requires { ⌜ Sound c blocks × Pairs (now bounds) blocks × (x .0 < blocks) × (16 * end-past (now bounds) (x .0) ≤ length (now recs)) ⌝ }
+// Is the chain c from block x to be looked at?
+pub fn worth_a_look(bounds: &[u32], recs: &[u32], replay: &[u32], c: Chain, x: BlockId) -> bool
+    requires { ⌜ Laid (now bounds) c × Pair (now bounds) (x .0) × (16 * end-past (now bounds) (x .0) ≤ length (now recs)) ⌝ }
     ensures { λ r. ⌜ Worth (now (bounds .entry)) (now (recs .entry)) (now (replay .entry)) c (x .0) r ⌝ }
 {
     let again = replays(replay, c.t, c.f);
@@ -74,7 +66,7 @@ pub fn worth_a_look(
     if e - a <= wide(Sink::minimum(again)) {
         return false;
     }
-    if wide(Sink::MAX_SEQ) < chain_len(bounds, c, blocks) {
+    if wide(Sink::MAX_SEQ) < chain_len(bounds, c) {
         return false;
     }
     if again {

@@ -46,7 +46,7 @@ sub-if1 c =
     let a = c .before .before .before .before .before .before .before .before .before .args in
     let lo = c .before .before .wide .ensures ∙ ap (λ (x : ℕ). getD (a .bounds .now) (2 * x) 0) (c .before .before .before .before .at .ensures) in
     let hi = c .wide2 .ensures ∙ ap (λ (x : ℕ). getD (a .bounds .now) (2 * x + 1) 0) (c .before .before .before .before .at .ensures) in
-    let o = c .before .before .before .before .before .before .before .before .before .pre .1 .order (a .x .0) (c .before .before .before .before .before .before .before .before .before .pre .2) in
+    let o = c .before .before .before .before .before .before .before .before .before .pre .1 .order in
     omega (arith, lo, hi)
 
 minimum-requires : tie.Need-minimum-requires
@@ -98,7 +98,7 @@ plain-cat-in-requires c κs =
     let lo = c .before .before .before .before .before .before .before .before .before .wide .ensures ∙ ap (λ (x : ℕ). getD (a .bounds .now) (2 * x) 0) (c .before .before .before .before .before .before .before .before .before .before .before .at .ensures) in
     let hi = c .before .before .before .before .before .before .before .wide2 .ensures ∙ ap (λ (x : ℕ). getD (a .bounds .now) (2 * x + 1) 0) (c .before .before .before .before .before .before .before .before .before .before .before .at .ensures) in
     let few = c .before .before .before .before .if1 .left in
-    let whole = c .before .before .before .before .before .before .before .before .before .before .before .before .before .before .before .before .pre .3 in
+    let whole = c .before .before .before .before .before .before .before .before .before .before .before .before .before .before .before .before .pre .2 in
     (omega (arith, few), omega (arith, hi, whole))
 
 returns-4 : tie.Need-returns-4
