@@ -24,7 +24,7 @@ use Rattle.inst.specs.Record as I
 use Rattle.inst.specs.Record.{Within, Listed, write-at}
 use Rattle.inst.specs.Table.{arm-code}
 use Rattle.inst.proofs.Words.{slots-long, slot-is}
-use Rattle.chains.specs.Places.{Pairs, end-past}
+use Rattle.chains.specs.Places.{Pair, end-past}
 use Rattle.regfacts.specs.Written.{Fits}
 use Rattle.regfacts.specs.Flags.{Found, Seen}
 use Rattle.analyse.specs.State.{Readable}
@@ -149,8 +149,8 @@ module _ (P : Picture) (ok : laws.Accepted P) where
       go r l p h false e = refl
 
   -- the blocks
-  pub pairs-given : Pairs (P .bounds) (nblocks P)
-  pairs-given = let e = bounds-length P ok in record { size = omega arith; order = λ b h. block-within P ok b h .0 }
+  pub pair-given : (b : ℕ) → b < nblocks P → Pair (P .bounds) b
+  pair-given b h = let e = bounds-length P ok in record { size = omega arith; order = block-within P ok b h .0 }
 
   pub ends-given : (b : ℕ) → b < nblocks P → end-past (P .bounds) b ≤ length (P .locs)
   ends-given b h = block-within P ok b h .1

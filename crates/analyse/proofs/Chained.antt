@@ -54,7 +54,7 @@ pub record Chained (recs ops bounds : List ℕ) (c : Chain) (R : ℕ) (regs₀ w
   pub ran : Ran recs ops regs₀ w₀ regs w 0 R places
   pub rest : (P : Picture) → P .bounds ≡ bounds → places ++ left-of P (blocks-of c) (x .k) (x .g) (x .past) ≡ chain-places P (blocks-of c)
 
-module _ {t recs ops regs bounds : List ℕ} {facts : List F.Fact} {c : Chain} {B R n : ℕ} (y : Ready t recs ops regs facts bounds c B R n) where
+module _ {t recs ops regs bounds : List ℕ} {facts : List F.Fact} {c : Chain} {R : ℕ} (y : Ready t recs ops regs facts bounds c R) where
   abbrev bs : List ℕ
   bs = blocks-of c
 
@@ -97,7 +97,7 @@ module _ {t recs ops regs bounds : List ℕ} {facts : List F.Fact} {c : Chain} {
         omega (arith, short, a, b, d, h .at)
 
     good-at : Good recs ops R (x .g)
-    good-at = y .good (x .g) (let i = h .standing .inside in omega (arith, l, i .fits, y .ends (getD bs (x .k) 0) (y .sound .each (x .k) (i .block))))
+    good-at = let i = h .standing .inside in y .good (x .k) (x .g) (i .block) (omega (arith, l, i .fits))
 
     pub learn-ready : (t ≡ rows) × Ranged R p regs₁ × Good recs ops R (x .g) × (p + 1 < 1000)
     learn-ready = (y .table, safe-at h .ranged, good-at, omega (arith, few-yet))
@@ -134,4 +134,4 @@ module _ {t recs ops regs bounds : List ℕ} {facts : List F.Fact} {c : Chain} {
   }
     where
       all : (P : Picture) → P .bounds ≡ bounds → h .places ≡ chain-places P bs
-      all P e = sym (append-nil (h .places)) ∙ ap (λ (m : List ℕ). h .places ++ m) (sym (nothing-left P (y .sound) (h .standing) l)) ∙ h .rest P e
+      all P e = sym (append-nil (h .places)) ∙ ap (λ (m : List ℕ). h .places ++ m) (sym (nothing-left P (y .laid) (h .standing) l)) ∙ h .rest P e

@@ -18,9 +18,9 @@ use Rattle.facts.specs.declared.Fact as F
 use Rattle.effects.specs.declared.arms.Effect.{Effect}
 use Rattle.chains.specs.declared.chain.Chain.{Chain}
 use Rattle.chains.specs.declared.cursor.Cursor.{Cursor}
-use Rattle.chains.specs.Chain.{blocks-of, Sound}
+use Rattle.chains.specs.Chain.{blocks-of}
 use Rattle.chains.specs.Cursor.{left-of, Standing}
-use Rattle.chains.specs.Places.{Pairs, end-past}
+use Rattle.chains.specs.Places.{Laid, end-past}
 use Rattle.regfacts.specs.Written.{Fits}
 use Rattle.regfacts.specs.Flags.{Seen}
 use Rattle.analyse.specs.State.{cell, pack, Marked, Ranged, State, Safe, Readable}
@@ -142,16 +142,14 @@ pub record Begun (bounds : List ℕ) (c : Chain) (R : ℕ) (regs regs′ : List 
   pub standing : Standing bounds c x
   pub all : (P : Picture) → P .bounds ≡ bounds → chain-places P (blocks-of c) ≡ left-of P (blocks-of c) (x .k) (x .g) (x .past)
 
--- a chain c of B blocks can be analysed; n records
-pub record Ready (t recs ops regs : List ℕ) (facts : List F.Fact) (bounds : List ℕ) (c : Chain) (B R n : ℕ) : Type 0 where
+-- chain c can be analysed, and so can each record up to the end of one of its blocks
+pub record Ready (t recs ops regs : List ℕ) (facts : List F.Fact) (bounds : List ℕ) (c : Chain) (R : ℕ) : Type 0 where
   pub table : t ≡ rows
   pub in-use : R ≤ length regs
   pub lent : length regs ≤ 65536
   pub room : 800 ≤ length facts
-  pub good : (g : ℕ) → g < n → Good recs ops R g
-  pub sound : Sound c B
-  pub pairs : Pairs bounds B
-  pub ends : (b : ℕ) → b < B → end-past bounds b ≤ n
+  pub laid : Laid bounds c
+  pub good : (k g : ℕ) → k < c .count → g < end-past bounds (getD (blocks-of c) k 0) → Good recs ops R g
   pub short : (P : Picture) → P .bounds ≡ bounds → length (chain-places P (blocks-of c)) ≤ 800
 
 -- the words stand for the facts of the whole chain

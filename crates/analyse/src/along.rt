@@ -10,21 +10,20 @@ use facts::put;
 ghost use mathlib.Core.Path.{_≡_};
 ghost use Prim.Native.Nat.{_≤_};
 ghost use lib.ListN.{length};
-ghost use Rattle.chains.specs.Chain.{Sound};
-ghost use Rattle.chains.specs.Places.{Pairs};
+ghost use Rattle.chains.specs.Places.{Laid};
 ghost use Rattle.analyse.specs.Step.{Begun, Ready, Analysed};
 ghost use Rattle.analyse.specs.Cells.{cells};
 
 // No register has a writer yet, and the cursor stands at the first position.
-fn begin(regs: &mut [u64], bounds: &[u32], c: Chain, blocks: u32, count: usize) -> Cursor
-    requires { ⌜ (count ≤ length (now regs)) × Sound c blocks × Pairs (now bounds) blocks ⌝ }
+fn begin(regs: &mut [u64], bounds: &[u32], c: Chain, count: usize) -> Cursor
+    requires { ⌜ (count ≤ length (now regs)) × Laid (now bounds) c ⌝ }
     ensures { λ x. ⌜ Begun (now (bounds .entry)) c count (now (regs .entry)) (now (regs .exit)) x ⌝ }
 {
     forget(regs, count);
-    first(bounds, c, blocks)
+    first(bounds, c)
 }
 
-// The facts of chain c of so many blocks; n records, and `count` registers in use. The answer is the number of positions.
+// The facts of chain c, with `count` registers in use. The answer is the number of positions.
 pub fn analyse(
     t: &[u32; 202],
     recs: &[u32],
@@ -33,19 +32,17 @@ pub fn analyse(
     facts: &mut [Fact],
     bounds: &[u32],
     c: Chain,
-    blocks: u32,
     count: usize,
-    n: usize,
 ) -> u32
-    requires { ⌜ Ready (now t) (now recs) (now ops) (now regs) (now facts) (now bounds) c blocks count n ⌝ }
+    requires { ⌜ Ready (now t) (now recs) (now ops) (now regs) (now facts) (now bounds) c count ⌝ }
     ensures { λ p. ⌜ Analysed (now (recs .entry)) (now (ops .entry)) (now (regs .entry)) (cells (now (facts .entry))) (now (bounds .entry)) c count p (now (regs .exit)) (cells (now (facts .exit))) ⌝ }
 {
-    let mut at = begin(regs, bounds, c, blocks, count);
+    let mut at = begin(regs, bounds, c, count);
     let mut p = 0u32;
     while at.g < at.past {
         let f = learn_one(t, recs, ops, regs, at.g, p, count);
         put(facts, p as usize, f);
-        at = next(bounds, c, blocks, at);
+        at = next(bounds, c, at);
         p += 1;
     }
     p

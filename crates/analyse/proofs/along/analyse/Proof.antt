@@ -94,7 +94,7 @@ chain-data = struct K.the-type K′.the-laws K′.the-plain K′.lowered (K′.l
 
 -- the parameters
 abbrev kinds : List (Kind 6)
-kinds = F.one 0 tt Tab ∷ sees 1 tt u32 ∷ sees 2 tt u32 ∷ lends 3 tt u64 ∷ lends 4 tt T.the-row ∷ sees 5 tt u32 ∷ datum K.the-row chain-data ∷ datum u32 (number w32) ∷ datum usize (number w64) ∷ datum usize (number w64) ∷ []
+kinds = F.one 0 tt Tab ∷ sees 1 tt u32 ∷ sees 2 tt u32 ∷ lends 3 tt u64 ∷ lends 4 tt T.the-row ∷ sees 5 tt u32 ∷ datum K.the-row chain-data ∷ datum usize (number w64) ∷ []
 
 abbrev stayed : Stays (f.ended .signature .params) (f.ended .kept)
 stayed = F.stays kinds
@@ -115,7 +115,7 @@ module _ {M : Type 1} (𝓤 : URA M) (H : Heap 𝓤) (A : Atoms 𝓤) (mem : Mem
 
 -- what the function requires
 abbrev Asked : Values kinds → Type 0
-Asked = F.asks kinds (λ tab recs ops regs facts bounds chain blocks known insts. Ready (tab .now) (recs .list) (ops .list) (regs .list) (facts .list) (bounds .list) (chain .it) (blocks .it) (known .it) (insts .it))
+Asked = F.asks kinds (λ tab recs ops regs facts bounds chain known. Ready (tab .now) (recs .list) (ops .list) (regs .list) (facts .list) (bounds .list) (chain .it) (known .it))
 
 module _ {M : Type 1} (𝓤 : URA M) (H : Heap 𝓤) (A : Atoms 𝓤) (W : Given 𝓤 H A) (mem : Memory → SProp 𝓤) (run : Routine → Fun 𝓤) (𝓣 : Tables 𝓤 H)
     (known-begin : Triple 𝓤 (𝓣 .C #analyse·along·begin) (Begin 𝓤 H A mem run)) (known-one : Triple 𝓤 (𝓣 .C #analyse·learn·learn-one) (One 𝓤 H A mem run)) (known-put : Triple 𝓤 (𝓣 .C #facts·put) (Put 𝓤 H A mem run)) (known-next : Triple 𝓤 (𝓣 .C #chains·cursor·next) (Next 𝓤 H A mem run)) where
@@ -135,9 +135,9 @@ module _ {M : Type 1} (𝓤 : URA M) (H : Heap 𝓤) (A : Atoms 𝓤) (W : Given
   abbrev Goal : (κs : Lfts 6) (qs : Shares 6) → Values kinds → Type 1
   Goal κs qs vs = Asked vs → ent 𝓤 (onEntry 𝓤 H A f.signature κs qs (entries κs kinds vs) (machs κs kinds vs)) (WpFn 𝓤 H C Λ code.function (F.given kinds vs) (Ends κs qs vs))
 
-  module _ (κs : Lfts 6) (qs : Shares 6) (tab : F.One Tab) (recs ops : Slice u32) (regs : Slice u64) (facts : Slice T.the-row) (bounds : Slice u32) (chain : Datum K.the-row (λ d. K′.lowered d ∷ [])) (blocks : Number w32) (known insts : Number w64) where
+  module _ (κs : Lfts 6) (qs : Shares 6) (tab : F.One Tab) (recs ops : Slice u32) (regs : Slice u64) (facts : Slice T.the-row) (bounds : Slice u32) (chain : Datum K.the-row (λ d. K′.lowered d ∷ [])) (known : Number w64) where
     abbrev vs : Values kinds
-    vs = (tab, (recs, (ops, (regs, (facts, (bounds, (chain, (blocks, (known, (insts, tt))))))))))
+    vs = (tab, (recs, (ops, (regs, (facts, (bounds, (chain, (known, tt))))))))
 
     -- the parameters at these lists, and what the walk holds of them: six items
     abbrev params : List ℕ → List Fact → List (Par 𝓤 H A)
@@ -177,14 +177,14 @@ module _ {M : Type 1} (𝓤 : URA M) (H : Heap 𝓤) (A : Atoms 𝓤) (W : Given
       -- ---- the four calls
       abbrev begin-args : List (Arg 𝓤 H A)
       begin-args = pass-mut 𝓤 H A W 6 κs qs 3 tt regs 0 (regs .list) refl ∷ pass-slice 𝓤 H A W 6 κs qs 5 tt bounds
-          ∷ pass-data 𝓤 H A W chain-data chain ∷ pass-data 𝓤 H A W (number w32) blocks ∷ pass-data 𝓤 H A W (number w64) known ∷ []
+          ∷ pass-data 𝓤 H A W chain-data chain ∷ pass-data 𝓤 H A W (number w64) known ∷ []
 
       abbrev Begin-says : Cursor → Lasts 𝓤 H A begin-args → Type 0
       Begin-says r z = Begun (bounds .list) (chain .it) (known .it) (regs .list) (z .0) r
 
       begin-call : ent 𝓤 (⋆ 𝓤 H A (G.hads 𝓤 H A begin-args)) (H .⇛ (C #analyse·along·begin (G.flat 𝓤 H A begin-args) (G.Then 𝓤 H A W begin-args X.the-row Begin-says)))
       begin-call = calls-of 𝓤 H A W C fm #analyse·along·begin (Begin 𝓤 H A mem run) known-begin begin-args (λ g. ((G.lfts 𝓤 H A begin-args g, G.shares 𝓤 H A begin-args, tt, G.values 𝓤 H A begin-args g, G.machs 𝓤 H A begin-args), tt)) (λ g. refl)
-          (λ g. qed W (raw (G.tokens 𝓤 H A begin-args g) ∷ ‵ (G.owns 𝓤 H A begin-args g) ∷ []) ∵ says ! (ready .in-use, ready .sound, ready .pairs) $ done !) X.the-row Begin-says (λ g w. id⊢ 𝓤 _)
+          (λ g. qed W (raw (G.tokens 𝓤 H A begin-args g) ∷ ‵ (G.owns 𝓤 H A begin-args g) ∷ []) ∵ says ! (ready .in-use, ready .laid) $ done !) X.the-row Begin-says (λ g w. id⊢ 𝓤 _)
 
       -- at a state before a turn that goes on
       module _ (zs : List ℕ) (s : State) (h : Holds zs s) (below : s .cur .g < s .cur .past) where
@@ -212,14 +212,14 @@ module _ {M : Type 1} (𝓤 : URA M) (H : Heap 𝓤) (A : Atoms 𝓤) (W : Given
             (λ g. qed W (raw (G.tokens 𝓤 H A one-args g) ∷ ‵ (G.owns 𝓤 H A one-args g) ∷ []) ∵ says ! (learn-ready ready (h .ran) below) $ done !) T.the-row One-says (λ g w. id⊢ 𝓤 _)
 
         abbrev next-args : List (Arg 𝓤 H A)
-        next-args = pass-slice 𝓤 H A W 6 κs qs 5 tt bounds ∷ pass-data 𝓤 H A W chain-data chain ∷ pass-data 𝓤 H A W (number w32) blocks ∷ pass-struct 𝓤 H A W X.the-type X′.the-plain (s .cur) (X′.lowered (s .cur)) (h .is) ∷ []
+        next-args = pass-slice 𝓤 H A W 6 κs qs 5 tt bounds ∷ pass-data 𝓤 H A W chain-data chain ∷ pass-struct 𝓤 H A W X.the-type X′.the-plain (s .cur) (X′.lowered (s .cur)) (h .is) ∷ []
 
         abbrev Next-says : Cursor → Lasts 𝓤 H A next-args → Type 0
         Next-says r z = Standing (bounds .list) (chain .it) r × ((P : Picture) → P .bounds ≡ (bounds .list) → left-of P (blocks-of (chain .it)) (s .cur .k) (s .cur .g) (s .cur .past) ≡ s .cur .g ∷ left-of P (blocks-of (chain .it)) (r .k) (r .g) (r .past))
 
         next-call : ent 𝓤 (⋆ 𝓤 H A (G.hads 𝓤 H A next-args)) (H .⇛ (C #chains·cursor·next (G.flat 𝓤 H A next-args) (G.Then 𝓤 H A W next-args X.the-row Next-says)))
         next-call = calls-of 𝓤 H A W C fm #chains·cursor·next (Next 𝓤 H A mem run) known-next next-args (λ g. ((G.lfts 𝓤 H A next-args g, G.shares 𝓤 H A next-args, tt, G.values 𝓤 H A next-args g, G.machs 𝓤 H A next-args), tt)) (λ g. refl)
-            (λ g. qed W (raw (G.tokens 𝓤 H A next-args g) ∷ ‵ (G.owns 𝓤 H A next-args g) ∷ []) ∵ says ! (ready .sound, ready .pairs, h .ran .standing, below) $ done !) X.the-row Next-says (λ g w. id⊢ 𝓤 _)
+            (λ g. qed W (raw (G.tokens 𝓤 H A next-args g) ∷ ‵ (G.owns 𝓤 H A next-args g) ∷ []) ∵ says ! (ready .laid, h .ran .standing, below) $ done !) X.the-row Next-says (λ g w. id⊢ 𝓤 _)
 
         in-facts : s .p < length (s .gs)
         in-facts = omega (arith, few, ready .room, h .size′)
@@ -243,7 +243,7 @@ module _ {M : Type 1} (𝓤 : URA M) (H : Heap 𝓤) (A : Atoms 𝓤) (W : Given
         abbrev l : ℕ → ℕ
         l = home (code.function .locals) homes
 
-        -- what is held of the parameters, and the locals: local i stands at 6 + 2 · (22 − i)
+        -- what is held of the parameters, and the locals: local i stands at 6 + 2 · (20 − i)
         abbrev At : State → List (Item 𝓤)
         At s = Held (s .ys) (s .gs) ++ cells 𝓤 H En (room ∷ filled (given ++ (X′.lowered (s .cur) ∷ vint w32 (s .p) ∷ [])))
 
@@ -282,17 +282,17 @@ module _ {M : Type 1} (𝓤 : URA M) (H : Heap 𝓤) (A : Atoms 𝓤) (W : Given
           turns s h test =
               qed W (At s) ∵ exec ! C Λ En m.turn-1 (anyQ (afterTurn 𝓤 H (Below (800 - s .p)) Left)) $
               assigns ! (bin ! (load ! (from ! (fld ! refl (stop !))) (look-in ! 28 (sub ! 1 refl (whole !)))) (load ! (from ! (fld ! refl (stop !))) (look-in ! 28 (sub ! 2 refl (whole !)))) tt) (from ! (stop !)) (init ! 18 refl (tt, tt)) $
-              rewrite ! 18 (λ (t : Bool). ‵ (fat fullShare tyBool (l 16) 0 (vbool t))) test refl $ stays ! (load ! (from ! (stop !)) (look ! 18 refl)) $
-              -- _17 and _18: the registers' pointer and count; then `learn_one`, whose answer lands in _13. Four items are handed over
-              lends-on ! 50 regs refl refl $ calls-with (one-args zs s h below) T.the-row (One-says zs s h below) fm (one-call zs s h below) ! (loads ! 47 (1 ∷ 2 ∷ 3 ∷ 18 ∷ []) (take 4 (G.flat 𝓤 H A (one-args zs s h below))) refl (and-then ! (load ! (from ! (fld ! refl (stop !))) (look-in ! 25 (sub ! 1 refl (whole !)))) (and-then ! (load ! (from ! (stop !)) (look ! 23 refl)) (and-then ! (load ! (from ! (stop !)) (look ! 29 refl)) (no-more !))))) (λ w r a.
-              land ! (from ! (stop !)) (init ! 24 refl (LL.lawful T.the-type T′.the-laws 𝓤 H A W .typed (r .0) (w ∷ []) (a .0) .0)) $ rewrite ! 24 (λ (u : Val). ‵ (fat fullShare T′.mir (l 13) 0 u)) (ap only (LL.tells T.the-type T′.the-laws (r .0) (w ∷ []) (a .0))) refl $
-              -- _20 and _21: the facts' pointer and count, _22 the position; then `put`, whose answer lands in _19
-              lends-on ! 50 facts refl refl $ assigns ! (un ! (load ! (from ! (stop !)) (look ! 26 refl)) (record { fits = p-fits′ zs s h below })) (from ! (stop !)) (init ! 6 refl (tt, record { fits = p-fits′ zs s h below })) $ move ! (4 ∷ []) $
-              calls-with (put-args zs s h below (r .0) (fact-is (r .0) w (a .0))) unit (Put-says zs s h below (r .0) (fact-is (r .0) w (a .0))) fm (put-call zs s h below (r .0) (fact-is (r .0) w (a .0))) ! (loads ! 50 (21 ∷ 22 ∷ 13 ∷ []) (G.flat 𝓤 H A (put-args zs s h below (r .0) (fact-is (r .0) w (a .0)))) refl (no-more !)) (λ w′ r′ a′.
+              rewrite ! 18 (λ (t : Bool). ‵ (fat fullShare tyBool (l 14) 0 (vbool t))) test refl $ stays ! (load ! (from ! (stop !)) (look ! 18 refl)) $
+              -- _15 and _16: the registers' pointer and count; then `learn_one`, whose answer lands in _11. Four items are handed over
+              lends-on ! 46 regs refl refl $ calls-with (one-args zs s h below) T.the-row (One-says zs s h below) fm (one-call zs s h below) ! (loads ! 43 (1 ∷ 2 ∷ 3 ∷ 16 ∷ []) (take 4 (G.flat 𝓤 H A (one-args zs s h below))) refl (and-then ! (load ! (from ! (fld ! refl (stop !))) (look-in ! 25 (sub ! 1 refl (whole !)))) (and-then ! (load ! (from ! (stop !)) (look ! 23 refl)) (and-then ! (load ! (from ! (stop !)) (look ! 27 refl)) (no-more !))))) (λ w r a.
+              land ! (from ! (stop !)) (init ! 24 refl (LL.lawful T.the-type T′.the-laws 𝓤 H A W .typed (r .0) (w ∷ []) (a .0) .0)) $ rewrite ! 24 (λ (u : Val). ‵ (fat fullShare T′.mir (l 11) 0 u)) (ap only (LL.tells T.the-type T′.the-laws (r .0) (w ∷ []) (a .0))) refl $
+              -- _18 and _19: the facts' pointer and count, _20 the position; then `put`, whose answer lands in _17
+              lends-on ! 46 facts refl refl $ assigns ! (un ! (load ! (from ! (stop !)) (look ! 26 refl)) (record { fits = p-fits′ zs s h below })) (from ! (stop !)) (init ! 6 refl (tt, record { fits = p-fits′ zs s h below })) $ move ! (4 ∷ []) $
+              calls-with (put-args zs s h below (r .0) (fact-is (r .0) w (a .0))) unit (Put-says zs s h below (r .0) (fact-is (r .0) w (a .0))) fm (put-call zs s h below (r .0) (fact-is (r .0) w (a .0))) ! (loads ! 46 (19 ∷ 20 ∷ 11 ∷ []) (G.flat 𝓤 H A (put-args zs s h below (r .0) (fact-is (r .0) w (a .0)))) refl (no-more !)) (λ w′ r′ a′.
               land ! (from ! (stop !)) (init ! 12 refl (nothing-lawful 𝓤 H A W .typed tt (w′ ∷ []) (a′ .0) .0)) $ move ! (5 ∷ []) $
-              -- [the bounds; the facts; the table; the records; the operands; the registers; the locals]: `next`, whose answer lands in _11
-              calls-with (next-args zs s h below) X.the-row (Next-says zs s h below) fm (next-call zs s h below) ! (loads ! 50 (6 ∷ 7 ∷ 8 ∷ 11 ∷ []) (G.flat 𝓤 H A (next-args zs s h below)) refl (no-more !)) (λ w″ r″ a″.
-              land ! (from ! (stop !)) (store ! 28 refl (LL.lawful X.the-type X′.the-laws 𝓤 H A W .typed (r″ .0) (w″ ∷ []) (a″ .0) .0)) $ rewrite ! 28 (λ (u : Val). ‵ (fat fullShare X′.mir (l 11) 0 u)) (ap only (LL.tells X.the-type X′.the-laws (r″ .0) (w″ ∷ []) (a″ .0))) refl $
+              -- [the bounds; the facts; the table; the records; the operands; the registers; the locals]: `next`, whose answer lands in _9
+              calls-with (next-args zs s h below) X.the-row (Next-says zs s h below) fm (next-call zs s h below) ! (loads ! 46 (6 ∷ 7 ∷ 9 ∷ []) (G.flat 𝓤 H A (next-args zs s h below)) refl (no-more !)) (λ w″ r″ a″.
+              land ! (from ! (stop !)) (store ! 28 refl (LL.lawful X.the-type X′.the-laws 𝓤 H A W .typed (r″ .0) (w″ ∷ []) (a″ .0) .0)) $ rewrite ! 28 (λ (u : Val). ‵ (fat fullShare X′.mir (l 9) 0 u)) (ap only (LL.tells X.the-type X′.the-laws (r″ .0) (w″ ∷ []) (a″ .0))) refl $
               assigns-last ! (bin ! (load ! (from ! (stop !)) (look ! 26 refl)) (lit ! tt) (record { fits = on })) (from ! (stop !)) (store ! 26 refl (tt, record { fits = on })) $
               forget ! 6 refl $ forget ! 8 refl $ forget ! 10 refl $ forget ! 12 refl $ forget ! 14 refl $ forget ! 16 refl $ forget ! 18 refl $ forget ! 24 refl $ move ! (2 ∷ 3 ∷ 4 ∷ 5 ∷ 1 ∷ 0 ∷ []) $
               cut (At (record { p = s .p + 1; ys = r .1 .1 .1 .1 .0; gs = r′ .1 .0; cur = r″ .0 })) (At (record { p = s .p + 1; ys = r .1 .1 .1 .1 .0; gs = r′ .1 .0; cur = r″ .0 })) [] (id⊢ 𝓤 _) $
@@ -314,8 +314,8 @@ module _ {M : Type 1} (𝓤 : URA M) (H : Heap 𝓤) (A : Atoms 𝓤) (W : Given
           ends s Y h test =
               qed W (At s) ∵ exec ! C Λ En m.turn-1 (anyQ (afterTurn 𝓤 H Y Left)) $
               assigns ! (bin ! (load ! (from ! (fld ! refl (stop !))) (look-in ! 28 (sub ! 1 refl (whole !)))) (load ! (from ! (fld ! refl (stop !))) (look-in ! 28 (sub ! 2 refl (whole !)))) tt) (from ! (stop !)) (init ! 18 refl (tt, tt)) $
-              rewrite ! 18 (λ (t : Bool). ‵ (fat fullShare tyBool (l 16) 0 (vbool t))) test refl $ leaves-loop ! (load ! (from ! (stop !)) (look ! 18 refl)) $
-              exec ! C Λ En m.t-6 (atRet En Post) $ assigns ! (of-opd ! (load ! (from ! (stop !)) (look ! 26 refl))) (from ! (stop !)) (init ! 50 refl (tt, record { fits = fits })) $ returns ! (look ! 50 refl) $
+              rewrite ! 18 (λ (t : Bool). ‵ (fat fullShare tyBool (l 14) 0 (vbool t))) test refl $ leaves-loop ! (load ! (from ! (stop !)) (look ! 18 refl)) $
+              exec ! C Λ En m.t-6 (atRet En Post) $ assigns ! (of-opd ! (load ! (from ! (stop !)) (look ! 26 refl))) (from ! (stop !)) (init ! 46 refl (tt, record { fits = fits })) $ returns ! (look ! 46 refl) $
               frees-all (Held (s .ys) (s .gs)) En (has (vint w32 (s .p)) ∷ (filled (given ++ (X′.lowered (s .cur) ∷ vint w32 (s .p) ∷ [])) ++ (room ∷ room ∷ room ∷ has (vbool false) ∷ []))) !
               (by ! (exits (s .ys) (s .gs) (s .p) (h .size) (h .size′) fits (chained-end ready begun (h .ran) (ltb-false (s .cur .g) (s .cur .past) test))))
             where
@@ -335,11 +335,11 @@ module _ {M : Type 1} (𝓤 : URA M) (H : Heap 𝓤) (A : Atoms 𝓤) (W : Given
         -- the MIR, once the parameters are in their locals, up to the loop: [the locals; what is held], and then [what is held; the locals]
         begins : ent 𝓤 (⋆ 𝓤 H A (cells 𝓤 H En (room ∷ filled given) ++ Held (regs .list) (facts .list))) (Wp 𝓤 H C Λ En m.t-1 (atReturn 𝓤 H En Post))
         begins =
-            qed W (cells 𝓤 H En (room ∷ filled given) ++ Held (regs .list) (facts .list)) ∵ exec ! C Λ En m.t-1 (atRet En Post) $ move ! (46 ∷ 47 ∷ 48 ∷ 49 ∷ 50 ∷ 51 ∷ []) $
-            -- _14 and _15: the registers' pointer and count; then `begin`, whose answer lands in _11. Two items are handed over
-            lends-on ! 50 regs refl refl $ move ! (3 ∷ 5 ∷ []) $
-            calls-with begin-args X.the-row Begin-says fm begin-call ! (loads ! 49 (15 ∷ 6 ∷ 7 ∷ 8 ∷ 9 ∷ []) (G.flat 𝓤 H A begin-args) refl (no-more !)) (λ w r a.
-            land ! (from ! (stop !)) (init ! 28 refl (LL.lawful X.the-type X′.the-laws 𝓤 H A W .typed (r .0) (w ∷ []) (a .0) .0)) $ rewrite ! 28 (λ (u : Val). ‵ (fat fullShare X′.mir (l 11) 0 u)) (ap only (LL.tells X.the-type X′.the-laws (r .0) (w ∷ []) (a .0))) refl $
+            qed W (cells 𝓤 H En (room ∷ filled given) ++ Held (regs .list) (facts .list)) ∵ exec ! C Λ En m.t-1 (atRet En Post) $ move ! (42 ∷ 43 ∷ 44 ∷ 45 ∷ 46 ∷ 47 ∷ []) $
+            -- _12 and _13: the registers' pointer and count; then `begin`, whose answer lands in _9. Two items are handed over
+            lends-on ! 46 regs refl refl $ move ! (3 ∷ 5 ∷ []) $
+            calls-with begin-args X.the-row Begin-says fm begin-call ! (loads ! 45 (13 ∷ 6 ∷ 7 ∷ 8 ∷ []) (G.flat 𝓤 H A begin-args) refl (no-more !)) (λ w r a.
+            land ! (from ! (stop !)) (init ! 28 refl (LL.lawful X.the-type X′.the-laws 𝓤 H A W .typed (r .0) (w ∷ []) (a .0) .0)) $ rewrite ! 28 (λ (u : Val). ‵ (fat fullShare X′.mir (l 9) 0 u)) (ap only (LL.tells X.the-type X′.the-laws (r .0) (w ∷ []) (a .0))) refl $
             assigns ! (of-opd ! (lit ! tt)) (from ! (stop !)) (init ! 26 refl (tt, record { fits = lit< tt })) $ forget ! 22 refl $ forget ! 20 refl $ move ! (2 ∷ 3 ∷ 4 ∷ 0 ∷ 5 ∷ 1 ∷ []) $
             cut (At (record { p = 0; ys = r .1 .0; gs = (facts .list); cur = r .0 })) (At (record { p = 0; ys = r .1 .0; gs = (facts .list); cur = r .0 })) [] (id⊢ 𝓤 _) $ by ! (loops (r .1 .0) (r .0) (a .1 .0) (a .1 .1 .0) (cur-is (r .0) w (a .0))))
 
