@@ -38,10 +38,10 @@ going-none recs ops {c = c} st₀ size z long own s all = record {
   reading = λ P e. reading-none (defs-at recs (chain-places P (blocks-of c))) (reads-at recs ops (chain-places P (blocks-of c))) st₀ size z long own;
 }
 
-pub legible-on : {recs ops bounds : List ℕ} {c : Chain} {B R R′ : ℕ} → Legible recs ops bounds c B R → R′ ≡ R → Legible recs ops bounds c B R′
-legible-on {recs} {ops} {bounds} {c} {B} y e = subst (Legible recs ops bounds c B) (sym e) y
+pub legible-on : {recs ops bounds : List ℕ} {c : Chain} {R R′ : ℕ} → Legible recs ops bounds c R → R′ ≡ R → Legible recs ops bounds c R′
+legible-on {recs} {ops} {bounds} {c} y e = subst (Legible recs ops bounds c) (sym e) y
 
-module _ {recs ops bounds : List ℕ} {c : Chain} {B : ℕ} (st₀ : List ℕ) (y : Legible recs ops bounds c B (length st₀)) where
+module _ {recs ops bounds : List ℕ} {c : Chain} (st₀ : List ℕ) (y : Legible recs ops bounds c (length st₀)) where
   abbrev bs : List ℕ
   bs = blocks-of c
 
@@ -95,7 +95,7 @@ module _ {recs ops bounds : List ℕ} {c : Chain} {B : ℕ} (st₀ : List ℕ) (
     going-end l = record { each = λ P e. subst (λ (m : ℕ). Readers (defs-at recs (chain-places P bs)) (reads-at recs ops (chain-places P bs)) m ls) (h .at ∙ all P e) (h .reading P e .readers) }
       where
         all : (P : Picture) → P .bounds ≡ bounds → length (h .places) ≡ length (chain-places P bs)
-        all P e = ap length (sym (append-nil (h .places)) ∙ ap (λ (m : List ℕ). h .places ++ m) (sym (nothing-left P (y .sound) (h .standing) l)) ∙ h .rest P e)
+        all P e = ap length (sym (append-nil (h .places)) ∙ ap (λ (m : List ℕ). h .places ++ m) (sym (nothing-left P (y .laid) (h .standing) l)) ∙ h .rest P e)
 
 -- by the numbers of the positions' records
 pub readers-of : (recs ops w places : List ℕ) {ls : List ℕ} {n : ℕ} → ((q : ℕ) → q < n → cell w q 0 ≡ getD places q 0) → Readers (defs-at recs places) (reads-at recs ops places) n ls → Readers (defs-of recs w) (reads-of recs ops w) n ls

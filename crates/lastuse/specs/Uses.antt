@@ -10,8 +10,8 @@ use Rattle.words.specs.Last.{last-below}
 use Rattle.model.specs.Picture.{Picture, inst, absent, reads, writes}
 use Rattle.model.specs.Move.{chain-places}
 use Rattle.chains.specs.declared.chain.Chain.{Chain}
-use Rattle.chains.specs.Chain.{blocks-of, Sound}
-use Rattle.chains.specs.Places.{Pairs}
+use Rattle.chains.specs.Chain.{blocks-of}
+use Rattle.chains.specs.Places.{Laid}
 use Rattle.legalset.specs.Chain.{writer, Good}
 use Rattle.summary.specs.Passes.{Stamped}
 
@@ -55,10 +55,9 @@ defs-at recs places q = writes (inst recs (getD places q 0))
 abbrev pub reads-at : List ℕ → List ℕ → List ℕ → ℕ → List ℕ
 reads-at recs ops places q = reads ops (inst recs (getD places q 0))
 
--- the records of chain c, of B blocks, read and write registers below R
-pub record Legible (recs ops bounds : List ℕ) (c : Chain) (B R : ℕ) : Type 0 where
-  pub sound : Sound c B
-  pub pairs : Pairs bounds B
+-- the records of chain c read and write registers below R
+pub record Legible (recs ops bounds : List ℕ) (c : Chain) (R : ℕ) : Type 0 where
+  pub laid : Laid bounds c
   pub few : (P : Picture) → P .bounds ≡ bounds → length (chain-places P (blocks-of c)) ≤ 800
   pub good : (P : Picture) → P .bounds ≡ bounds → (q : ℕ) → q < length (chain-places P (blocks-of c)) → Good recs ops R (getD (chain-places P (blocks-of c)) q 0)
 

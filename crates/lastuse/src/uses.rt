@@ -86,7 +86,7 @@ fn read_on(
     put_slots(recs, g, u, st, d);
 }
 
-// Each position's last reader in chain c of so many blocks: `lasts` holds each position itself at first.
+// Each position's last reader in chain c: `lasts` holds each position itself at first.
 pub fn last_readers(
     t: &[u32; 202],
     recs: &[u32],
@@ -95,17 +95,16 @@ pub fn last_readers(
     st: &mut [u64],
     lasts: &mut [u32; RECORDS],
     c: Chain,
-    blocks: u32,
 )
-    requires { ⌜ (now t ≡ rows) × Legible (now recs) (now ops) (now bounds) c blocks (length (now st)) × (length (now lasts) ≡ 800) × ((p : ℕ) → p < 800 → getD (now lasts) p 0 ≡ p) ⌝ }
+    requires { ⌜ (now t ≡ rows) × Legible (now recs) (now ops) (now bounds) c (length (now st)) × (length (now lasts) ≡ 800) × ((p : ℕ) → p < 800 → getD (now lasts) p 0 ≡ p) ⌝ }
     ensures { λ _. ⌜ ReadersAlong (now (recs .entry)) (now (ops .entry)) (now (bounds .entry)) c (now (lasts .exit)) × (length (now (st .exit)) ≡ length (now (st .entry))) ⌝ }
 {
     words::bits::clear(st);
-    let mut at = first(bounds, c, blocks);
+    let mut at = first(bounds, c);
     let mut q = 0usize;
     while at.g < at.past {
         read_on(t, recs, ops, st, lasts, at.g, q);
-        at = next(bounds, c, blocks, at);
+        at = next(bounds, c, at);
         q += 1;
     }
 }

@@ -8,16 +8,16 @@ use Rattle.lastuse.proofs.uses.last_readers.Statement.{statement}
 use Rattle.lastuse.proofs.uses.last_readers.Tie as tie
 
 abbrev Inv-loop : tie.InvT-loop
-Inv-loop t recs ops bounds st₀ lasts₀ c blocks at₀ q₀ st lasts at q = Going recs ops bounds c st₀ st lasts at q
+Inv-loop t recs ops bounds st₀ lasts₀ c at₀ q₀ st lasts at q = Going recs ops bounds c st₀ st lasts at q
 
 abbrev μ-loop : tie.MeasureT-loop
-μ-loop t recs ops bounds st₀ lasts₀ c blocks at₀ q₀ st lasts at q = 800 - q
+μ-loop t recs ops bounds st₀ lasts₀ c at₀ q₀ st lasts at q = 800 - q
 
 clear-requires : tie.Need-clear-requires Inv-loop μ-loop
 clear-requires c κs = search needs
 
 first-requires : tie.Need-first-requires Inv-loop μ-loop
-first-requires c κs = (c .before .before .before .before .before .before .before .before .pre .1 .sound, c .before .before .before .before .before .before .before .before .pre .1 .pairs)
+first-requires c κs = c .before .before .before .before .before .before .before .before .pre .1 .laid
 
 loop-holds : tie.Need-loop-holds Inv-loop μ-loop
 loop-holds c = going-none _ _ _ refl (cleared (c .before .before .before .before .before .before .before .before .before .args .st .now) (c .before .before .before .clear .ensures) .1) (c .before .before .before .before .before .before .before .before .before .pre .2) (c .before .before .before .before .before .before .before .before .before .pre .3) (c .first .ensures .0) (c .first .ensures .1)
@@ -26,7 +26,7 @@ read-on-requires : tie.Need-read-on-requires Inv-loop μ-loop
 read-on-requires c κs = let r = read-ready _ (legible-on (c .before .before .before .before .before .before .before .before .before .before .before .before .before .before .pre .1) (cleared (c .before .before .before .before .before .before .before .before .before .before .before .before .before .before .args .st .now) (c .before .before .before .before .before .before .before .before .clear .ensures) .0)) (c .before .before .before .before .loop .inv) (c .before .before .if1 .taken) in (c .before .before .before .before .before .before .before .before .before .before .before .before .before .before .pre .0, r .0, r .1, r .2, r .3)
 
 next-requires : tie.Need-next-requires Inv-loop μ-loop
-next-requires c κs = (c .before .before .before .before .before .before .before .before .before .before .before .before .before .before .before .before .before .pre .1 .sound, c .before .before .before .before .before .before .before .before .before .before .before .before .before .before .before .before .before .pre .1 .pairs, c .before .before .before .before .before .before .before .loop .inv .standing, c .before .before .before .before .before .if1 .taken)
+next-requires c κs = (c .before .before .before .before .before .before .before .before .before .before .before .before .before .before .before .before .before .pre .1 .laid, c .before .before .before .before .before .before .before .loop .inv .standing, c .before .before .before .before .before .if1 .taken)
 
 add-q : tie.Need-add-q Inv-loop μ-loop
 add-q c = let l = few-yet _ (legible-on (c .before .before .before .before .before .before .before .before .before .before .before .before .before .before .before .before .before .before .pre .1) (cleared (c .before .before .before .before .before .before .before .before .before .before .before .before .before .before .before .before .before .before .args .st .now) (c .before .before .before .before .before .before .before .before .before .before .before .before .clear .ensures) .0)) (c .before .before .before .before .before .before .before .before .loop .inv) (c .before .before .before .before .before .before .if1 .taken) in omega (arith, l)
