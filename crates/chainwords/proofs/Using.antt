@@ -19,9 +19,10 @@ use Rattle.model.specs.Live.{live-in}
 use Rattle.model.specs.Analyse.{Facts}
 use Rattle.model.specs.Move.{Plan, chain-places, run-of, last-use}
 use Rattle.chains.specs.declared.chain.Chain.{Chain}
-use Rattle.chains.specs.Chain.{blocks-of, Sound}
-use Rattle.chains.specs.Places.{Pairs}
-use Rattle.analyse.proofs.Accepted.{pairs-given}
+use Rattle.chains.specs.Chain.{blocks-of}
+use Rattle.chains.specs.Places.{Laid}
+use Rattle.chains.proofs.Laid.{laid-in}
+use Rattle.analyse.proofs.Accepted.{pair-given}
 use Rattle.legalset.specs.Chain.{cell, view, defs-of, reads-of, Good, Told}
 use Rattle.summary.specs.Passes.{result-test, Around}
 use Rattle.lastuse.specs.Uses.{or-own, reads-value, last-reader, Readers, defs-at, reads-at, Legible, ReadersAlong}
@@ -83,13 +84,12 @@ module _ {bounds recs ops : List ℕ} {s : Sizes} {c : Chain} {w work64 work32 :
     good-at : (p : ℕ) → p < n → Good recs ops r (cell w p 0)
     good-at p h = let l = g .lists in rw (l .recs-are, l .ops-are, er, l .regs-are) (g .along .safe .good p h)
 
-    pub legible : Legible recs ops bounds c (s .blocks) r
+    pub legible : Legible recs ops bounds c r
     legible =
         let l = g .lists in
         let bs = blocks-of c in
         record {
-          sound = subst (Sound c) (sym (l .blocks-are)) (g .chained .sound);
-          pairs = subst (λ (b : List ℕ). Pairs b (s .blocks)) (sym (l .bounds-are)) (subst (Pairs (g .P .bounds)) (sym (l .blocks-are)) (pairs-given (g .P) (ok l)));
+          laid = subst (λ (b : List ℕ). Laid b c) (sym (l .bounds-are)) (laid-in (g .chained .sound) (pair-given (g .P) (ok l)));
           few = λ Q e. subst (λ (xs : List ℕ). length xs ≤ 800) (places-same (g .P) Q (sym (l .bounds-are) ∙ sym e) bs) (g .chained .short);
           good = λ Q e q h.
               let same = places-same (g .P) Q (sym (l .bounds-are) ∙ sym e) bs in

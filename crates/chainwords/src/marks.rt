@@ -81,16 +81,15 @@ fn find_readers(
     work64: &mut [u64],
     lasts: &mut [u32; RECORDS],
     c: Chain,
-    blocks: u32,
     st: usize,
     r: usize,
 )
-    requires { ⌜ (now t ≡ rows) × Legible (now recs) (now ops) (now bounds) c blocks r × (st + r ≤ length (now work64)) × (length (now lasts) ≡ 800) ⌝ }
+    requires { ⌜ (now t ≡ rows) × Legible (now recs) (now ops) (now bounds) c r × (st + r ≤ length (now work64)) × (length (now lasts) ≡ 800) ⌝ }
     ensures { λ _. ⌜ ReadersAlong (now (recs .entry)) (now (ops .entry)) (now (bounds .entry)) c (now (lasts .exit)) × Around st r (now (work64 .entry)) (now (work64 .exit)) ⌝ }
 {
     let e = st + r;
     own_places(lasts);
-    last_readers(t, recs, ops, bounds, &mut work64[st..e], lasts, c, blocks);
+    last_readers(t, recs, ops, bounds, &mut work64[st..e], lasts, c);
 }
 
 // The last use of position p; row o is what is live into the target.
@@ -159,7 +158,7 @@ pub fn put_uses(
     let r = wide(s.regs);
     let st = at_stamps(s);
     let mut lasts = [0u32; RECORDS];
-    find_readers(t, recs, ops, bounds, work64, &mut lasts, c, s.blocks, st, r);
+    find_readers(t, recs, ops, bounds, work64, &mut lasts, c, st, r);
     let o = into.at() * width(r);
     put_lasts(t, recs, work64, work32, &lasts, r, o, m, n);
 }
