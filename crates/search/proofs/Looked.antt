@@ -26,8 +26,9 @@ use Rattle.chains.specs.declared.chain.MaybeChain.{MaybeChain}
 use Rattle.chains.specs.declared.chain.MaybeChain.the-variants.{Is as IsChain, Not as NoChain}
 use Rattle.chains.specs.Chain as C
 use Rattle.chains.specs.Chain.{ended, chain-of, sound-of, Sound, Blocks}
-use Rattle.chains.specs.Places.{Pairs, end-past}
-use Rattle.analyse.proofs.Accepted.{pairs-given}
+use Rattle.chains.specs.Places.{Pair, Laid, end-past}
+use Rattle.chains.proofs.Laid.{laid-in}
+use Rattle.analyse.proofs.Accepted.{pair-given}
 use Rattle.worth.specs.Worth.{Worth}
 use Rattle.sizes.specs.declared.Sizes.{Sizes}
 use Rattle.sizes.specs.Parts.{preds-at}
@@ -136,8 +137,8 @@ module _ {bounds recs replay : List ℕ} {s : Sizes} {work32 : List ℕ} (g : Se
   pub preds-there : {p : ℕ} → p ≡ preds-at s → 2 * s .blocks ≤ length (take (length work32 - p) (drop p work32))
   preds-there e = subst (λ (p : ℕ). 2 * s .blocks ≤ length (take (length work32 - p) (drop p work32))) (sym e) (preds-room work32 lists)
 
-  pub pairs-ask : Pairs bounds (s .blocks)
-  pairs-ask = subst (λ (b : List ℕ). Pairs b (s .blocks)) (sym (lists .bounds-are)) (subst (Pairs (g .P .bounds)) (sym (lists .blocks-are)) (pairs-given (g .P) good))
+  pair-ask : (x : ℕ) → x < s .blocks → Pair bounds x
+  pair-ask x h = subst (λ (b : List ℕ). Pair b x) (sym (lists .bounds-are)) (pair-given (g .P) good x (let z = lists .blocks-are in omega arith))
 
   pub chain-asks : Blocks bounds recs (s .blocks)
   chain-asks =
@@ -153,14 +154,14 @@ module _ {bounds recs replay : List ℕ} {s : Sizes} {work32 : List ℕ} (g : Se
 
   -- block x's bounds
   pub bounds-long : (x k : ℕ) → k ≡ x → x < s .blocks → 2 * k + 1 < length bounds
-  bounds-long x k e h = let z = pairs-ask .size in omega arith
+  bounds-long x k e h = let z = pair-ask x h .size in omega arith
 
   pub bounds-order : (x k : ℕ) → k ≡ x → x < s .blocks → getD bounds (2 * k) 0 ≤ getD bounds (2 * k + 1) 0
-  bounds-order x k e h = pairs-ask .order k (omega arith)
+  bounds-order x k e h = pair-ask k (omega arith) .order
 
   pub worth-asks : (x : ℕ) {r : MaybeChain} {c : Chain} → x < s .blocks → sound-of r (s .blocks) → r ≡ IsChain c
-      → Sound c (s .blocks) × Pairs bounds (s .blocks) × (x < s .blocks) × (16 * end-past bounds x ≤ length recs)
-  worth-asks x h u f = (subst (λ (y : MaybeChain). sound-of y (s .blocks)) f u, pairs-ask, h, chain-asks .block x h .whole)
+      → Laid bounds c × Pair bounds x × (16 * end-past bounds x ≤ length recs)
+  worth-asks x h u f = (laid-in (subst (λ (y : MaybeChain). sound-of y (s .blocks)) f u) pair-ask, pair-ask x h, chain-asks .block x h .whole)
 
 -- what the chain search answers
 abbrev Chains : List ℕ → List ℕ → Sizes → List ℕ → ℕ → MaybeChain → Type 0

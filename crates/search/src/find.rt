@@ -48,7 +48,7 @@ pub fn look_from(
     let MaybeChain::Is(c) = find_chain(bounds, recs, &work32[p..], x, s.blocks) else {
         return MaybeLook::Not;
     };
-    if !worth_a_look(bounds, recs, replay, c, x, s.blocks) {
+    if !worth_a_look(bounds, recs, replay, c, x) {
         return MaybeLook::Not;
     }
     MaybeLook::Is(Look { x: x, c: c })
