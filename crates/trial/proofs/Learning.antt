@@ -1,7 +1,7 @@
 -- `learn`: what `analyse` asks of the parts that are lent, and what it leaves there. Assumes nothing.
 use mathlib.Core.Path.{_≡_, refl, sym, ap, ap₂, _∙_, subst}
 use mathlib.Core.List.{List, map}
-use Prim.Native.Nat.{ℕ, _+_, _*_, _-_, _%_, _≤_, _<_, _^_}
+use Prim.Native.Nat.{ℕ, _+_, _*_, _-_, _%_, _≤_, _<_}
 use native.Mathlib.Omega.{arith}
 use borrow.Rule.Slice.PartMut.{putMid, same-len-mid, mid-len, take-put}
 use lib.ListN.{getD, length, take, drop}
@@ -12,16 +12,17 @@ use Rattle.model.specs.Picture.{Picture}
 use Rattle.model.specs.Analyse.{Facts, Fact}
 use Rattle.model.specs.Move.{run-of}
 use Rattle.laws.proofs.Accepted as laws
-use Rattle.laws.proofs.Sizes.{few-insts, regs-lent}
+use Rattle.laws.proofs.Sizes.{regs-lent}
 use Rattle.inst.specs.Table.{rows}
 use Rattle.chains.specs.declared.chain.Chain.{Chain}
 use Rattle.chains.specs.Chain.{blocks-of}
+use Rattle.chains.proofs.Laid.{laid-in}
 use Rattle.regfacts.specs.Flags.{Seen}
 use Rattle.analyse.specs.State.{plain}
 use Rattle.analyse.specs.Step.{Ready, Analysed}
 use Rattle.analyse.specs.Cells.{cells}
 use Rattle.facts.specs.declared.Fact as F
-use Rattle.analyse.proofs.Accepted.{good-given, pairs-given, ends-given}
+use Rattle.analyse.proofs.Accepted.{good-given, pair-given, ends-given}
 use Rattle.legalset.specs.Chain.{Told}
 use Rattle.plan.proofs.Heard as heard
 use Rattle.sizes.specs.declared.Sizes.{Sizes}
@@ -38,9 +39,6 @@ module _ {bounds recs ops work64 work32 : List ℕ} {facts : List F.Fact} {s : S
   pub fits : Room (s .blocks) (s .regs) (s .lent) (length work64) (length work32)
   fits = room (g .lists)
 
-  pub insts-fits : s .insts < 2 ^ 64
-  insts-fits = let l = g .lists in let z = few-insts (g .P) (ok l) in omega (arith, z, l .insts-are)
-
   module _ {a e r : ℕ} (ea : a ≡ 4 * s .blocks * width (s .lent)) (ee : e ≡ a + s .lent) (er : r ≡ s .regs) where
     pub inside : e ≤ length work64
     inside = let z = fits .words64 in omega (arith, ea)
@@ -48,21 +46,19 @@ module _ {bounds recs ops work64 work32 : List ℕ} {facts : List F.Fact} {s : S
     part-long : length (take (e - a) (drop a work64)) ≡ s .lent
     part-long = mid-len a e work64 inside ∙ omega arith
 
-    pub ready : (t : List ℕ) → t ≡ rows → Ready t recs ops (take (e - a) (drop a work64)) facts bounds c (s .blocks) r (s .insts)
+    pub ready : (t : List ℕ) → t ≡ rows → Ready t recs ops (take (e - a) (drop a work64)) facts bounds c r
     ready t et =
         let l = g .lists in
         let P = g .P in
         let k : laws.Accepted P = ok l in
-        rw (et, l .recs-are, l .ops-are, l .bounds-are, l .blocks-are, er, l .regs-are, l .insts-are)
+        rw (et, l .recs-are, l .ops-are, l .bounds-are, er, l .regs-are)
         (record {
           table = refl;
           in-use = let z = fits .lent in omega (arith, part-long, l .regs-are);
           lent = let z = fits .few in omega (arith, part-long);
           room = g .room;
-          good = good-given P k;
-          sound = g .chained .sound;
-          pairs = pairs-given P k;
-          ends = ends-given P k;
+          laid = laid-in (g .chained .sound) (pair-given P k);
+          good = λ j i h low. good-given P k i (let z = ends-given P k (getD (blocks-of c) j 0) (g .chained .sound .each j h) in omega arith);
           short = λ Q q. subst (λ (xs : List ℕ). length xs ≤ 800) (places-same P Q (sym q) (blocks-of c)) (g .chained .short);
         })
 

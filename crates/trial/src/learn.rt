@@ -44,18 +44,7 @@ pub fn learn(
     let r = s.regs as usize;
     let a = at_regs(s);
     let e = a + s.lent;
-    let n = analyse(
-        t,
-        recs,
-        ops,
-        &mut work64[a..e],
-        facts,
-        bounds,
-        c,
-        s.blocks,
-        r,
-        s.insts,
-    );
+    let n = analyse(t, recs, ops, &mut work64[a..e], facts, bounds, c, r);
     copy_regs(work64, work32, a, r);
     n as usize
 }
