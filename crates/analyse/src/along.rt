@@ -7,7 +7,6 @@ use chains::cursor::first;
 use chains::cursor::next;
 use facts::Fact;
 use facts::put;
-ghost use mathlib.Core.Path.{_≡_};
 ghost use Prim.Native.Nat.{_≤_};
 ghost use lib.ListN.{length};
 ghost use Rattle.chains.specs.Places.{Laid};

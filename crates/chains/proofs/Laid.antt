@@ -57,11 +57,12 @@ module _ (P : Picture) {bounds : List ℕ} (e : P .bounds ≡ bounds) (bs : List
       places-step h ∙ ap (λ (n : ℕ). range (start-in bounds (getD bs k 0)) n ++ chain-places P (drop (k + 1) bs)) m
       ∙ ap (λ (s : ℕ). range s (r .past - r .from) ++ chain-places P (drop (k + 1) bs)) (sym (i .from))
 
--- ---- what `part` answers
+-- ---- a chain among B blocks, all of which have their bounds
 
--- a chain of blocks that all have their bounds
 pub laid-in : {bounds : List ℕ} {B : ℕ} {c : Chain} → Sound c B → ((b : ℕ) → b < B → Pair bounds b) → Laid bounds c
 laid-in {c = c} s p = record { few = s .few; each = λ k h. p (getD (blocks-of c) k 0) (s .each k h) }
+
+-- ---- what `part_of` answers
 
 module _ {bounds : List ℕ} {c : Chain} {k : ℕ} (s : Laid bounds c) (h : k < c .count) where
   abbrev bs : List ℕ

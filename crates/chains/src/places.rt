@@ -2,7 +2,7 @@
 use crate::chain::Chain;
 use words::numbers::wide;
 ghost use mathlib.Core.Path.{_≡_};
-ghost use Prim.Native.Nat.{_+_, _*_, _≤_, _<_};
+ghost use Prim.Native.Nat.{_<_};
 ghost use lib.ListN.{length};
 ghost use Rattle.model.specs.Picture.{Picture};
 ghost use Rattle.model.specs.Move.{chain-places};

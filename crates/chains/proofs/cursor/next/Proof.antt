@@ -15,7 +15,11 @@ seek-requires : tie.Need-seek-requires
 seek-requires c κs = search needs
 
 returns : tie.Need-returns
-returns c = (c .seek .ensures .0, λ P e. next-left P (blocks-of (c .before .before .before .args .c)) (c .before .before .before .args .at) (c .before .before .before .pre .2) ∙ ap (λ (l : List ℕ). c .before .before .before .args .at .g ∷ l) (c .seek .ensures .1 P e))
+returns c =
+    let e = c .before .before .before in
+    let bs = blocks-of (e .args .c) in
+    let g = e .args .at .g in
+    (c .seek .ensures .0, λ P h. next-left P bs (e .args .at) (e .pre .2) ∙ ap (λ (l : List ℕ). g ∷ l) (c .seek .ensures .1 P h))
 
 pub next-spec : {M : Type 1} → statement M
 next-spec = tie.close (tie.spec add-t5 seek-requires returns)

@@ -20,28 +20,78 @@ first-requires : tie.Need-first-requires Inv-loop μ-loop
 first-requires c κs = c .before .before .before .before .before .before .before .before .pre .1 .laid
 
 loop-holds : tie.Need-loop-holds Inv-loop μ-loop
-loop-holds c = going-none _ _ _ refl (cleared (c .before .before .before .before .before .before .before .before .before .args .st .now) (c .before .before .before .clear .ensures) .1) (c .before .before .before .before .before .before .before .before .before .pre .2) (c .before .before .before .before .before .before .before .before .before .pre .3) (c .first .ensures .0) (c .first .ensures .1)
+loop-holds c =
+    let at-clear = c .before .before .before in
+    let e = at-clear .before .before .before .before .before .before in
+    going-none _ _ _ refl (cleared (e .args .st .now) (at-clear .clear .ensures) .1) (e .pre .2) (e .pre .3) (c .first .ensures .0) (c .first .ensures .1)
 
 read-on-requires : tie.Need-read-on-requires Inv-loop μ-loop
-read-on-requires c κs = let r = read-ready _ (legible-on (c .before .before .before .before .before .before .before .before .before .before .before .before .before .before .pre .1) (cleared (c .before .before .before .before .before .before .before .before .before .before .before .before .before .before .args .st .now) (c .before .before .before .before .before .before .before .before .clear .ensures) .0)) (c .before .before .before .before .loop .inv) (c .before .before .if1 .taken) in (c .before .before .before .before .before .before .before .before .before .before .before .before .before .before .pre .0, r .0, r .1, r .2, r .3)
+read-on-requires c κs =
+    let at-if = c .before .before in
+    let at-loop = at-if .before .before in
+    let at-clear = at-loop .before .before .before .before in
+    let e = at-clear .before .before .before .before .before .before in
+    let size = cleared (e .args .st .now) (at-clear .clear .ensures) .0 in
+    let y = legible-on (e .pre .1) size in
+    let r = read-ready _ y (at-loop .loop .inv) (at-if .if1 .taken) in
+    (e .pre .0, r .0, r .1, r .2, r .3)
 
 next-requires : tie.Need-next-requires Inv-loop μ-loop
-next-requires c κs = (c .before .before .before .before .before .before .before .before .before .before .before .before .before .before .before .before .before .pre .1 .laid, c .before .before .before .before .before .before .before .loop .inv .standing, c .before .before .before .before .before .if1 .taken)
+next-requires c κs =
+    let at-if = c .before .before .before .before .before in
+    let at-loop = at-if .before .before in
+    let e = at-loop .before .before .before .before .before .before .before .before .before .before in
+    (e .pre .1 .laid, at-loop .loop .inv .standing, at-if .if1 .taken)
 
 add-q : tie.Need-add-q Inv-loop μ-loop
-add-q c = let l = few-yet _ (legible-on (c .before .before .before .before .before .before .before .before .before .before .before .before .before .before .before .before .before .before .pre .1) (cleared (c .before .before .before .before .before .before .before .before .before .before .before .before .before .before .before .before .before .before .args .st .now) (c .before .before .before .before .before .before .before .before .before .before .before .before .clear .ensures) .0)) (c .before .before .before .before .before .before .before .before .loop .inv) (c .before .before .before .before .before .before .if1 .taken) in omega (arith, l)
+add-q c =
+    let at-if = c .before .before .before .before .before .before in
+    let at-loop = at-if .before .before in
+    let at-clear = at-loop .before .before .before .before in
+    let e = at-clear .before .before .before .before .before .before in
+    let size = cleared (e .args .st .now) (at-clear .clear .ensures) .0 in
+    let y = legible-on (e .pre .1) size in
+    let l = few-yet _ y (at-loop .loop .inv) (at-if .if1 .taken) in
+    omega (arith, l)
 
 loop-less : tie.Need-loop-less Inv-loop μ-loop
-loop-less c = let l = few-yet _ (legible-on (c .before .before .before .before .before .before .before .before .before .before .before .before .before .before .before .before .before .before .pre .1) (cleared (c .before .before .before .before .before .before .before .before .before .before .before .before .before .before .before .before .before .before .args .st .now) (c .before .before .before .before .before .before .before .before .before .before .before .before .clear .ensures) .0)) (c .before .before .before .before .before .before .before .before .loop .inv) (c .before .before .before .before .before .before .if1 .taken) in omega (arith, l)
+loop-less c =
+    let at-if = c .before .before .before .before .before .before in
+    let at-loop = at-if .before .before in
+    let at-clear = at-loop .before .before .before .before in
+    let e = at-clear .before .before .before .before .before .before in
+    let size = cleared (e .args .st .now) (at-clear .clear .ensures) .0 in
+    let y = legible-on (e .pre .1) size in
+    let l = few-yet _ y (at-loop .loop .inv) (at-if .if1 .taken) in
+    omega (arith, l)
 
 loop-again : tie.Need-loop-again Inv-loop μ-loop
-loop-again c = going-more _ (legible-on (c .before .before .before .before .before .before .before .before .before .before .before .before .before .before .before .before .before .before .pre .1) (cleared (c .before .before .before .before .before .before .before .before .before .before .before .before .before .before .before .before .before .before .args .st .now) (c .before .before .before .before .before .before .before .before .before .before .before .before .clear .ensures) .0)) (c .before .before .before .before .before .before .before .before .loop .inv) (c .before .before .before .before .before .before .if1 .taken) (c .before .before .before .read-on .ensures) (c .next .ensures .0) (c .next .ensures .1)
+loop-again c =
+    let at-if = c .before .before .before .before .before .before in
+    let at-loop = at-if .before .before in
+    let at-clear = at-loop .before .before .before .before in
+    let e = at-clear .before .before .before .before .before .before in
+    let size = cleared (e .args .st .now) (at-clear .clear .ensures) .0 in
+    let y = legible-on (e .pre .1) size in
+    going-more _ y (at-loop .loop .inv) (at-if .if1 .taken) (c .before .before .before .read-on .ensures) (c .next .ensures .0) (c .next .ensures .1)
 
 same-length : tie.Need-same-length Inv-loop μ-loop
-same-length c = going-size _ (legible-on (c .before .before .before .before .before .before .before .before .before .before .before .before .pre .1) (cleared (c .before .before .before .before .before .before .before .before .before .before .before .before .args .st .now) (c .before .before .before .before .before .before .clear .ensures) .0)) (c .before .before .loop .inv) ∙ cleared (c .before .before .before .before .before .before .before .before .before .before .before .before .args .st .now) (c .before .before .before .before .before .before .clear .ensures) .0
+same-length c =
+    let at-loop = c .before .before in
+    let at-clear = at-loop .before .before .before .before in
+    let e = at-clear .before .before .before .before .before .before in
+    let size = cleared (e .args .st .now) (at-clear .clear .ensures) .0 in
+    let y = legible-on (e .pre .1) size in
+    going-size _ y (at-loop .loop .inv) ∙ size
 
 returns : tie.Need-returns Inv-loop μ-loop
-returns c = (going-end _ (legible-on (c .before .before .before .before .before .before .before .before .before .before .before .before .pre .1) (cleared (c .before .before .before .before .before .before .before .before .before .before .before .before .args .st .now) (c .before .before .before .before .before .before .clear .ensures) .0)) (c .before .before .loop .inv) (c .if1 .left), going-size _ (legible-on (c .before .before .before .before .before .before .before .before .before .before .before .before .pre .1) (cleared (c .before .before .before .before .before .before .before .before .before .before .before .before .args .st .now) (c .before .before .before .before .before .before .clear .ensures) .0)) (c .before .before .loop .inv) ∙ cleared (c .before .before .before .before .before .before .before .before .before .before .before .before .args .st .now) (c .before .before .before .before .before .before .clear .ensures) .0)
+returns c =
+    let at-loop = c .before .before in
+    let at-clear = at-loop .before .before .before .before in
+    let e = at-clear .before .before .before .before .before .before in
+    let size = cleared (e .args .st .now) (at-clear .clear .ensures) .0 in
+    let y = legible-on (e .pre .1) size in
+    (going-end _ y (at-loop .loop .inv) (c .if1 .left), going-size _ y (at-loop .loop .inv) ∙ size)
 
 pub last-readers-spec : {M : Type 1} → statement M
 last-readers-spec =

@@ -43,10 +43,11 @@ wide-requires-2 c κs = search needs
 
 sub-if1 : tie.Need-sub-if1
 sub-if1 c =
-    let a = c .before .before .before .before .before .before .before .before .before .args in
-    let lo = c .before .before .wide .ensures ∙ ap (λ (x : ℕ). getD (a .bounds .now) (2 * x) 0) (c .before .before .before .before .at .ensures) in
-    let hi = c .wide2 .ensures ∙ ap (λ (x : ℕ). getD (a .bounds .now) (2 * x + 1) 0) (c .before .before .before .before .at .ensures) in
-    let o = c .before .before .before .before .before .before .before .before .before .pre .1 .order in
+    let e = c .before .before .before .before .before .before .before .before .before in
+    let k = c .before .before .before .before .at .ensures in
+    let lo = c .before .before .wide .ensures ∙ ap (λ (x : ℕ). getD (e .args .bounds .now) (2 * x) 0) k in
+    let hi = c .wide2 .ensures ∙ ap (λ (x : ℕ). getD (e .args .bounds .now) (2 * x + 1) 0) k in
+    let o = e .pre .1 .order in
     omega (arith, lo, hi)
 
 minimum-requires : tie.Need-minimum-requires
@@ -57,10 +58,14 @@ wide-requires-3 c κs = search needs
 
 returns : tie.Need-returns
 returns c =
-    let a = c .before .before .before .before .before .before .before .before .before .before .before .before .args in
-    let lo = c .before .before .before .before .before .wide .ensures ∙ ap (λ (x : ℕ). getD (a .bounds .now) (2 * x) 0) (c .before .before .before .before .before .before .before .at .ensures) in
-    let hi = c .before .before .before .wide2 .ensures ∙ ap (λ (x : ℕ). getD (a .bounds .now) (2 * x + 1) 0) (c .before .before .before .before .before .before .before .at .ensures) in
-    worth-for (a .c) (a .x .0) lo hi (c .before .before .before .before .before .before .before .before .replays .ensures) (λ n. too-few (a .recs .now) _ _ n _ (c .before .wide3 .ensures ∙ c .before .before .minimum .ensures) (omega (arith, c .if1 .taken)))
+    let at-past = c .before .before .before in
+    let e = at-past .before .before .before .before .before .before .before .before .before in
+    let k = at-past .before .before .before .before .at .ensures in
+    let lo = at-past .before .before .wide .ensures ∙ ap (λ (x : ℕ). getD (e .args .bounds .now) (2 * x) 0) k in
+    let hi = at-past .wide2 .ensures ∙ ap (λ (x : ℕ). getD (e .args .bounds .now) (2 * x + 1) 0) k in
+    let again = at-past .before .before .before .before .before .replays .ensures in
+    let few = c .before .wide3 .ensures ∙ c .before .before .minimum .ensures in
+    worth-for (e .args .c) (e .args .x .0) lo hi again (λ n. too-few (e .args .recs .now) _ _ n _ few (omega (arith, c .if1 .taken)))
 
 wide-requires-4 : tie.Need-wide-requires-4
 wide-requires-4 c κs = search needs
@@ -70,47 +75,64 @@ chain-len-requires c κs = search needs
 
 returns-2 : tie.Need-returns-2
 returns-2 c =
-    let a = c .before .before .before .before .before .before .before .before .before .before .before .before .before .before .before .args in
-    let lo = c .before .before .before .before .before .before .before .before .wide .ensures ∙ ap (λ (x : ℕ). getD (a .bounds .now) (2 * x) 0) (c .before .before .before .before .before .before .before .before .before .before .at .ensures) in
-    let hi = c .before .before .before .before .before .before .wide2 .ensures ∙ ap (λ (x : ℕ). getD (a .bounds .now) (2 * x + 1) 0) (c .before .before .before .before .before .before .before .before .before .before .at .ensures) in
-    let n = c .before .chain-len .result in
+    let at-len = c .before in
+    let at-past = at-len .before .before .before .before .before in
+    let e = at-past .before .before .before .before .before .before .before .before .before in
+    let k = at-past .before .before .before .before .at .ensures in
+    let lo = at-past .before .before .wide .ensures ∙ ap (λ (x : ℕ). getD (e .args .bounds .now) (2 * x) 0) k in
+    let hi = at-past .wide2 .ensures ∙ ap (λ (x : ℕ). getD (e .args .bounds .now) (2 * x + 1) 0) k in
+    let again = at-past .before .before .before .before .before .replays .ensures in
     let l = c .if2 .taken in
-    let z = c .before .before .wide4 .ensures in
-    worth-is (a .c) (a .x .0) lo hi (c .before .before .before .before .before .before .before .before .before .before .before .replays .ensures) (c .before .chain-len .ensures) (too-long (a .recs .now) _ _ n _ (omega arith))
+    let z = at-len .before .wide4 .ensures in
+    worth-is (e .args .c) (e .args .x .0) lo hi again (at-len .chain-len .ensures) (too-long (e .args .recs .now) _ _ (at-len .chain-len .result) _ (omega arith))
 
 returns-3 : tie.Need-returns-3
 returns-3 c =
-    let a = c .before .before .before .before .before .before .before .before .before .before .before .before .before .before .before .before .args in
-    let lo = c .before .before .before .before .before .before .before .before .before .wide .ensures ∙ ap (λ (x : ℕ). getD (a .bounds .now) (2 * x) 0) (c .before .before .before .before .before .before .before .before .before .before .before .at .ensures) in
-    let hi = c .before .before .before .before .before .before .before .wide2 .ensures ∙ ap (λ (x : ℕ). getD (a .bounds .now) (2 * x + 1) 0) (c .before .before .before .before .before .before .before .before .before .before .before .at .ensures) in
-    let n = c .before .before .chain-len .result in
+    let at-len = c .before .before in
+    let at-if = at-len .before .before in
+    let at-past = at-if .before .before .before in
+    let e = at-past .before .before .before .before .before .before .before .before .before in
+    let k = at-past .before .before .before .before .at .ensures in
+    let lo = at-past .before .before .wide .ensures ∙ ap (λ (x : ℕ). getD (e .args .bounds .now) (2 * x) 0) k in
+    let hi = at-past .wide2 .ensures ∙ ap (λ (x : ℕ). getD (e .args .bounds .now) (2 * x + 1) 0) k in
+    let again = at-past .before .before .before .before .before .replays .ensures in
+    let few = at-if .before .wide3 .ensures ∙ at-if .before .before .minimum .ensures in
     let l = c .before .if2 .left in
-    let z = c .before .before .before .wide4 .ensures in
-    worth-is (a .c) (a .x .0) lo hi (c .before .before .before .before .before .before .before .before .before .before .before .before .replays .ensures) (c .before .before .chain-len .ensures)
-    (by-replay (a .recs .now) _ _ n _ (c .before .before .before .before .before .wide3 .ensures ∙ c .before .before .before .before .before .before .minimum .ensures) (omega (arith, c .before .before .before .before .if1 .left)) (omega arith) (c .if3 .taken))
+    let z = at-len .before .wide4 .ensures in
+    worth-is (e .args .c) (e .args .x .0) lo hi again (at-len .chain-len .ensures)
+    (by-replay (e .args .recs .now) _ _ (at-len .chain-len .result) _ few (omega (arith, at-if .if1 .left)) (omega arith) (c .if3 .taken))
 
 sub-plain-cat-in : tie.Need-sub-plain-cat-in
 sub-plain-cat-in c = search needs
 
 plain-cat-in-requires : tie.Need-plain-cat-in-requires
 plain-cat-in-requires c κs =
-    let a = c .before .before .before .before .before .before .before .before .before .before .before .before .before .before .before .before .args in
-    let lo = c .before .before .before .before .before .before .before .before .before .wide .ensures ∙ ap (λ (x : ℕ). getD (a .bounds .now) (2 * x) 0) (c .before .before .before .before .before .before .before .before .before .before .before .at .ensures) in
-    let hi = c .before .before .before .before .before .before .before .wide2 .ensures ∙ ap (λ (x : ℕ). getD (a .bounds .now) (2 * x + 1) 0) (c .before .before .before .before .before .before .before .before .before .before .before .at .ensures) in
-    let few = c .before .before .before .before .if1 .left in
-    let whole = c .before .before .before .before .before .before .before .before .before .before .before .before .before .before .before .before .pre .2 in
+    let at-len = c .before .before in
+    let at-if = at-len .before .before in
+    let at-past = at-if .before .before .before in
+    let e = at-past .before .before .before .before .before .before .before .before .before in
+    let k = at-past .before .before .before .before .at .ensures in
+    let lo = at-past .before .before .wide .ensures ∙ ap (λ (x : ℕ). getD (e .args .bounds .now) (2 * x) 0) k in
+    let hi = at-past .wide2 .ensures ∙ ap (λ (x : ℕ). getD (e .args .bounds .now) (2 * x + 1) 0) k in
+    let few = at-if .if1 .left in
+    let whole = e .pre .2 in
     (omega (arith, few), omega (arith, hi, whole))
 
 returns-4 : tie.Need-returns-4
 returns-4 c =
-    let a = c .before .before .before .before .before .before .before .before .before .before .before .before .before .before .before .before .before .args in
-    let lo = c .before .before .before .before .before .before .before .before .before .before .wide .ensures ∙ ap (λ (x : ℕ). getD (a .bounds .now) (2 * x) 0) (c .before .before .before .before .before .before .before .before .before .before .before .before .at .ensures) in
-    let hi = c .before .before .before .before .before .before .before .before .wide2 .ensures ∙ ap (λ (x : ℕ). getD (a .bounds .now) (2 * x + 1) 0) (c .before .before .before .before .before .before .before .before .before .before .before .before .at .ensures) in
-    let n = c .before .before .before .chain-len .result in
+    let at-len = c .before .before .before in
+    let at-if = at-len .before .before in
+    let at-past = at-if .before .before .before in
+    let e = at-past .before .before .before .before .before .before .before .before .before in
+    let k = at-past .before .before .before .before .at .ensures in
+    let lo = at-past .before .before .wide .ensures ∙ ap (λ (x : ℕ). getD (e .args .bounds .now) (2 * x) 0) k in
+    let hi = at-past .wide2 .ensures ∙ ap (λ (x : ℕ). getD (e .args .bounds .now) (2 * x + 1) 0) k in
+    let again = at-past .before .before .before .before .before .replays .ensures in
+    let few = at-if .before .wide3 .ensures ∙ at-if .before .before .minimum .ensures in
     let l = c .before .before .if2 .left in
-    let z = c .before .before .before .before .wide4 .ensures in
-    worth-is (a .c) (a .x .0) lo hi (c .before .before .before .before .before .before .before .before .before .before .before .before .before .replays .ensures) (c .before .before .before .chain-len .ensures)
-    (by-cat (a .recs .now) _ _ n _ (c .before .before .before .before .before .before .wide3 .ensures ∙ c .before .before .before .before .before .before .before .minimum .ensures) (omega (arith, c .before .before .before .before .before .if1 .left)) (omega arith) (c .before .if3 .left) (c .plain-cat-in .ensures))
+    let z = at-len .before .wide4 .ensures in
+    worth-is (e .args .c) (e .args .x .0) lo hi again (at-len .chain-len .ensures)
+    (by-cat (e .args .recs .now) _ _ (at-len .chain-len .result) _ few (omega (arith, at-if .if1 .left)) (omega arith) (c .before .if3 .left) (c .plain-cat-in .ensures))
 
 pub worth-a-look-spec : {M : Type 1} → statement M
 worth-a-look-spec =
