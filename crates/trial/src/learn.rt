@@ -8,8 +8,6 @@ use sizes::COPIED;
 use sizes::Sizes;
 use sizes::at_regs;
 ghost use mathlib.Core.Path.{_≡_};
-ghost use Prim.Native.Nat.{_+_, _*_, _≤_, _<_};
-ghost use lib.ListN.{length};
 ghost use Rattle.inst.specs.Table.{rows};
 ghost use Rattle.chainwords.specs.Puts.{Copying, Copied};
 ghost use Rattle.chainwords.specs.Along.{Learning, Learnt};
