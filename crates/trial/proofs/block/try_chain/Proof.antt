@@ -50,7 +50,12 @@ use Rattle.inst.proofs.index.BlockId as B
 use Rattle.inst.proofs.index.BlockId.Laws as B′
 use Rattle.chains.proofs.chain.Chain as K
 use Rattle.chains.proofs.chain.Chain.Laws as K′
+use Rattle.search.proofs.find.Look as N
+use Rattle.search.proofs.find.Look.Laws as N′
+use Rattle.search.specs.declared.find.Look.{Look}
 use Rattle.analyse.specs.Cells.{cells as numbers}
+use Rattle.inst.specs.declared.index.BlockId.{BlockId}
+use Rattle.chains.specs.declared.chain.Chain.{Chain}
 use Rattle.trial.specs.declared.block.Ask.{Ask}
 use Rattle.trial.specs.declared.block.MaybeMove.{MaybeMove}
 use Rattle.chainwords.specs.Along.{Learnt}
@@ -96,15 +101,16 @@ Tab = Array u32 202
 abbrev sizes-data : F.Plain S.the-row
 sizes-data = struct S.the-type S′.the-laws S′.the-plain S′.lowered (S′.lowers .val-is) (λ x. tt) (λ x f. refl)
 
-abbrev chain-data : F.Plain K.the-row
-chain-data = struct K.the-type K′.the-laws K′.the-plain K′.lowered (K′.lowers .val-is) (λ x. tt) (λ x f. refl)
+abbrev look-data : F.Plain N.the-row
+look-data = struct N.the-type N′.the-laws N′.the-plain N′.lowered (N′.lowers .val-is) (λ x. tt) (λ x f. refl)
 
-abbrev block-data : F.Plain B.the-row
-block-data = struct B.the-type B′.the-laws B′.the-plain B′.lowered (B′.lowers .val-is) (λ x. tt) (λ x f. refl)
+-- the block and its chain
+is-parts : (k : Look) → Is N.the-row k (N′.lowered k ∷ []) → Is B.the-row (k .x) (B′.lowered (k .x) ∷ []) × (Is K.the-row (k .c) (K′.lowered (k .c) ∷ []) × Unit {0})
+is-parts k is = LL.owed N.the-type N′.the-laws k _ is
 
 -- the parameters
 abbrev kinds : List (Kind 9)
-kinds = one 0 tt Tab ∷ sees 1 tt u32 ∷ sees 2 tt u32 ∷ sees 3 tt u32 ∷ sees 4 tt u32 ∷ too 2 tt u32 ∷ sees 5 tt u32 ∷ lends 6 tt u64 ∷ lends 7 tt u32 ∷ lends 8 tt T.the-row ∷ datum S.the-row sizes-data ∷ datum B.the-row block-data ∷ datum K.the-row chain-data ∷ []
+kinds = one 0 tt Tab ∷ sees 1 tt u32 ∷ sees 2 tt u32 ∷ sees 3 tt u32 ∷ sees 4 tt u32 ∷ too 2 tt u32 ∷ sees 5 tt u32 ∷ lends 6 tt u64 ∷ lends 7 tt u32 ∷ lends 8 tt T.the-row ∷ datum S.the-row sizes-data ∷ datum N.the-row look-data ∷ []
 
 abbrev stayed : Stays (f.ended .signature .params) (f.ended .kept)
 stayed = F.stays kinds
@@ -128,7 +134,7 @@ module _ {M : Type 1} (𝓤 : URA M) (H : Heap 𝓤) (A : Atoms 𝓤) (mem : Mem
 
 -- what the function requires
 abbrev Asked : Values kinds → Type 0
-Asked = F.asks kinds (λ tab bounds recs ops pairs targets replay work64 work32 facts sizes start chain. (tab .now ≡ rows) × Following (bounds .list) (recs .list) (ops .list) (pairs .list) (targets .list) (replay .list) (sizes .it) (start .it .0) (chain .it) (work64 .list) (work32 .list) × (800 ≤ length (facts .list)))
+Asked = F.asks kinds (λ tab bounds recs ops pairs targets replay work64 work32 facts sizes from. (tab .now ≡ rows) × Following (bounds .list) (recs .list) (ops .list) (pairs .list) (targets .list) (replay .list) (sizes .it) (from .it .x .0) (from .it .c) (work64 .list) (work32 .list) × (800 ≤ length (facts .list)))
 
 module _ {M : Type 1} (𝓤 : URA M) (H : Heap 𝓤) (A : Atoms 𝓤) (W : Given 𝓤 H A) (mem : Memory → SProp 𝓤) (run : Routine → Fun 𝓤) (𝓣 : Tables 𝓤 H)
     (known-learn : Triple 𝓤 (𝓣 .C #trial·learn·learn) (Learns 𝓤 H A mem run)) (known-want : Triple 𝓤 (𝓣 .C #trial·block·wanted) (Wants 𝓤 H A mem run)) (known-plan : Triple 𝓤 (𝓣 .C #trial·target·plan) (Plans 𝓤 H A mem run)) (known-else : Triple 𝓤 (𝓣 .C #trial·block·else-least) (Elses 𝓤 H A mem run)) (known-found : Triple 𝓤 (𝓣 .C #trial·block·found) (Founds 𝓤 H A mem run)) where
@@ -148,9 +154,22 @@ module _ {M : Type 1} (𝓤 : URA M) (H : Heap 𝓤) (A : Atoms 𝓤) (W : Given
   abbrev Goal : (κs : Lfts 9) (qs : Shares 9) → Values kinds → Type 1
   Goal κs qs vs = Asked vs → ent 𝓤 (onEntry 𝓤 H A f.signature κs qs (entries κs kinds vs) (machs κs kinds vs)) (WpFn 𝓤 H C Λ code.function (F.given kinds vs) (Ends κs qs vs))
 
-  module _ (κs : Lfts 9) (qs : Shares 9) (tab : One Tab) (bounds recs ops pairs targets replay : Slice u32) (work64 : Slice u64) (work32 : Slice u32) (facts : Slice T.the-row) (sizes : Datum S.the-row (λ d. S′.lowered d ∷ [])) (start : Datum B.the-row (λ d. B′.lowered d ∷ [])) (chain : Datum K.the-row (λ d. K′.lowered d ∷ [])) where
+  module _ (κs : Lfts 9) (qs : Shares 9) (tab : One Tab) (bounds recs ops pairs targets replay : Slice u32) (work64 : Slice u64) (work32 : Slice u32) (facts : Slice T.the-row) (sizes : Datum S.the-row (λ d. S′.lowered d ∷ [])) (from-x : Datum N.the-row (λ d. N′.lowered d ∷ [])) where
     abbrev vs : Values kinds
-    vs = (tab, (bounds, (recs, (ops, (pairs, (targets, (replay, (work64, (work32, (facts, (sizes, (start, (chain, tt)))))))))))))
+    vs = (tab, (bounds, (recs, (ops, (pairs, (targets, (replay, (work64, (work32, (facts, (sizes, (from-x, tt))))))))))))
+
+    -- block x, and the chain from it
+    abbrev x : BlockId
+    x = from-x .it .x
+
+    abbrev chain : Chain
+    chain = from-x .it .c
+
+    x-is : Is B.the-row x (B′.lowered x ∷ [])
+    x-is = is-parts (from-x .it) (from-x .is) .0
+
+    chain-is : Is K.the-row chain (K′.lowered chain ∷ [])
+    chain-is = is-parts (from-x .it) (from-x .is) .1 .0
 
     -- the parameters at these lists, and what the walk holds of them: ten items
     abbrev params : List ℕ → List ℕ → List Fact → List (Par 𝓤 H A)
@@ -165,18 +184,18 @@ module _ {M : Type 1} (𝓤 : URA M) (H : Heap 𝓤) (A : Atoms 𝓤) (W : Given
     abbrev Post : Val → SProp 𝓤
     Post = Ends κs qs vs
 
-    exits : (xs′ ws′ : List ℕ) (fs′ : List Fact) (r : MaybeMove) (w : Val) → Is Y.the-row r (w ∷ []) → length xs′ ≡ length (work64 .list) → length ws′ ≡ length (work32 .list) → length fs′ ≡ length (facts .list) → Followed (bounds .list) (recs .list) (ops .list) (pairs .list) (targets .list) (replay .list) (sizes .it) (start .it .0) (chain .it) (work64 .list) (work32 .list) xs′ ws′ r → ent 𝓤 (⋆ 𝓤 H A (Held xs′ ws′ fs′)) (Post w)
+    exits : (xs′ ws′ : List ℕ) (fs′ : List Fact) (r : MaybeMove) (w : Val) → Is Y.the-row r (w ∷ []) → length xs′ ≡ length (work64 .list) → length ws′ ≡ length (work32 .list) → length fs′ ≡ length (facts .list) → Followed (bounds .list) (recs .list) (ops .list) (pairs .list) (targets .list) (replay .list) (sizes .it) (x .0) chain (work64 .list) (work32 .list) xs′ ws′ r → ent 𝓤 (⋆ 𝓤 H A (Held xs′ ws′ fs′)) (Post w)
     exits xs′ ws′ fs′ r w is e e′ e″ said =
         qed W (Held xs′ ws′ fs′) ∵
         suffices ! _ (ends-at 𝓤 H A f.ended stayed (f.clauses 𝓤 H A mem run) W ((κs, qs, tt, entries κs kinds vs, machs κs kinds vs), tt) w r (fins κs kinds vs (xs′, (ws′, (fs′, tt)))) (fit-all κs kinds vs (xs′, (ws′, (fs′, tt))) (e, (e′, (e″, tt))))) $ says ! said $
         cut (Held xs′ ws′ fs′) (raw (Q.tokens 𝓤 H A (params xs′ ws′ fs′)) ∷ ‵ (Q.owned 𝓤 H A (params xs′ ws′ fs′)) ∷ []) _ (closed 𝓤 H A W (params xs′ ws′ fs′)) $ frame ! $ frame ! $ owned ! Y.the-row (Is Y.the-row) (EL.makes Y.the-type Y′.the-plain 𝓤 H A) r (w ∷ []) is $ done !
 
     -- the chain's branches
-    t-is : Is B.the-row (chain .it .t) (B′.lowered (chain .it .t) ∷ [])
-    t-is = let h = chain .is .1 .1 .1 .1 .1 .1 .1 .1 .1 .0 in subst (Is B.the-row (chain .it .t)) (B′.lowers .val-is (chain .it .t) _ h) h
+    t-is : Is B.the-row (chain .t) (B′.lowered (chain .t) ∷ [])
+    t-is = let h = chain-is .1 .1 .1 .1 .1 .1 .1 .1 .1 .0 in subst (Is B.the-row (chain .t)) (B′.lowers .val-is (chain .t) _ h) h
 
-    f-is : Is B.the-row (chain .it .f) (B′.lowered (chain .it .f) ∷ [])
-    f-is = let h = chain .is .1 .1 .1 .1 .1 .1 .1 .1 .1 .1 .0 in subst (Is B.the-row (chain .it .f)) (B′.lowers .val-is (chain .it .f) _ h) h
+    f-is : Is B.the-row (chain .f) (B′.lowered (chain .f) ∷ [])
+    f-is = let h = chain-is .1 .1 .1 .1 .1 .1 .1 .1 .1 .1 .0 in subst (Is B.the-row (chain .f)) (B′.lowers .val-is (chain .f) _ h) h
 
     module _ (ready : Asked vs) where
       module _ (homes : Homes (code.function .locals)) where
@@ -187,7 +206,7 @@ module _ {M : Type 1} (𝓤 : URA M) (H : Heap 𝓤) (A : Atoms 𝓤) (W : Given
         abbrev l : ℕ → ℕ
         l = home (code.function .locals) homes
 
-        -- what is held, and the locals, those of vs after the parameters: local i stands at 10 + 2 · (36 − i)
+        -- what is held, and the locals, those of vs after the parameters: local i stands at 10 + 2 · (35 − i)
         abbrev At : List ℕ → List ℕ → List Fact → List Val → List (Item 𝓤)
         At xs′ ws′ fs′ vs = Held xs′ ws′ fs′ ++ cells 𝓤 H En (room ∷ filled (given ++ vs))
 
@@ -200,19 +219,19 @@ module _ {M : Type 1} (𝓤 : URA M) (H : Heap 𝓤) (A : Atoms 𝓤) (W : Given
         lent-locals = filled (vptr (work64 .b) (work64 .o) ∷ value work64 ∷ vptr (work32 .b) (work32 .o) ∷ value work32 ∷ vptr (facts .b) (facts .o) ∷ value facts ∷ [])
 
         -- ---- the facts fs₁ along the chain, n positions
-        module _ (n : ℕ) (n-fits : n < 2 ^ 64) (xs₁ ws₁ : List ℕ) (fs₁ : List Fact) (e-x : length xs₁ ≡ length (work64 .list)) (e-w : length ws₁ ≡ length (work32 .list)) (e-f : length fs₁ ≡ length (facts .list)) (learnt : Learnt (bounds .list) (recs .list) (ops .list) (sizes .it) (chain .it) (work64 .list) (work32 .list) xs₁ ws₁ fs₁ n) where
+        module _ (n : ℕ) (n-fits : n < 2 ^ 64) (xs₁ ws₁ : List ℕ) (fs₁ : List Fact) (e-x : length xs₁ ≡ length (work64 .list)) (e-w : length ws₁ ≡ length (work32 .list)) (e-f : length fs₁ ≡ length (facts .list)) (learnt : Learnt (bounds .list) (recs .list) (ops .list) (sizes .it) chain (work64 .list) (work32 .list) xs₁ ws₁ fs₁ n) where
           abbrev want-args : List (Arg 𝓤 H A)
-          want-args = pass-slice 𝓤 H A W 9 κs qs 1 tt bounds ∷ pass-slice 𝓤 H A W 9 κs qs 5 tt replay ∷ pass-data 𝓤 H A W block-data start ∷ pass-data 𝓤 H A W chain-data chain ∷ []
+          want-args = pass-slice 𝓤 H A W 9 κs qs 1 tt bounds ∷ pass-slice 𝓤 H A W 9 κs qs 5 tt replay ∷ pass-struct 𝓤 H A W B.the-type B′.the-plain x (B′.lowered x) x-is ∷ pass-struct 𝓤 H A W K.the-type K′.the-plain chain (K′.lowered chain) chain-is ∷ []
 
           abbrev Want-says : Ask → Lasts 𝓤 H A want-args → Type 0
-          Want-says r y = law.Wanted (bounds .list) (replay .list) (start .it .0) (chain .it) r
+          Want-says r y = law.Wanted (bounds .list) (replay .list) (x .0) chain r
 
           want-call : ent 𝓤 (⋆ 𝓤 H A (G.hads 𝓤 H A want-args)) (H .⇛ (C #trial·block·wanted (G.flat 𝓤 H A want-args) (G.Then 𝓤 H A W want-args O.the-row Want-says)))
           want-call = calls-of 𝓤 H A W C fm #trial·block·wanted (Wants 𝓤 H A mem run) known-want want-args (λ g. ((G.lfts 𝓤 H A want-args g, G.shares 𝓤 H A want-args, tt, G.values 𝓤 H A want-args g, G.machs 𝓤 H A want-args), tt)) (λ g. refl)
               (λ g. qed W (raw (G.tokens 𝓤 H A want-args g) ∷ ‵ (G.owns 𝓤 H A want-args g) ∷ []) ∵ says ! (law.wanting (ready .1)) $ done !) O.the-row Want-says (λ g w. id⊢ 𝓤 _)
 
           -- ---- q: how many positions are in the first block, and the fewest members
-          module _ (q : Ask) (q-is : Is O.the-row q (O′.lowered q ∷ [])) (asked : law.Wanted (bounds .list) (replay .list) (start .it .0) (chain .it) q) where
+          module _ (q : Ask) (q-is : Is O.the-row q (O′.lowered q ∷ [])) (asked : law.Wanted (bounds .list) (replay .list) (x .0) chain q) where
             inside-fits : q .inside < 2 ^ 64
             inside-fits = LL.owed O.the-type O′.the-laws q _ q-is .0 .1
 
@@ -221,10 +240,10 @@ module _ {M : Type 1} (𝓤 : URA M) (H : Heap 𝓤) (A : Atoms 𝓤) (W : Given
 
             abbrev t-args : List (Arg 𝓤 H A)
             t-args = pass-one 𝓤 H A W 9 κs qs 0 tt tab ∷ pass-slice 𝓤 H A W 9 κs qs 1 tt bounds ∷ pass-slice 𝓤 H A W 9 κs qs 2 tt recs ∷ pass-slice 𝓤 H A W 9 κs qs 3 tt ops ∷ pass-slice 𝓤 H A W 9 κs qs 4 tt pairs ∷ pass-too 𝓤 H A W 9 κs qs 2 tt targets ∷ pass-mut 𝓤 H A W 9 κs qs 6 tt work64 5 xs₁ e-x ∷ pass-mut 𝓤 H A W 9 κs qs 7 tt work32 6 ws₁ e-w ∷ pass-mut 𝓤 H A W 9 κs qs 8 tt facts 7 fs₁ e-f
-                ∷ pass-data 𝓤 H A W sizes-data sizes ∷ pass-data 𝓤 H A W chain-data chain ∷ pass-number 𝓤 H A W w32 (q .least) least-fits ∷ pass-struct 𝓤 H A W B.the-type B′.the-plain (chain .it .t) (B′.lowered (chain .it .t)) t-is ∷ pass-struct 𝓤 H A W B.the-type B′.the-plain (chain .it .f) (B′.lowered (chain .it .f)) f-is ∷ pass-number 𝓤 H A W w64 (q .inside) inside-fits ∷ pass-number 𝓤 H A W w64 n n-fits ∷ []
+                ∷ pass-data 𝓤 H A W sizes-data sizes ∷ pass-struct 𝓤 H A W K.the-type K′.the-plain chain (K′.lowered chain) chain-is ∷ pass-number 𝓤 H A W w32 (q .least) least-fits ∷ pass-struct 𝓤 H A W B.the-type B′.the-plain (chain .t) (B′.lowered (chain .t)) t-is ∷ pass-struct 𝓤 H A W B.the-type B′.the-plain (chain .f) (B′.lowered (chain .f)) f-is ∷ pass-number 𝓤 H A W w64 (q .inside) inside-fits ∷ pass-number 𝓤 H A W w64 n n-fits ∷ []
 
             abbrev T-says : ℕ → Lasts 𝓤 H A t-args → Type 0
-            T-says r y = PlanTried (bounds .list) (recs .list) (ops .list) (pairs .list) (targets .list) (sizes .it) (chain .it) (numbers fs₁) xs₁ ws₁ (q .least) (chain .it .t .0) (chain .it .f .0) (q .inside) n (y .1 .1 .1 .1 .1 .1 .0) (y .1 .1 .1 .1 .1 .1 .1 .0) r × (numbers (y .1 .1 .1 .1 .1 .1 .1 .1 .0) ≡ numbers fs₁)
+            T-says r y = PlanTried (bounds .list) (recs .list) (ops .list) (pairs .list) (targets .list) (sizes .it) chain (numbers fs₁) xs₁ ws₁ (q .least) (chain .t .0) (chain .f .0) (q .inside) n (y .1 .1 .1 .1 .1 .1 .0) (y .1 .1 .1 .1 .1 .1 .1 .0) r × (numbers (y .1 .1 .1 .1 .1 .1 .1 .1 .0) ≡ numbers fs₁)
 
             t-call : ent 𝓤 (⋆ 𝓤 H A (G.hads 𝓤 H A t-args)) (H .⇛ (C #trial·target·plan (G.flat 𝓤 H A t-args) (G.Then 𝓤 H A W t-args u32 T-says)))
             t-call = calls-of 𝓤 H A W C fm #trial·target·plan (Plans 𝓤 H A mem run) known-plan t-args (λ g. ((G.lfts 𝓤 H A t-args g, G.shares 𝓤 H A t-args, tt, G.values 𝓤 H A t-args g, G.machs 𝓤 H A t-args), tt)) (λ g. refl)
@@ -232,7 +251,7 @@ module _ {M : Type 1} (𝓤 : URA M) (H : Heap 𝓤) (A : Atoms 𝓤) (W : Given
 
             -- ---- k members move into t
             module _ (k : ℕ) (k-fits : k < 2 ^ 32) (xs₂ ws₂ : List ℕ) (fs₂ : List Fact) (e-x₂ : length xs₂ ≡ length (work64 .list)) (e-w₂ : length ws₂ ≡ length (work32 .list)) (e-f₂ : length fs₂ ≡ length fs₁)
-                (into-t : PlanTried (bounds .list) (recs .list) (ops .list) (pairs .list) (targets .list) (sizes .it) (chain .it) (numbers fs₁) xs₁ ws₁ (q .least) (chain .it .t .0) (chain .it .f .0) (q .inside) n xs₂ ws₂ k × (numbers fs₂ ≡ numbers fs₁)) where
+                (into-t : PlanTried (bounds .list) (recs .list) (ops .list) (pairs .list) (targets .list) (sizes .it) chain (numbers fs₁) xs₁ ws₁ (q .least) (chain .t .0) (chain .f .0) (q .inside) n xs₂ ws₂ k × (numbers fs₂ ≡ numbers fs₁)) where
               abbrev else-args : List (Arg 𝓤 H A)
               else-args = pass-number 𝓤 H A W w32 k k-fits ∷ pass-number 𝓤 H A W w32 (q .least) least-fits ∷ []
 
@@ -247,10 +266,10 @@ module _ {M : Type 1} (𝓤 : URA M) (H : Heap 𝓤) (A : Atoms 𝓤) (W : Given
               module _ (v : ℕ) (v-fits : v < 2 ^ 32) (v-is : v ≡ else-least k (q .least)) where
                 abbrev f-args : List (Arg 𝓤 H A)
                 f-args = pass-one 𝓤 H A W 9 κs qs 0 tt tab ∷ pass-slice 𝓤 H A W 9 κs qs 1 tt bounds ∷ pass-slice 𝓤 H A W 9 κs qs 2 tt recs ∷ pass-slice 𝓤 H A W 9 κs qs 3 tt ops ∷ pass-slice 𝓤 H A W 9 κs qs 4 tt pairs ∷ pass-too 𝓤 H A W 9 κs qs 2 tt targets ∷ pass-mut 𝓤 H A W 9 κs qs 6 tt work64 5 xs₂ e-x₂ ∷ pass-mut 𝓤 H A W 9 κs qs 7 tt work32 6 ws₂ e-w₂ ∷ pass-mut 𝓤 H A W 9 κs qs 8 tt facts 7 fs₂ (e-f₂ ∙ e-f)
-                    ∷ pass-data 𝓤 H A W sizes-data sizes ∷ pass-data 𝓤 H A W chain-data chain ∷ pass-number 𝓤 H A W w32 v v-fits ∷ pass-struct 𝓤 H A W B.the-type B′.the-plain (chain .it .f) (B′.lowered (chain .it .f)) f-is ∷ pass-struct 𝓤 H A W B.the-type B′.the-plain (chain .it .t) (B′.lowered (chain .it .t)) t-is ∷ pass-number 𝓤 H A W w64 (q .inside) inside-fits ∷ pass-number 𝓤 H A W w64 n n-fits ∷ []
+                    ∷ pass-data 𝓤 H A W sizes-data sizes ∷ pass-struct 𝓤 H A W K.the-type K′.the-plain chain (K′.lowered chain) chain-is ∷ pass-number 𝓤 H A W w32 v v-fits ∷ pass-struct 𝓤 H A W B.the-type B′.the-plain (chain .f) (B′.lowered (chain .f)) f-is ∷ pass-struct 𝓤 H A W B.the-type B′.the-plain (chain .t) (B′.lowered (chain .t)) t-is ∷ pass-number 𝓤 H A W w64 (q .inside) inside-fits ∷ pass-number 𝓤 H A W w64 n n-fits ∷ []
 
                 abbrev F-says : ℕ → Lasts 𝓤 H A f-args → Type 0
-                F-says r y = PlanTried (bounds .list) (recs .list) (ops .list) (pairs .list) (targets .list) (sizes .it) (chain .it) (numbers fs₂) xs₂ ws₂ v (chain .it .f .0) (chain .it .t .0) (q .inside) n (y .1 .1 .1 .1 .1 .1 .0) (y .1 .1 .1 .1 .1 .1 .1 .0) r × (numbers (y .1 .1 .1 .1 .1 .1 .1 .1 .0) ≡ numbers fs₂)
+                F-says r y = PlanTried (bounds .list) (recs .list) (ops .list) (pairs .list) (targets .list) (sizes .it) chain (numbers fs₂) xs₂ ws₂ v (chain .f .0) (chain .t .0) (q .inside) n (y .1 .1 .1 .1 .1 .1 .0) (y .1 .1 .1 .1 .1 .1 .1 .0) r × (numbers (y .1 .1 .1 .1 .1 .1 .1 .1 .0) ≡ numbers fs₂)
 
                 f-call : ent 𝓤 (⋆ 𝓤 H A (G.hads 𝓤 H A f-args)) (H .⇛ (C #trial·target·plan (G.flat 𝓤 H A f-args) (G.Then 𝓤 H A W f-args u32 F-says)))
                 f-call = calls-of 𝓤 H A W C fm #trial·target·plan (Plans 𝓤 H A mem run) known-plan f-args (λ g. ((G.lfts 𝓤 H A f-args g, G.shares 𝓤 H A f-args, tt, G.values 𝓤 H A f-args g, G.machs 𝓤 H A f-args), tt)) (λ g. refl)
@@ -258,36 +277,36 @@ module _ {M : Type 1} (𝓤 : URA M) (H : Heap 𝓤) (A : Atoms 𝓤) (W : Given
 
                 -- ---- j members move into f
                 module _ (j : ℕ) (j-fits : j < 2 ^ 32) (xs₃ ws₃ : List ℕ) (fs₃ : List Fact) (e-x₃ : length xs₃ ≡ length (work64 .list)) (e-w₃ : length ws₃ ≡ length (work32 .list)) (e-f₃ : length fs₃ ≡ length (facts .list))
-                    (into-f : PlanTried (bounds .list) (recs .list) (ops .list) (pairs .list) (targets .list) (sizes .it) (chain .it) (numbers fs₂) xs₂ ws₂ v (chain .it .f .0) (chain .it .t .0) (q .inside) n xs₃ ws₃ j × (numbers fs₃ ≡ numbers fs₂)) where
+                    (into-f : PlanTried (bounds .list) (recs .list) (ops .list) (pairs .list) (targets .list) (sizes .it) chain (numbers fs₂) xs₂ ws₂ v (chain .f .0) (chain .t .0) (q .inside) n xs₃ ws₃ j × (numbers fs₃ ≡ numbers fs₂)) where
                   abbrev found-args : List (Arg 𝓤 H A)
-                  found-args = pass-data 𝓤 H A W block-data start ∷ pass-data 𝓤 H A W chain-data chain ∷ pass-number 𝓤 H A W w64 (q .inside) inside-fits ∷ pass-number 𝓤 H A W w64 n n-fits ∷ pass-number 𝓤 H A W w32 k k-fits ∷ pass-number 𝓤 H A W w32 j j-fits ∷ []
+                  found-args = pass-struct 𝓤 H A W B.the-type B′.the-plain x (B′.lowered x) x-is ∷ pass-struct 𝓤 H A W K.the-type K′.the-plain chain (K′.lowered chain) chain-is ∷ pass-number 𝓤 H A W w64 (q .inside) inside-fits ∷ pass-number 𝓤 H A W w64 n n-fits ∷ pass-number 𝓤 H A W w32 k k-fits ∷ pass-number 𝓤 H A W w32 j j-fits ∷ []
 
                   abbrev Found-says : MaybeMove → Lasts 𝓤 H A found-args → Type 0
-                  Found-says r y = r ≡ found (start .it) (chain .it) (q .inside) n k j
+                  Found-says r y = r ≡ found x chain (q .inside) n k j
 
                   found-call : ent 𝓤 (⋆ 𝓤 H A (G.hads 𝓤 H A found-args)) (H .⇛ (C #trial·block·found (G.flat 𝓤 H A found-args) (G.Then 𝓤 H A W found-args Y.the-row Found-says)))
                   found-call = calls-of 𝓤 H A W C fm #trial·block·found (Founds 𝓤 H A mem run) known-found found-args (λ g. ((G.lfts 𝓤 H A found-args g, G.shares 𝓤 H A found-args, tt, G.values 𝓤 H A found-args g, G.machs 𝓤 H A found-args), tt)) (λ g. refl)
                       (λ g. qed W (raw (G.tokens 𝓤 H A found-args g) ∷ ‵ (G.owns 𝓤 H A found-args g) ∷ []) ∵ join ! $ frame ! $ done !) Y.the-row Found-says (λ g w. id⊢ 𝓤 _)
 
-                  followed : {r : MaybeMove} → r ≡ found (start .it) (chain .it) (q .inside) n k j → Followed (bounds .list) (recs .list) (ops .list) (pairs .list) (targets .list) (replay .list) (sizes .it) (start .it .0) (chain .it) (work64 .list) (work32 .list) xs₃ ws₃ r
-                  followed e = subst (Followed (bounds .list) (recs .list) (ops .list) (pairs .list) (targets .list) (replay .list) (sizes .it) (start .it .0) (chain .it) (work64 .list) (work32 .list) xs₃ ws₃) (sym e)
-                      (law.followed (facts .list) q fs₂ (start .it) refl fs₃ (ready .1) (ready .2) learnt e-f asked into-t e-f₂ (subst (λ (i : ℕ). PlanTried (bounds .list) (recs .list) (ops .list) (pairs .list) (targets .list) (sizes .it) (chain .it) (numbers fs₂) xs₂ ws₂ i (chain .it .f .0) (chain .it .t .0) (q .inside) n xs₃ ws₃ j × (numbers fs₃ ≡ numbers fs₂)) v-is into-f))
+                  followed : {r : MaybeMove} → r ≡ found x chain (q .inside) n k j → Followed (bounds .list) (recs .list) (ops .list) (pairs .list) (targets .list) (replay .list) (sizes .it) (x .0) chain (work64 .list) (work32 .list) xs₃ ws₃ r
+                  followed e = subst (Followed (bounds .list) (recs .list) (ops .list) (pairs .list) (targets .list) (replay .list) (sizes .it) (x .0) chain (work64 .list) (work32 .list) xs₃ ws₃) (sym e)
+                      (law.followed (facts .list) q fs₂ x refl fs₃ (ready .1) (ready .2) learnt e-f asked into-t e-f₂ (subst (λ (i : ℕ). PlanTried (bounds .list) (recs .list) (ops .list) (pairs .list) (targets .list) (sizes .it) chain (numbers fs₂) xs₂ ws₂ i (chain .f .0) (chain .t .0) (q .inside) n xs₃ ws₃ j × (numbers fs₃ ≡ numbers fs₂)) v-is into-f))
 
                   -- the move, and the answer; nothing is handed over, ops an operand's local stands one place higher
                   finds : ent 𝓤 (⋆ 𝓤 H A (At xs₃ ws₃ fs₃ (vint w64 n ∷ O′.lowered q ∷ vint w32 k ∷ vint w32 v ∷ vint w32 j ∷ []))) (Wp 𝓤 H C Λ En body.t-24 (atReturn 𝓤 H En Post))
                   finds =
                       qed W (At xs₃ ws₃ fs₃ (vint w64 n ∷ O′.lowered q ∷ vint w32 k ∷ vint w32 v ∷ vint w32 j ∷ [])) ∵ exec ! C Λ En body.t-24 (atRet En Post) $
-                      calls-with {Γ = At xs₃ ws₃ fs₃ (vint w64 n ∷ O′.lowered q ∷ vint w32 k ∷ vint w32 v ∷ vint w32 j ∷ [])} found-args Y.the-row Found-says fm found-call ! (loads ! 83 (12 ∷ 13 ∷ []) (take 2 (G.flat 𝓤 H A found-args)) refl (and-then ! (load ! (from ! (fld ! refl (stop !))) (look-in ! 53 (sub ! 0 refl (whole !)))) (and-then ! (load ! (from ! (stop !)) (look ! 55 refl)) (and-then ! (load ! (from ! (stop !)) (look ! 51 refl)) (and-then ! (load ! (from ! (stop !)) (look ! 47 refl)) (no-more !)))))) (λ w r y.
-                      land ! (from ! (stop !)) (init ! 82 refl (EL.lawful Y.the-type Y′.the-laws 𝓤 H A W tt .typed (r .0) (w ∷ []) (y .0) .0)) $ returns ! (look ! 82 refl) $
+                      calls-with {Γ = At xs₃ ws₃ fs₃ (vint w64 n ∷ O′.lowered q ∷ vint w32 k ∷ vint w32 v ∷ vint w32 j ∷ [])} found-args Y.the-row Found-says fm found-call ! (and-then ! (load ! (from ! (fld ! refl (stop !))) (look-in ! 57 (sub ! 0 refl (whole !)))) (and-then ! (load ! (from ! (fld ! refl (stop !))) (look-in ! 57 (sub ! 1 refl (whole !)))) (and-then ! (load ! (from ! (fld ! refl (stop !))) (look-in ! 53 (sub ! 0 refl (whole !)))) (and-then ! (load ! (from ! (stop !)) (look ! 55 refl)) (and-then ! (load ! (from ! (stop !)) (look ! 51 refl)) (and-then ! (load ! (from ! (stop !)) (look ! 47 refl)) (no-more !))))))) (λ w r y.
+                      land ! (from ! (stop !)) (init ! 80 refl (EL.lawful Y.the-type Y′.the-laws 𝓤 H A W tt .typed (r .0) (w ∷ []) (y .0) .0)) $ returns ! (look ! 80 refl) $
                       frees-all (Held xs₃ ws₃ fs₃) En (has w ∷ filled (given ++ (vint w64 n ∷ O′.lowered q ∷ vint w32 k ∷ vint w32 v ∷ vint w32 j ∷ []))) ! (by ! (exits xs₃ ws₃ fs₃ (r .0) w (y .0) e-x₃ e-w₃ e-f₃ (followed (y .1 .0)))))
 
                 -- the plan for f; nine items are handed over
                 tries-f : ent 𝓤 (⋆ 𝓤 H A (At xs₂ ws₂ fs₂ (vint w64 n ∷ O′.lowered q ∷ vint w32 k ∷ vint w32 v ∷ []))) (Wp 𝓤 H C Λ En body.t-17 (atReturn 𝓤 H En Post))
                 tries-f =
                     qed W (At xs₂ ws₂ fs₂ (vint w64 n ∷ O′.lowered q ∷ vint w32 k ∷ vint w32 v ∷ [])) ∵ exec ! C Λ En body.t-17 (atRet En Post) $
-                    lends-on ! 82 work64 refl refl $ lends-on ! 82 work32 refl refl $ lends-on ! 82 facts refl refl $ move ! (0 ∷ 1 ∷ 2 ∷ 3 ∷ 4 ∷ 5 ∷ 7 ∷ 8 ∷ 9 ∷ []) $
-                    calls-with {Γ = Rest (sees 5 tt u32 ∷ []) (replay, tt) tt (vint w64 n ∷ O′.lowered q ∷ vint w32 k ∷ vint w32 v ∷ []) (room ∷ room ∷ room ∷ room ∷ room ∷ room ∷ room ∷ room ∷ room ∷ room ∷ room ∷ room ∷ room ∷ lent-locals)} f-args u32 F-says fm f-call ! (loads ! 74 (1 ∷ 2 ∷ 3 ∷ 4 ∷ 5 ∷ 6 ∷ 32 ∷ 34 ∷ 36 ∷ 11 ∷ 13 ∷ 17 ∷ []) (take 12 (G.flat 𝓤 H A f-args)) refl (and-then ! (load ! (from ! (fld ! refl (stop !))) (look-in ! 48 (sub ! 8 refl (whole !)))) (and-then ! (load ! (from ! (fld ! refl (stop !))) (look-in ! 48 (sub ! 7 refl (whole !)))) (and-then ! (load ! (from ! (fld ! refl (stop !))) (look-in ! 44 (sub ! 0 refl (whole !)))) (and-then ! (load ! (from ! (stop !)) (look ! 46 refl)) (no-more !)))))) (λ w r y.
-                    land ! (from ! (stop !)) (init ! 46 refl (uint-lawful 𝓤 H A W w32 .typed (r .0) (w ∷ []) (y .0) .0)) $ rewrite ! 46 (λ (u : Val). ‵ (fat fullShare (tyInt w32) (l 18) 0 u)) (ap only (y .0 .0)) refl $ move ! (0 ∷ 1 ∷ 2 ∷ 3 ∷ 4 ∷ 5 ∷ 9 ∷ []) $
+                    lends-on ! 80 work64 refl refl $ lends-on ! 80 work32 refl refl $ lends-on ! 80 facts refl refl $ move ! (0 ∷ 1 ∷ 2 ∷ 3 ∷ 4 ∷ 5 ∷ 7 ∷ 8 ∷ 9 ∷ []) $
+                    calls-with {Γ = Rest (sees 5 tt u32 ∷ []) (replay, tt) tt (vint w64 n ∷ O′.lowered q ∷ vint w32 k ∷ vint w32 v ∷ []) (room ∷ room ∷ room ∷ room ∷ room ∷ room ∷ room ∷ room ∷ room ∷ room ∷ room ∷ room ∷ room ∷ lent-locals)} f-args u32 F-says fm f-call ! (loads ! 72 (1 ∷ 2 ∷ 3 ∷ 4 ∷ 5 ∷ 6 ∷ 31 ∷ 33 ∷ 35 ∷ 11 ∷ []) (take 10 (G.flat 𝓤 H A f-args)) refl (and-then ! (load ! (from ! (fld ! refl (stop !))) (look-in ! 48 (sub ! 1 refl (whole !)))) (and-then ! (load ! (from ! (stop !)) (look ! 40 refl)) (and-then ! (load ! (from ! (fld ! refl (fld ! refl (stop !)))) (look-in ! 48 (sub ! 8 refl (sub ! 1 refl (whole !))))) (and-then ! (load ! (from ! (fld ! refl (fld ! refl (stop !)))) (look-in ! 48 (sub ! 7 refl (sub ! 1 refl (whole !))))) (and-then ! (load ! (from ! (fld ! refl (stop !))) (look-in ! 44 (sub ! 0 refl (whole !)))) (and-then ! (load ! (from ! (stop !)) (look ! 46 refl)) (no-more !)))))))) (λ w r y.
+                    land ! (from ! (stop !)) (init ! 46 refl (uint-lawful 𝓤 H A W w32 .typed (r .0) (w ∷ []) (y .0) .0)) $ rewrite ! 46 (λ (u : Val). ‵ (fat fullShare (tyInt w32) (l 17) 0 u)) (ap only (y .0 .0)) refl $ move ! (0 ∷ 1 ∷ 2 ∷ 3 ∷ 4 ∷ 5 ∷ 9 ∷ []) $
                     forget ! 20 refl $ forget ! 18 refl $ forget ! 16 refl $ forget ! 14 refl $ forget ! 12 refl $ forget ! 10 refl $
                     by ! (finds (r .0) (y .0 .1) (r .1 .1 .1 .1 .1 .1 .1 .0) (r .1 .1 .1 .1 .1 .1 .1 .1 .0) (r .1 .1 .1 .1 .1 .1 .1 .1 .1 .0) (y .1 .1 .1 .1 .1 .1 .1 .1 .0 ∙ e-x₂) (y .1 .1 .1 .1 .1 .1 .1 .1 .1 .0 ∙ e-w₂) (y .1 .1 .1 .1 .1 .1 .1 .1 .1 .1 .0 ∙ (e-f₂ ∙ e-f)) (y .1 .0)))
 
@@ -295,15 +314,15 @@ module _ {M : Type 1} (𝓤 : URA M) (H : Heap 𝓤) (A : Atoms 𝓤) (W : Given
               elses =
                   qed W (At xs₂ ws₂ fs₂ (vint w64 n ∷ O′.lowered q ∷ vint w32 k ∷ [])) ∵ exec ! C Λ En body.t-16 (atRet En Post) $
                   calls-with {Γ = At xs₂ ws₂ fs₂ (vint w64 n ∷ O′.lowered q ∷ vint w32 k ∷ [])} else-args u32 Else-says fm else-call ! (and-then ! (load ! (from ! (stop !)) (look ! 51 refl)) (and-then ! (load ! (from ! (fld ! refl (stop !))) (look-in ! 53 (sub ! 1 refl (whole !)))) (no-more !))) (λ w r y.
-                  land ! (from ! (stop !)) (init ! 48 refl (uint-lawful 𝓤 H A W w32 .typed (r .0) (w ∷ []) (y .0) .0)) $ rewrite ! 48 (λ (u : Val). ‵ (fat fullShare (tyInt w32) (l 17) 0 u)) (ap only (y .0 .0)) refl $ by ! (tries-f (r .0) (y .0 .1) (y .1 .0)))
+                  land ! (from ! (stop !)) (init ! 48 refl (uint-lawful 𝓤 H A W w32 .typed (r .0) (w ∷ []) (y .0) .0)) $ rewrite ! 48 (λ (u : Val). ‵ (fat fullShare (tyInt w32) (l 16) 0 u)) (ap only (y .0 .0)) refl $ by ! (tries-f (r .0) (y .0 .1) (y .1 .0)))
 
             -- the plan for t; nine items are handed over
             tries-t : ent 𝓤 (⋆ 𝓤 H A (At xs₁ ws₁ fs₁ (vint w64 n ∷ O′.lowered q ∷ []))) (Wp 𝓤 H C Λ En body.t-9 (atReturn 𝓤 H En Post))
             tries-t =
                 qed W (At xs₁ ws₁ fs₁ (vint w64 n ∷ O′.lowered q ∷ [])) ∵ exec ! C Λ En body.t-9 (atRet En Post) $
-                lends-on ! 82 work64 refl refl $ lends-on ! 82 work32 refl refl $ lends-on ! 82 facts refl refl $ move ! (0 ∷ 1 ∷ 2 ∷ 3 ∷ 4 ∷ 5 ∷ 7 ∷ 8 ∷ 9 ∷ []) $
-                calls-with {Γ = Rest (sees 5 tt u32 ∷ []) (replay, tt) tt (vint w64 n ∷ O′.lowered q ∷ []) (room ∷ room ∷ room ∷ room ∷ room ∷ room ∷ room ∷ room ∷ room ∷ lent-locals)} t-args u32 T-says fm t-call ! (loads ! 74 (1 ∷ 2 ∷ 3 ∷ 4 ∷ 5 ∷ 6 ∷ 26 ∷ 28 ∷ 30 ∷ 11 ∷ 13 ∷ []) (take 11 (G.flat 𝓤 H A t-args)) refl (and-then ! (load ! (from ! (fld ! refl (stop !))) (look-in ! 44 (sub ! 1 refl (whole !)))) (and-then ! (load ! (from ! (fld ! refl (stop !))) (look-in ! 48 (sub ! 7 refl (whole !)))) (and-then ! (load ! (from ! (fld ! refl (stop !))) (look-in ! 48 (sub ! 8 refl (whole !)))) (and-then ! (load ! (from ! (fld ! refl (stop !))) (look-in ! 44 (sub ! 0 refl (whole !)))) (and-then ! (load ! (from ! (stop !)) (look ! 46 refl)) (no-more !))))))) (λ w r y.
-                land ! (from ! (stop !)) (init ! 50 refl (uint-lawful 𝓤 H A W w32 .typed (r .0) (w ∷ []) (y .0) .0)) $ rewrite ! 50 (λ (u : Val). ‵ (fat fullShare (tyInt w32) (l 16) 0 u)) (ap only (y .0 .0)) refl $ move ! (0 ∷ 1 ∷ 2 ∷ 3 ∷ 4 ∷ 5 ∷ 9 ∷ []) $
+                lends-on ! 80 work64 refl refl $ lends-on ! 80 work32 refl refl $ lends-on ! 80 facts refl refl $ move ! (0 ∷ 1 ∷ 2 ∷ 3 ∷ 4 ∷ 5 ∷ 7 ∷ 8 ∷ 9 ∷ []) $
+                calls-with {Γ = Rest (sees 5 tt u32 ∷ []) (replay, tt) tt (vint w64 n ∷ O′.lowered q ∷ []) (room ∷ room ∷ room ∷ room ∷ room ∷ room ∷ room ∷ room ∷ room ∷ lent-locals)} t-args u32 T-says fm t-call ! (loads ! 72 (1 ∷ 2 ∷ 3 ∷ 4 ∷ 5 ∷ 6 ∷ 25 ∷ 27 ∷ 29 ∷ 11 ∷ []) (take 10 (G.flat 𝓤 H A t-args)) refl (and-then ! (load ! (from ! (fld ! refl (stop !))) (look-in ! 48 (sub ! 1 refl (whole !)))) (and-then ! (load ! (from ! (fld ! refl (stop !))) (look-in ! 44 (sub ! 1 refl (whole !)))) (and-then ! (load ! (from ! (fld ! refl (fld ! refl (stop !)))) (look-in ! 48 (sub ! 7 refl (sub ! 1 refl (whole !))))) (and-then ! (load ! (from ! (fld ! refl (fld ! refl (stop !)))) (look-in ! 48 (sub ! 8 refl (sub ! 1 refl (whole !))))) (and-then ! (load ! (from ! (fld ! refl (stop !))) (look-in ! 44 (sub ! 0 refl (whole !)))) (and-then ! (load ! (from ! (stop !)) (look ! 46 refl)) (no-more !)))))))) (λ w r y.
+                land ! (from ! (stop !)) (init ! 50 refl (uint-lawful 𝓤 H A W w32 .typed (r .0) (w ∷ []) (y .0) .0)) $ rewrite ! 50 (λ (u : Val). ‵ (fat fullShare (tyInt w32) (l 15) 0 u)) (ap only (y .0 .0)) refl $ move ! (0 ∷ 1 ∷ 2 ∷ 3 ∷ 4 ∷ 5 ∷ 9 ∷ []) $
                 forget ! 32 refl $ forget ! 30 refl $ forget ! 28 refl $ forget ! 26 refl $ forget ! 24 refl $ forget ! 22 refl $
                 by ! (elses (r .0) (y .0 .1) (r .1 .1 .1 .1 .1 .1 .1 .0) (r .1 .1 .1 .1 .1 .1 .1 .1 .0) (r .1 .1 .1 .1 .1 .1 .1 .1 .1 .0) (y .1 .1 .1 .1 .1 .1 .1 .1 .0 ∙ e-x) (y .1 .1 .1 .1 .1 .1 .1 .1 .1 .0 ∙ e-w) (y .1 .1 .1 .1 .1 .1 .1 .1 .1 .1 .0) (y .1 .0)))
 
@@ -311,16 +330,16 @@ module _ {M : Type 1} (𝓤 : URA M) (H : Heap 𝓤) (A : Atoms 𝓤) (W : Given
           wants : ent 𝓤 (⋆ 𝓤 H A (At xs₁ ws₁ fs₁ (vint w64 n ∷ []))) (Wp 𝓤 H C Λ En body.t-8 (atReturn 𝓤 H En Post))
           wants =
               qed W (At xs₁ ws₁ fs₁ (vint w64 n ∷ [])) ∵ exec ! C Λ En body.t-8 (atRet En Post) $ move ! (1 ∷ 6 ∷ []) $
-              calls-with {Γ = Rest (one 0 tt Tab ∷ sees 2 tt u32 ∷ sees 3 tt u32 ∷ sees 4 tt u32 ∷ too 2 tt u32 ∷ lends 6 tt u64 ∷ lends 7 tt u32 ∷ lends 8 tt T.the-row ∷ []) (tab, (recs, (ops, (pairs, (targets, (work64, (work32, (facts, tt)))))))) (xs₁, (ws₁, (fs₁, tt))) (vint w64 n ∷ []) []} want-args O.the-row Want-says fm want-call ! (loads ! 81 (2 ∷ 7 ∷ 12 ∷ 13 ∷ []) (G.flat 𝓤 H A want-args) refl (no-more !)) (λ w r y.
-              land ! (from ! (stop !)) (init ! 52 refl (LL.lawful O.the-type O′.the-laws 𝓤 H A W .typed (r .0) (w ∷ []) (y .0) .0)) $ rewrite ! 52 (λ (u : Val). ‵ (fat fullShare O′.mir (l 15) 0 u)) (ap only (O′.lowers .val-is (r .0) (w ∷ []) (y .0))) refl $ move ! (2 ∷ 0 ∷ 3 ∷ 4 ∷ 5 ∷ 6 ∷ 1 ∷ []) $
+              calls-with {Γ = Rest (one 0 tt Tab ∷ sees 2 tt u32 ∷ sees 3 tt u32 ∷ sees 4 tt u32 ∷ too 2 tt u32 ∷ lends 6 tt u64 ∷ lends 7 tt u32 ∷ lends 8 tt T.the-row ∷ []) (tab, (recs, (ops, (pairs, (targets, (work64, (work32, (facts, tt)))))))) (xs₁, (ws₁, (fs₁, tt))) (vint w64 n ∷ []) []} want-args O.the-row Want-says fm want-call ! (loads ! 79 (2 ∷ 7 ∷ []) (take 2 (G.flat 𝓤 H A want-args)) refl (and-then ! (load ! (from ! (fld ! refl (stop !))) (look-in ! 55 (sub ! 0 refl (whole !)))) (and-then ! (load ! (from ! (fld ! refl (stop !))) (look-in ! 55 (sub ! 1 refl (whole !)))) (no-more !)))) (λ w r y.
+              land ! (from ! (stop !)) (init ! 52 refl (LL.lawful O.the-type O′.the-laws 𝓤 H A W .typed (r .0) (w ∷ []) (y .0) .0)) $ rewrite ! 52 (λ (u : Val). ‵ (fat fullShare O′.mir (l 14) 0 u)) (ap only (O′.lowers .val-is (r .0) (w ∷ []) (y .0))) refl $ move ! (2 ∷ 0 ∷ 3 ∷ 4 ∷ 5 ∷ 6 ∷ 1 ∷ []) $
               cut (At xs₁ ws₁ fs₁ (vint w64 n ∷ O′.lowered (r .0) ∷ [])) (At xs₁ ws₁ fs₁ (vint w64 n ∷ O′.lowered (r .0) ∷ [])) [] (id⊢ 𝓤 _) $ by ! (tries-t (r .0) (subst (Is O.the-row (r .0)) (O′.lowers .val-is (r .0) (w ∷ []) (y .0)) (y .0)) (y .1 .0)))
 
         abbrev learn-args : List (Arg 𝓤 H A)
         learn-args = pass-one 𝓤 H A W 9 κs qs 0 tt tab ∷ pass-slice 𝓤 H A W 9 κs qs 1 tt bounds ∷ pass-slice 𝓤 H A W 9 κs qs 2 tt recs ∷ pass-slice 𝓤 H A W 9 κs qs 3 tt ops ∷ pass-mut 𝓤 H A W 9 κs qs 6 tt work64 4 (work64 .list) refl ∷ pass-mut 𝓤 H A W 9 κs qs 7 tt work32 5 (work32 .list) refl ∷ pass-mut 𝓤 H A W 9 κs qs 8 tt facts 6 (facts .list) refl
-            ∷ pass-data 𝓤 H A W sizes-data sizes ∷ pass-data 𝓤 H A W chain-data chain ∷ []
+            ∷ pass-data 𝓤 H A W sizes-data sizes ∷ pass-struct 𝓤 H A W K.the-type K′.the-plain chain (K′.lowered chain) chain-is ∷ []
 
         abbrev Learn-says : ℕ → Lasts 𝓤 H A learn-args → Type 0
-        Learn-says r y = Learnt (bounds .list) (recs .list) (ops .list) (sizes .it) (chain .it) (work64 .list) (work32 .list) (y .1 .1 .1 .1 .0) (y .1 .1 .1 .1 .1 .0) (y .1 .1 .1 .1 .1 .1 .0) r
+        Learn-says r y = Learnt (bounds .list) (recs .list) (ops .list) (sizes .it) chain (work64 .list) (work32 .list) (y .1 .1 .1 .1 .0) (y .1 .1 .1 .1 .1 .0) (y .1 .1 .1 .1 .1 .1 .0) r
 
         learn-call : ent 𝓤 (⋆ 𝓤 H A (G.hads 𝓤 H A learn-args)) (H .⇛ (C #trial·learn·learn (G.flat 𝓤 H A learn-args) (G.Then 𝓤 H A W learn-args usize Learn-says)))
         learn-call = calls-of 𝓤 H A W C fm #trial·learn·learn (Learns 𝓤 H A mem run) known-learn learn-args (λ g. ((G.lfts 𝓤 H A learn-args g, G.shares 𝓤 H A learn-args, tt, G.values 𝓤 H A learn-args g, G.machs 𝓤 H A learn-args), tt)) (λ g. refl)
@@ -329,10 +348,10 @@ module _ {M : Type 1} (𝓤 : URA M) (H : Heap 𝓤) (A : Atoms 𝓤) (W : Given
         -- the MIR, once the parameters are in their locals: [the locals; what is held], and then [what is held; the locals]. Seven items are handed over
         begins : ent 𝓤 (⋆ 𝓤 H A (cells 𝓤 H En (room ∷ filled given) ++ Held (work64 .list) (work32 .list) (facts .list))) (Wp 𝓤 H C Λ En body.t-1 (atReturn 𝓤 H En Post))
         begins =
-            qed W (cells 𝓤 H En (room ∷ filled given) ++ Held (work64 .list) (work32 .list) (facts .list)) ∵ exec ! C Λ En body.t-1 (atRet En Post) $ move ! (74 ∷ 75 ∷ 76 ∷ 77 ∷ 78 ∷ 79 ∷ 80 ∷ 81 ∷ 82 ∷ 83 ∷ []) $
-            lends-on ! 82 work64 refl refl $ lends-on ! 82 work32 refl refl $ lends-on ! 82 facts refl refl $ move ! (0 ∷ 1 ∷ 2 ∷ 3 ∷ 7 ∷ 8 ∷ 9 ∷ []) $
-            calls-with {Γ = Rest (sees 4 tt u32 ∷ too 2 tt u32 ∷ sees 5 tt u32 ∷ []) (pairs, (targets, (replay, tt))) tt [] (room ∷ room ∷ room ∷ room ∷ room ∷ lent-locals)} learn-args usize Learn-says fm learn-call ! (loads ! 76 (1 ∷ 2 ∷ 3 ∷ 4 ∷ 20 ∷ 22 ∷ 24 ∷ 11 ∷ 13 ∷ []) (G.flat 𝓤 H A learn-args) refl (no-more !)) (λ w r y.
-            land ! (from ! (stop !)) (init ! 54 refl (uint-lawful 𝓤 H A W w64 .typed (r .0) (w ∷ []) (y .0) .0)) $ rewrite ! 54 (λ (u : Val). ‵ (fat fullShare (tyInt w64) (l 14) 0 u)) (ap only (y .0 .0)) refl $ move ! (0 ∷ 1 ∷ 2 ∷ 3 ∷ 7 ∷ 8 ∷ 9 ∷ []) $
+            qed W (cells 𝓤 H En (room ∷ filled given) ++ Held (work64 .list) (work32 .list) (facts .list)) ∵ exec ! C Λ En body.t-1 (atRet En Post) $ move ! (72 ∷ 73 ∷ 74 ∷ 75 ∷ 76 ∷ 77 ∷ 78 ∷ 79 ∷ 80 ∷ 81 ∷ []) $
+            lends-on ! 80 work64 refl refl $ lends-on ! 80 work32 refl refl $ lends-on ! 80 facts refl refl $ move ! (0 ∷ 1 ∷ 2 ∷ 3 ∷ 7 ∷ 8 ∷ 9 ∷ []) $
+            calls-with {Γ = Rest (sees 4 tt u32 ∷ too 2 tt u32 ∷ sees 5 tt u32 ∷ []) (pairs, (targets, (replay, tt))) tt [] (room ∷ room ∷ room ∷ room ∷ room ∷ lent-locals)} learn-args usize Learn-says fm learn-call ! (loads ! 74 (1 ∷ 2 ∷ 3 ∷ 4 ∷ 19 ∷ 21 ∷ 23 ∷ 11 ∷ []) (take 8 (G.flat 𝓤 H A learn-args)) refl (and-then ! (load ! (from ! (fld ! refl (stop !))) (look-in ! 50 (sub ! 1 refl (whole !)))) (no-more !))) (λ w r y.
+            land ! (from ! (stop !)) (init ! 54 refl (uint-lawful 𝓤 H A W w64 .typed (r .0) (w ∷ []) (y .0) .0)) $ rewrite ! 54 (λ (u : Val). ‵ (fat fullShare (tyInt w64) (l 13) 0 u)) (ap only (y .0 .0)) refl $ move ! (0 ∷ 1 ∷ 2 ∷ 3 ∷ 7 ∷ 8 ∷ 9 ∷ []) $
             forget ! 44 refl $ forget ! 42 refl $ forget ! 40 refl $ forget ! 38 refl $ forget ! 36 refl $ forget ! 34 refl $
             by ! (wants (r .0) (y .0 .1) (r .1 .1 .1 .1 .1 .0) (r .1 .1 .1 .1 .1 .1 .0) (r .1 .1 .1 .1 .1 .1 .1 .0) (y .1 .1 .1 .1 .1 .1 .0) (y .1 .1 .1 .1 .1 .1 .1 .0) (y .1 .1 .1 .1 .1 .1 .1 .1 .0) (y .1 .0)))
 
