@@ -27,11 +27,11 @@ use Rattle.summary.specs.Passes.{Row}
 use Rattle.plan.specs.declared.settle.Cycle.{Cycle}
 use Rattle.flow.specs.Needed.{Shows, Needed}
 use Rattle.sizes.specs.declared.Sizes.{Sizes}
+use Rattle.trial.specs.declared.target.Goal.{Goal}
 use Rattle.trial.specs.declared.target.Sunk.{Sunk}
 use Rattle.sizes.specs.Parts.{needed-at, stamps-at, preds-at}
 use Rattle.words.specs.Bits.{width}
 use Rattle.chainwords.specs.Work.{at-needed, at-regs, Held, Lists, Tabled}
-use Rattle.inst.specs.declared.index.BlockId.{BlockId}
 use Rattle.trial.specs.Target.{from-start, taken, Aiming, Aimed}
 use Rattle.chainwords.proofs.Standing.{wrote-held}
 use Rattle.chainwords.proofs.Rooms.{room-of, row-before, Same, held-same, preds-lent}
@@ -99,43 +99,41 @@ preds-from s work32 P e h = subst (λ (p : ℕ). Preds P (take (length work32 - 
 pub record Spotted (s : Sizes) (c : Chain) (work32 : List ℕ) (into : ℕ) (r : Bool) : Type 0 where
   pub is : (P : Picture) → Preds P (take (length work32 - (8000 + s .lent)) (drop (8000 + s .lent) work32)) (s .blocks) → r ≡ (not (mem into (blocks-of c)) && same (preds P into) (last-of c ∷ []))
 
-module _ {bounds recs pairs targets : List ℕ} {s : Sizes} {c : Chain} {work64 work32 : List ℕ} {least into other m n : ℕ} where
+module _ {bounds recs pairs targets : List ℕ} {s : Sizes} {c : Chain} {work64 work32 : List ℕ} {g : Goal} where
   -- nothing to do
-  pub aim-off : {q : Bool} {o st : ℕ} {i : BlockId} {z : Cycle} → Spotted s c work32 into q → (not (eqb least 0) && q) ≡ false → o ≡ needed-at s → st ≡ stamps-at s → z ≡ from-start o st 0 0 1 → i .0 ≡ into
-      → Aimed bounds recs pairs targets s c work64 work32 least into other m n work64 (record { least = 0; into = i; end = 8000; sweeps = z })
-  aim-off {q} f e eo es ez ei = record {
+  pub aim-off : {q : Bool} {o st : ℕ} {z : Cycle} → Spotted s c work32 (g .into .0) q → (not (eqb (g .least) 0) && q) ≡ false → o ≡ needed-at s → st ≡ stamps-at s → z ≡ from-start o st 0 0 1
+      → Aimed bounds recs pairs targets s c work64 work32 g work64 (record { least = 0; end = 8000; sweeps = z })
+  aim-off {q} f e eo es ez = record {
     size64 = refl;
-    into-is = ei;
     held = λ P G ops l t h. h;
     off = λ _. (ez ∙ ap₂ (λ (x y : ℕ). from-start x y 0 0 1) eo es, refl);
     no-target = λ _ some? P G ops l h.
         sym (f .is P (preds-lent work32 l (h .begun .preds)))
-        ∙ subst (λ (b : Bool). (not b && q) ≡ false) (ne-eqb least 0 (λ y. omega arith)) e;
+        ∙ subst (λ (b : Bool). (not b && q) ≡ false) (ne-eqb (g .least) 0 (λ y. omega arith)) e;
     on = λ y. absurd (omega arith);
     target = λ y. absurd (omega arith);
     row = λ y. absurd (omega arith);
   }
 
   -- a target
-  pub aim-on : {q : Bool} {w o st e : ℕ} {h : BlockId} {z : Cycle} {work64′ : List ℕ} → Aiming bounds recs pairs targets s c work64 work32 into other → Spotted s c work32 into q → (not (eqb least 0) && q) ≡ true
-      → w ≡ width (s .regs) → o ≡ needed-at s → st ≡ stamps-at s → e ≡ 8000 + s .regs → Needed bounds recs pairs targets w into other work64 work64′ → z ≡ from-start o st m n least → h .0 ≡ into
-      → Aimed bounds recs pairs targets s c work64 work32 least into other m n work64′ (record { least = least; into = h; end = e; sweeps = z })
-  aim-on {q} {w} {o} {st} {e} {h} {z} {work64′} p f y ew eo es ee g ez eh =
+  pub aim-on : {q : Bool} {w o st e : ℕ} {z : Cycle} {work64′ : List ℕ} → Aiming bounds recs pairs targets s c work64 work32 g → Spotted s c work32 (g .into .0) q → (not (eqb (g .least) 0) && q) ≡ true
+      → w ≡ width (s .regs) → o ≡ needed-at s → st ≡ stamps-at s → e ≡ 8000 + s .regs → Needed bounds recs pairs targets w (g .into .0) (g .other .0) work64 work64′ → z ≡ from-start o st (g .inside) (g .places) (g .least)
+      → Aimed bounds recs pairs targets s c work64 work32 g work64′ (record { least = g .least; end = e; sweeps = z })
+  aim-on {q} {w} {o} {st} {e} {z} {work64′} p f y ew eo es ee put ez =
       record {
-        size64 = g .size;
-        into-is = eh;
+        size64 = put .size;
         held = λ P G ops l t u.
-            let low : into < nblocks P = subst (λ (x : ℕ). into < x) (sym (p .lists .blocks-are) ∙ l .blocks-are) (p .into-block) in
-            held-same (accepted P (length work64) (length work32) records (l .accepted)) (same-needed P l low g ew) u;
+            let low : g .into .0 < nblocks P = subst (λ (x : ℕ). g .into .0 < x) (sym (p .lists .blocks-are) ∙ l .blocks-are) (p .into-block) in
+            held-same (accepted P (length work64) (length work32) records (l .accepted)) (same-needed P l low put ew) u;
         off = λ x. absurd (some? x);
         no-target = λ x. absurd (some? x);
-        on = λ _. (refl, ez ∙ ap₂ (λ (x v : ℕ). from-start x v m n least) eo es, ee);
-        target = λ _ P G ops l u. sym (f .is P (preds-lent work32 l (u .begun .preds))) ∙ right-true (not (eqb least 0)) q y;
-        row = λ _ P G ops l t u. row-here P G l t u g ew;
+        on = λ _. (refl, ez ∙ ap₂ (λ (x v : ℕ). from-start x v (g .inside) (g .places) (g .least)) eo es, ee);
+        target = λ _ P G ops l u. sym (f .is P (preds-lent work32 l (u .begun .preds))) ∙ right-true (not (eqb (g .least) 0)) q y;
+        row = λ _ P G ops l t u. row-here P G l t u put ew;
       }
     where
-      some? : least ≡ 0 → ⊥
-      some? = eqb-false least 0 (not-true (eqb least 0) (left-true (not (eqb least 0)) q y))
+      some? : g .least ≡ 0 → ⊥
+      some? = eqb-false (g .least) 0 (not-true (eqb (g .least) 0) (left-true (not (eqb (g .least) 0)) q y))
 
 -- ---- `taken`
 

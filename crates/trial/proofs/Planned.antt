@@ -1,4 +1,4 @@
--- `plan`: what it asks of its callees, and its answer: where there is nothing to do, where the set has too few members, and where the
+-- `try_target`: what it asks of its callees, and its answer: where there is nothing to do, where the set has too few members, and where the
 -- words stand for the plan. Assumes nothing.
 use mathlib.Core.Path.{_≡_, refl, sym, ap, ap₂, _∙_, subst}
 use mathlib.Core.Logic.{_⊎_, inl, inr, ⊎-elim}
@@ -14,7 +14,7 @@ use lib.Seq.{length-take-le}
 use Rattle.words.specs.Lists.{member, count}
 use Rattle.words.proofs.Bools.{T-true, true-T, not-true-is-false}
 use Rattle.words.proofs.Lists.{front-same, drop-more}
-use Rattle.model.specs.Picture.{Picture, nblocks, size}
+use Rattle.model.specs.Picture.{Picture, size}
 use Rattle.model.specs.Refusal.{records}
 use Rattle.model.specs.Analyse.{Facts, Fact, movable}
 use Rattle.model.specs.Legal.{fact-at, greatest}
@@ -33,6 +33,7 @@ use Rattle.summary.specs.Passes.{Ended, Row, Around, Greatest}
 use Rattle.plan.specs.Sweep.{marks}
 use Rattle.plan.specs.Cycle.{Choosable, Chose}
 use Rattle.sizes.specs.declared.Sizes.{Sizes}
+use Rattle.trial.specs.declared.target.Goal.{Goal}
 use Rattle.trial.specs.declared.target.Aim.{Aim}
 use Rattle.trial.specs.declared.target.Sunk.{Sunk}
 use Rattle.sizes.specs.Parts.{needed-at, stamps-at}
@@ -41,7 +42,7 @@ use Rattle.chainwords.specs.Work.{at-regs, at-stamps, chain-words, copied-words
 use Rattle.chainwords.specs.Puts as U
 use Rattle.chainwords.specs.Along.{Along, Marked, FromX, Numbered, Using, Lasts, Used}
 use Rattle.chains.specs.Chain.{chain-in}
-use Rattle.trial.specs.Target.{from-start, taken, Aiming, Aimed, Trying, PlanTried}
+use Rattle.trial.specs.Target.{from-start, taken, Aiming, Aimed, plan-toward, Trying, TargetTried}
 use Rattle.chainwords.proofs.Kept.{held-kept}
 use Rattle.chainwords.proofs.Rooms.{room, room-of, Same, held-same}
 use Rattle.chainwords.proofs.Telling.{facts-behind, facts-still}
@@ -104,12 +105,12 @@ some-or (suc k) = inr (omega arith)
 
 -- ---- before the set
 
-module _ {bounds recs ops pairs targets : List ℕ} {s : Sizes} {c : Chain} {w work64 work32 : List ℕ} {into other m n : ℕ} (t : Trying bounds recs ops pairs targets s c w work64 work32 into other m n) where
-  pub aiming : Aiming bounds recs pairs targets s c work64 work32 into other
+module _ {bounds recs ops pairs targets : List ℕ} {s : Sizes} {c : Chain} {w work64 work32 : List ℕ} {g : Goal} (t : Trying bounds recs ops pairs targets s c w work64 work32 g) where
+  pub aiming : Aiming bounds recs pairs targets s c work64 work32 g
   aiming = let p = t .planning in
       record { ops = ops; P = p .P; lists = p .lists; tabled = t .tabled; few = p .chained .sound .few; into-block = p .into-block; other-block = t .other-block }
 
-  module _ {least : ℕ} {work64₁ : List ℕ} {a : Aim} (d : Aimed bounds recs pairs targets s c work64 work32 least into other m n work64₁ a) where
+  module _ {work64₁ : List ℕ} {a : Aim} (d : Aimed bounds recs pairs targets s c work64 work32 g work64₁ a) where
     pub end-fits : (8000 ≤ a .end) × (a .end ≤ length work32)
     end-fits =
         let r = room (t .planning .lists) in
@@ -134,8 +135,8 @@ module _ {bounds recs ops pairs targets : List ℕ} {s : Sizes} {c : Chain} {w w
 
 -- ---- what `legal_set` asks
 
-module _ {bounds recs ops pairs targets : List ℕ} {s : Sizes} {c : Chain} {fs : List F.Fact} {work64 work32 : List ℕ} {into other m n : ℕ} (t : Trying bounds recs ops pairs targets s c (cells fs) work64 work32 into other m n) (long : n ≤ length fs) {least : ℕ} {work64₁ : List ℕ} {a : Aim}
-    (d : Aimed bounds recs pairs targets s c work64 work32 least into other m n work64₁ a) where
+module _ {bounds recs ops pairs targets : List ℕ} {s : Sizes} {c : Chain} {fs : List F.Fact} {work64 work32 : List ℕ} {g : Goal} (t : Trying bounds recs ops pairs targets s c (cells fs) work64 work32 g) (long : g .places ≤ length fs) {work64₁ : List ℕ} {a : Aim}
+    (d : Aimed bounds recs pairs targets s c work64 work32 g work64₁ a) where
   choosable-off : Choosable recs ops [] work64₁ fs (from-start (needed-at s) (stamps-at s) 0 0 1)
   choosable-off =
       let r = room (t .planning .lists) in
@@ -159,7 +160,7 @@ module _ {bounds recs ops pairs targets : List ℕ} {s : Sizes} {c : Chain} {fs 
         go = refl;
       }
 
-  choosable-on : 0 < a .least → Choosable recs ops (copied-words (t .planning .P) work32) work64₁ fs (from-start (needed-at s) (stamps-at s) m n least)
+  choosable-on : 0 < a .least → Choosable recs ops (copied-words (t .planning .P) work32) work64₁ fs (from-start (needed-at s) (stamps-at s) (g .inside) (g .places) (g .least))
   choosable-on h =
       let p = t .planning in
       let l = p .lists in
@@ -167,7 +168,7 @@ module _ {bounds recs ops pairs targets : List ℕ} {s : Sizes} {c : Chain} {fs 
       let r = room l in
       let rl = regs-long t d P l in
       record {
-        safe = subst (λ (k : ℕ). Safe recs ops (cells fs) n k) (sym rl) (rw (l .recs-are, l .ops-are) (p .along .safe));
+        safe = subst (λ (k : ℕ). Safe recs ops (cells fs) (g .places) k) (sym rl) (rw (l .recs-are, l .ops-are) (p .along .safe));
         brief = rw (l .recs-are, l .ops-are) (p .along .brief);
         ended = rw (l .recs-are) (p .along .ended);
         in-x = p .in-x;
@@ -191,24 +192,24 @@ module _ {bounds recs ops pairs targets : List ℕ} {s : Sizes} {c : Chain} {fs 
 
 -- ---- after the set
 
-module _ {bounds recs ops pairs targets : List ℕ} {s : Sizes} {c : Chain} {fs fs′ : List F.Fact} {work64 work32 : List ℕ} {into other m n : ℕ} (t : Trying bounds recs ops pairs targets s c (cells fs) work64 work32 into other m n) (long : n ≤ length fs) {least : ℕ} {work64₁ : List ℕ} {a : Aim}
-    (d : Aimed bounds recs pairs targets s c work64 work32 least into other m n work64₁ a) {work64₂ : List ℕ} {k : ℕ} (ch : Chose recs ops (take (a .end - 8000) (drop 8000 work32)) (a .sweeps) work64₁ fs work64₂ fs′ k) where
+module _ {bounds recs ops pairs targets : List ℕ} {s : Sizes} {c : Chain} {fs fs′ : List F.Fact} {work64 work32 : List ℕ} {g : Goal} (t : Trying bounds recs ops pairs targets s c (cells fs) work64 work32 g) (long : g .places ≤ length fs) {work64₁ : List ℕ} {a : Aim}
+    (d : Aimed bounds recs pairs targets s c work64 work32 g work64₁ a) {work64₂ : List ℕ} {k : ℕ} (ch : Chose recs ops (take (a .end - 8000) (drop 8000 work32)) (a .sweeps) work64₁ fs work64₂ fs′ k) where
   size₂ : length work64₂ ≡ length work64
   size₂ = ch .around .size ∙ d .size64
 
   held₂ : (P : Picture) (G : Facts) → Lists P bounds recs ops s (length work64) (length work32) → Tabled P pairs targets → Held P G work64 work32 → Held P G work64₂ work32
   held₂ P G l u h = held-same (accepted P (length work64) (length work32) records (l .accepted)) (same-around P l (ch .around) (stamps-is t d)) (d .held P G ops l u h)
 
-  putting-by : {b : Sunk} → Share k (a .least) n b → (b .places ≤ length fs′) × (b .places ≤ 800) × (8000 ≤ length work32)
+  putting-by : {b : Sunk} → Share k (a .least) (g .places) b → (b .places ≤ length fs′) × (b .places ≤ 800) × (8000 ≤ length work32)
   putting-by (none-move h) = let r = room (t .planning .lists) in (omega arith, omega arith, omega (arith, r .words32))
   putting-by (all-move h i) = let r = room (t .planning .lists) in let e = ch .long in let f = t .planning .along .few in (omega arith, f, omega (arith, r .words32))
 
-  pub putting : {b : Sunk} → b ≡ taken k (a .least) n → (b .places ≤ length fs′) × (b .places ≤ 800) × (8000 ≤ length work32)
-  putting {b} e = putting-by (subst (Share k (a .least) n) (sym e) (shares k (a .least) n))
+  pub putting : {b : Sunk} → b ≡ taken k (a .least) (g .places) → (b .places ≤ length fs′) × (b .places ≤ 800) × (8000 ≤ length work32)
+  putting {b} e = putting-by (subst (Share k (a .least) (g .places)) (sym e) (shares k (a .least) (g .places)))
 
-  module _ {b : Sunk} (e : b ≡ taken k (a .least) n) {work32₁ : List ℕ} (ft : U.Facts fs′ work32 work32₁ (b .places)) where
-    share : Share k (a .least) n b
-    share = subst (Share k (a .least) n) (sym e) (shares k (a .least) n)
+  module _ {b : Sunk} (e : b ≡ taken k (a .least) (g .places)) {work32₁ : List ℕ} (ft : U.Facts fs′ work32 work32₁ (b .places)) where
+    share : Share k (a .least) (g .places) b
+    share = subst (Share k (a .least) (g .places)) (sym e) (shares k (a .least) (g .places))
 
     behind₁ : drop 8000 work32₁ ≡ drop 8000 work32
     behind₁ = facts-behind ft (putting e .1)
@@ -219,11 +220,11 @@ module _ {bounds recs ops pairs targets : List ℕ} {s : Sizes} {c : Chain} {fs 
     lists₃ : (P : Picture) → Lists P bounds recs ops s (length work64) (length work32) → Lists P bounds recs ops s (length work64₂) (length work32₁)
     lists₃ P l = lists-of size₂ (ft .size) l
 
-    numbered-by : {b : Sunk} → Share k (a .least) n b → U.Facts fs′ work32 work32₁ (b .places) → (b .moved ≡ 0 → ⊥) → Numbered (cells fs) work32₁ n
+    numbered-by : {b : Sunk} → Share k (a .least) (g .places) b → U.Facts fs′ work32 work32₁ (b .places) → (b .moved ≡ 0 → ⊥) → Numbered (cells fs) work32₁ (g .places)
     numbered-by (none-move h) f z = absurd (z refl)
     numbered-by (all-move h i) f z = numbered (ch .cells-same) f
 
-    pub uses-asked : Using bounds recs ops s c work64₂ work32₁ (b .moved) (a .into .0) m n
+    pub uses-asked : Using bounds recs ops s c work64₂ work32₁ (b .moved) (g .into .0) (g .inside) (g .places)
     uses-asked =
         let p = t .planning in
         record {
@@ -235,7 +236,7 @@ module _ {bounds recs ops pairs targets : List ℕ} {s : Sizes} {c : Chain} {fs 
             held = held₃ (p .P) (p .G) (p .lists) (t .tabled) (p .held);
             chained = p .chained;
             along = along-behind behind₁ (p .along);
-            into-block = subst (λ (y : ℕ). y < nblocks (p .P)) (sym (d .into-is)) (p .into-block);
+            into-block = p .into-block;
             in-x = p .in-x;
           };
           numbered = numbered-by share ft;
@@ -244,81 +245,81 @@ module _ {bounds recs ops pairs targets : List ℕ} {s : Sizes} {c : Chain} {fs 
     -- ---- the answer
 
     -- where there is a target: the set, for a picture of these lists
-    module _ (h : 0 < a .least) (P : Picture) (G : Facts) (l : Lists P bounds recs ops s (length work64) (length work32)) (u : Tabled P pairs targets) (hd : Held P G work64 work32) (al : Along P G c (cells fs) work32 n) where
+    module _ (h : 0 < a .least) (P : Picture) (G : Facts) (l : Lists P bounds recs ops s (length work64) (length work32)) (u : Tabled P pairs targets) (hd : Held P G work64 work32) (al : Along P G c (cells fs) work32 (g .places)) where
       abbrev run : List Fact
       run = run-of P G (chain-in c)
 
       abbrev need : ℕ → Bool
-      need = member (needed-of P into other)
+      need = member (needed-of P (g .into .0) (g .other .0))
 
-      best : Greatest (P .recs) (P .ops) (cells fs) (copied-words P work32) work64₁ (needed-at s) (marks n fs′) m n least k
+      best : Greatest (P .recs) (P .ops) (cells fs) (copied-words P work32) work64₁ (needed-at s) (marks (g .places) fs′) (g .inside) (g .places) (g .least) k
       best =
           rw (l .recs-are, l .ops-are) at
-          (subst (λ (rs : List ℕ). Greatest recs ops (cells fs) rs work64₁ (needed-at s) (marks n fs′) m n least k) (regs-are t d h P l)
+          (subst (λ (rs : List ℕ). Greatest recs ops (cells fs) rs work64₁ (needed-at s) (marks (g .places) fs′) (g .inside) (g .places) (g .least) k) (regs-are t d h P l)
           (subst (λ (z : Cycle). Greatest recs ops (cells fs) (take (a .end - 8000) (drop 8000 work32)) work64₁ (z .o) (marks (z .n) fs′) (z .m) (z .n) (z .least) k) (d .on h .1) (ch .set)))
 
       row : Row work64₁ (needed-at s) (length (copied-words P work32)) need
       row = subst (λ (x : ℕ). Row work64₁ (needed-at s) x need) (sym (regs-long t d P l)) (d .row h P G ops l u hd)
 
-      too-few : k < least → count (greatest run need m) < least
+      too-few : k < g .least → count (greatest run need (g .inside)) < g .least
       too-few i = best .few i run need (al .told) row
 
-      total : least ≤ k → k ≡ count (greatest run need m)
+      total : g .least ≤ k → k ≡ count (greatest run need (g .inside))
       total i = best .count i run need (al .told) row
 
-      set-is : least ≤ k → (p : ℕ) → in-set (marks n fs′) p ≡ member (greatest run need m) p
+      set-is : g .least ≤ k → (p : ℕ) → in-set (marks (g .places) fs′) p ≡ member (greatest run need (g .inside)) p
       set-is i = best .set i run need (al .told) row
 
-    module _ {work64₃ work32₃ : List ℕ} (us : Used bounds recs ops s c work64₂ work32₁ (b .moved) (a .into .0) m n work64₃ work32₃) where
-      unwanted-by : {b : Sunk} → Share k (a .least) n b → least ≡ 0 → b .moved ≡ 0
+    module _ {work64₃ work32₃ : List ℕ} (us : Used bounds recs ops s c work64₂ work32₁ (b .moved) (g .into .0) (g .inside) (g .places) work64₃ work32₃) where
+      unwanted-by : {b : Sunk} → Share k (a .least) (g .places) b → g .least ≡ 0 → b .moved ≡ 0
       unwanted-by (none-move h) z = refl
       unwanted-by (all-move h i) z = let y = d .on h .0 in absurd (omega arith)
 
-      still-by : {b : Sunk} → Share k (a .least) n b → U.Facts fs′ work32 work32₁ (b .places) → b .moved ≡ 0 → work32₁ ≡ work32
+      still-by : {b : Sunk} → Share k (a .least) (g .places) b → U.Facts fs′ work32 work32₁ (b .places) → b .moved ≡ 0 → work32₁ ≡ work32
       still-by (none-move h) f z = facts-still f
       still-by (all-move h i) f z = absurd (omega arith)
 
-      none-by : {b : Sunk} → Share k (a .least) n b → 0 < least → (P : Picture) (G : Facts) (x : ℕ) → Lists P bounds recs ops s (length work64) (length work32) → Tabled P pairs targets → Held P G work64 work32
-          → Along P G c (cells fs) work32 n → FromX P c x m → b .moved ≡ 0 → plan P (run-of P G (chain-in c)) x (chain-in c) least into other ≡ none
+      none-by : {b : Sunk} → Share k (a .least) (g .places) b → 0 < g .least → (P : Picture) (G : Facts) (x : ℕ) → Lists P bounds recs ops s (length work64) (length work32) → Tabled P pairs targets → Held P G work64 work32
+          → Along P G c (cells fs) work32 (g .places) → FromX P c x (g .inside) → b .moved ≡ 0 → plan-toward P G x c g ≡ none
       none-by (none-move h) some? P G x l u hd al fx z = ⊎-elim
-          (λ (y : a .least ≡ 0). plan-off P (run-of P G (chain-in c)) x (chain-in c) least into other (d .no-target y some? P G ops l hd))
+          (λ (y : a .least ≡ 0). plan-off P (run-of P G (chain-in c)) x (chain-in c) (g .least) (g .into .0) (g .other .0) (d .no-target y some? P G ops l hd))
           (λ (y : 0 < a .least).
           let q = d .on y .0 in
-          let i : k < least = ⊎-elim (λ (v : a .least ≡ 0). absurd (omega arith)) (λ (v : k < a .least). omega arith) h in
-          plan-few P (run-of P G (chain-in c)) x (chain-in c) least into other (d .target y P G ops l hd)
-          (subst (λ (y : ℕ). count (greatest (run-of P G (chain-in c)) (member (needed-of P into other)) y) < least) (fx .inside) (too-few y P G l u hd al i)))
+          let i : k < g .least = ⊎-elim (λ (v : a .least ≡ 0). absurd (omega arith)) (λ (v : k < a .least). omega arith) h in
+          plan-few P (run-of P G (chain-in c)) x (chain-in c) (g .least) (g .into .0) (g .other .0) (d .target y P G ops l hd)
+          (subst (λ (y : ℕ). count (greatest (run-of P G (chain-in c)) (member (needed-of P (g .into .0) (g .other .0))) y) < g .least) (fx .inside) (too-few y P G l u hd al i)))
           (some-or (a .least))
       none-by (all-move h i) some? P G x l u hd al fx z = absurd (omega arith)
 
-      some-by : {b : Sunk} → Share k (a .least) n b → U.Facts fs′ work32 work32₁ (b .places) → Used bounds recs ops s c work64₂ work32₁ (b .moved) (a .into .0) m n work64₃ work32₃
+      some-by : {b : Sunk} → Share k (a .least) (g .places) b → U.Facts fs′ work32 work32₁ (b .places) → Used bounds recs ops s c work64₂ work32₁ (b .moved) (g .into .0) (g .inside) (g .places) work64₃ work32₃
           → (P : Picture) (G : Facts) (x : ℕ) → Lists P bounds recs ops s (length work64) (length work32) → Tabled P pairs targets → Held P G work64 work32
-          → Along P G c (cells fs) work32 n → FromX P c x m → (b .moved ≡ 0 → ⊥)
-          → (v : Plan) × (plan P (run-of P G (chain-in c)) x (chain-in c) least into other ≡ some v) × (b .moved ≡ count (v .set)) × Marked P v m n (chain-words work32₃)
-          × ((j : ℕ) → j < n → cell (chain-words work32₃) j 0 ≡ getD (chain-places P (blocks-of c)) j 0)
+          → Along P G c (cells fs) work32 (g .places) → FromX P c x (g .inside) → (b .moved ≡ 0 → ⊥)
+          → (v : Plan) × (plan-toward P G x c g ≡ some v) × (b .moved ≡ count (v .set)) × Marked P v (g .inside) (g .places) (chain-words work32₃)
+          × ((j : ℕ) → j < g .places → cell (chain-words work32₃) j 0 ≡ getD (chain-places P (blocks-of c)) j 0)
       some-by (none-move h) f v P G x l u hd al fx z = absurd (z refl)
       some-by (all-move h i) f v P G x l u hd al fx z =
           let run : List Fact = run-of P G (chain-in c) in
-          let need : ℕ → Bool = member (needed-of P into other) in
-          let enough : least ≤ k = let q = d .on h .0 in omega arith in
-          let same-set : greatest run need m ≡ greatest run need (size P x - 1) = ap (greatest run need) (fx .inside) in
-          let sum : k ≡ count (set-for P run x into other) = total h P G l u hd al enough ∙ ap count same-set in
-          let low : m ≡ size P x - 1 = fx .inside in
-          let it : Plan = made P run x (chain-in c) least into other in
+          let need : ℕ → Bool = member (needed-of P (g .into .0) (g .other .0)) in
+          let enough : g .least ≤ k = let q = d .on h .0 in omega arith in
+          let same-set : greatest run need (g .inside) ≡ greatest run need (size P x - 1) = ap (greatest run need) (fx .inside) in
+          let sum : k ≡ count (set-for P run x (g .into .0) (g .other .0)) = total h P G l u hd al enough ∙ ap count same-set in
+          let low : g .inside ≡ size P x - 1 = fx .inside in
+          let it : Plan = made P run x (chain-in c) (g .least) (g .into .0) (g .other .0) in
           let few = al .few in
           let nu = numbered (ch .cells-same) f in
-          let la : Lasts P it m work32₃ = v .lasts z P G (cells fs) it (lists₃ P l) (held₃ P G l u hd) (along-behind behind₁ al) nu (sym (d .into-is)) refl in (
+          let la : Lasts P it (g .inside) work32₃ = v .lasts z P G (cells fs) it (lists₃ P l) (held₃ P G l u hd) (along-behind behind₁ al) nu refl refl in (
             it,
-            plan-on P run x (chain-in c) least into other (d .target h P G ops l hd) (subst (λ (y : ℕ). least ≤ y) sum enough),
+            plan-on P run x (chain-in c) (g .least) (g .into .0) (g .other .0) (d .target h P G ops l hd) (subst (λ (y : ℕ). g .least ≤ y) sum enough),
             sum,
             marked-after (ch .cells-same) f work32₃ (v .others) few l (t .planning .chained .sound .few) al (t .planning .in-x) it fx refl la
                 (λ y. set-is h P G l u hd al enough y ∙ ap (λ (S : List Bool). member S y) same-set)
-                (λ y q. not-true-is-false (member (set-for P run x into other) y)
-                (λ r. let o = greatest-movable run need (size P x - 1) y (true-T (member (set-for P run x into other) y) r) .0 in omega arith))
-                (λ y r. T-true (movable (fact-at run y .does .class)) (greatest-movable run need (size P x - 1) y (true-T (member (set-for P run x into other) y) r) .1)),
+                (λ y q. not-true-is-false (member (set-for P run x (g .into .0) (g .other .0)) y)
+                (λ r. let o = greatest-movable run need (size P x - 1) y (true-T (member (set-for P run x (g .into .0) (g .other .0)) y) r) .0 in omega arith))
+                (λ y r. T-true (movable (fact-at run y .does .class)) (greatest-movable run need (size P x - 1) y (true-T (member (set-for P run x (g .into .0) (g .other .0)) y) r) .1)),
             λ y q. number-cell (ch .cells-same) f work32₃ (v .others) few y q ∙ al .numbers y q,
           )
 
-      pub planned : PlanTried bounds recs ops pairs targets s c (cells fs) work64 work32 least into other m n work64₃ work32₃ (b .moved) × (cells fs′ ≡ cells fs)
+      pub planned : TargetTried bounds recs ops pairs targets s c (cells fs) work64 work32 g work64₃ work32₃ (b .moved) × (cells fs′ ≡ cells fs)
       planned = (
         record {
           size64 = us .size64 ∙ size₂;

@@ -1,20 +1,22 @@
 -- 01, "A round": what the search for a move from a block answers, `model`'s `try-block`; the chain's words then stand for the plan, as
 -- `apply` takes it. Assumes nothing.
 use mathlib.Core.Path.{_≡_}
-use mathlib.Core.Bool.{cond}
+use mathlib.Core.Bool.{_||_, cond}
 use mathlib.Core.List.{List}
 use mathlib.Core.Option.{none, some}
-use Prim.Native.Nat.{ℕ, _*_, _-_, _<_}
+use Prim.Native.Nat.{ℕ, _+_, _*_, _-_, _<_}
 use lib.Dec.{eqb, ltb}
 use lib.ListN.{getD, length}
-use Rattle.words.specs.Lists.{count}
+use Rattle.words.specs.Lists.{count, mem}
 use Rattle.model.specs.Picture.{Picture, absent, size}
 use Rattle.model.specs.Analyse.{Facts}
-use Rattle.model.specs.Move.{Chain, Plan, chain, chain-places, try-block}
+use Rattle.model.specs.Move.{Chain, Plan, chain, chain-places, minimum, try-block}
 use Rattle.pool.specs.Pool.{last-at, wrote-at}
 use Rattle.inst.specs.declared.index.BlockId.{BlockId}
 use Rattle.apply.specs.Apply.{Stands}
 use Rattle.apply.specs.declared.moves.Move.{Move}
+use Rattle.search.specs.declared.find.Look.{Look}
+use Rattle.trial.specs.declared.target.Goal.{Goal}
 use Rattle.trial.specs.declared.block.MaybeMove.{MaybeMove}
 use Rattle.trial.specs.declared.block.MaybeMove.the-variants.{Is, Not}
 use Rattle.chainwords.specs.Work.{Shown, Given, Held, chain-words}
@@ -41,16 +43,26 @@ abbrev pub tried : Picture → Facts → ℕ → MaybeMove → List ℕ → Type
 tried P G x (Is mv) w = Found P G x mv w
 tried P G x Not w = try-block P G x ≡ none
 
--- ---- the answers of `else_least` and `found`
+-- ---- what the targets are tried with, and the answer of `found`
 
--- f is tried with the fewest that t was tried with, or with 0 (none is wanted) once k move into t
-abbrev pub else-least : ℕ → ℕ → ℕ
-else-least k least = cond (eqb k 0) least 0
+-- t, of n positions along the chain
+abbrev pub toward-t : List ℕ → List ℕ → Look → ℕ → Goal
+toward-t bounds replay k n = record {
+  into = k .c .t;
+  other = k .c .f;
+  least = minimum (mem (k .c .t .0) replay || mem (k .c .f .0) replay);
+  inside = getD bounds (2 * k .x .0 + 1) 0 - getD bounds (2 * k .x .0) 0 - 1;
+  places = n;
+}
 
--- k members move into t, or else l into f
-unfoldable pub found : BlockId → C.Chain → ℕ → ℕ → ℕ → ℕ → MaybeMove
-found x c m n k l =
-    cond (ltb 0 k) (Is (record { from = x; into = c .t; inside = m; places = n; moved = k })) (cond (ltb 0 l) (Is (record { from = x; into = c .f; inside = m; places = n; moved = l })) Not)
+-- f, with the fewest that t was tried with, or with 0 (none is wanted) once some move into t
+abbrev pub toward-f : Goal → ℕ → Goal
+toward-f g moved = record { into = g .other; other = g .into; least = cond (eqb moved 0) (g .least) 0; inside = g .inside; places = g .places }
+
+-- k members move from block x into t, or else l into f
+unfoldable pub found : BlockId → Goal → ℕ → ℕ → MaybeMove
+found x g k l =
+    cond (ltb 0 k) (Is (record { from = x; into = g .into; inside = g .inside; places = g .places; moved = k })) (cond (ltb 0 l) (Is (record { from = x; into = g .other; inside = g .inside; places = g .places; moved = l })) Not)
 
 -- ---- `try_chain`
 

@@ -1,8 +1,8 @@
 // The move from a block along its chain (01, "A round"; 000's `try_block`): the facts, then the targets t, then f.
 use crate::learn::learn;
-use crate::target::plan;
+use crate::target::Goal;
+use crate::target::try_target;
 use apply::moves::Move;
-use chains::chain::Chain;
 use chains::pass::Sink;
 use facts::Fact;
 use inst::index::BlockId;
@@ -11,62 +11,63 @@ use sizes::Sizes;
 use words::numbers::wide;
 use worth::look::replays;
 ghost use mathlib.Core.Path.{_≡_};
-ghost use mathlib.Core.Bool.{_||_};
-ghost use Prim.Native.Nat.{_+_, _-_, _*_, _<_, _≤_};
+ghost use Prim.Native.Nat.{_+_, _*_, _<_, _≤_};
 ghost use lib.ListN.{length, getD};
-ghost use Rattle.words.specs.Lists.{mem};
-ghost use Rattle.model.specs.Move.{minimum};
 ghost use Rattle.inst.specs.Table.{rows};
-ghost use Rattle.trial.specs.Trial.{else-least, found, Following, Followed};
+ghost use Rattle.trial.specs.Trial.{toward-t, toward-f, found, Following, Followed};
 
 pub enum MaybeMove {
     Is(Move),
     Not,
 }
 
-// The positions that are in the first block, but for its last, and the fewest members that a move has.
-pub struct Ask {
-    pub inside: usize,
-    pub least: u32,
-}
-
-fn wanted(bounds: &[u32], replay: &[u32], x: BlockId, c: Chain) -> Ask
-    requires { ⌜ (x .0 < 4096) × (2 * x .0 + 1 < length (now bounds)) × (getD (now bounds) (2 * x .0) 0 < getD (now bounds) (2 * x .0 + 1) 0) ⌝ }
-    ensures { λ r. ⌜ (r .inside ≡ getD (now (bounds .entry)) (2 * x .0 + 1) 0 - getD (now (bounds .entry)) (2 * x .0) 0 - 1) × (r .least ≡ minimum (mem (c .t .0) (now (replay .entry)) || mem (c .f .0) (now (replay .entry)))) ⌝ }
+// What t is tried with, of n positions along the chain of k.
+fn toward_t(bounds: &[u32], replay: &[u32], k: Look, n: usize) -> Goal
+    requires { ⌜ (k .x .0 < 4096) × (2 * k .x .0 + 1 < length (now bounds)) × (getD (now bounds) (2 * k .x .0) 0 < getD (now bounds) (2 * k .x .0 + 1) 0) ⌝ }
+    ensures { λ r. ⌜ r ≡ toward-t (now (bounds .entry)) (now (replay .entry)) k n ⌝ }
 {
-    let a = c.t;
-    let b = c.f;
-    let k = x.at();
-    let inside = wide(bounds[2 * k + 1] - bounds[2 * k]) - 1;
-    let least = Sink::minimum(replays(replay, a, b));
-    Ask {
-        inside: inside,
+    let t = k.c.t;
+    let f = k.c.f;
+    let x = k.x.at();
+    let inside = wide(bounds[2 * x + 1] - bounds[2 * x]) - 1;
+    let least = Sink::minimum(replays(replay, t, f));
+    Goal {
+        into: t,
+        other: f,
         least: least,
+        inside: inside,
+        places: n,
     }
 }
 
-// The fewest for f: none is wanted once k move into t.
-fn else_least(k: u32, least: u32) -> u32
-    ensures { λ r. ⌜ r ≡ else-least k least ⌝ }
+// What f is tried with: the branches change places, and none is wanted once some move into t.
+fn toward_f(g: Goal, moved: u32) -> Goal
+    ensures { λ r. ⌜ r ≡ toward-f g moved ⌝ }
 {
-    if k == 0 {
-        return least;
+    let t = g.into;
+    let f = g.other;
+    let least = if moved == 0 { g.least } else { 0 };
+    Goal {
+        into: f,
+        other: t,
+        least: least,
+        inside: g.inside,
+        places: g.places,
     }
-    0
 }
 
-// k members move into t, or else l into f.
-fn found(x: BlockId, c: Chain, m: usize, n: usize, k: u32, l: u32) -> MaybeMove
-    ensures { λ r. ⌜ r ≡ found x c m n k l ⌝ }
+// k members move from block x into t, or else l into f.
+fn found(x: BlockId, g: Goal, k: u32, l: u32) -> MaybeMove
+    ensures { λ r. ⌜ r ≡ found x g k l ⌝ }
 {
-    let a = c.t;
-    let b = c.f;
+    let t = g.into;
+    let f = g.other;
     if 0 < k {
         let mv = Move {
             from: x,
-            into: a,
-            inside: m,
-            places: n,
+            into: t,
+            inside: g.inside,
+            places: g.places,
             moved: k,
         };
         return MaybeMove::Is(mv);
@@ -74,9 +75,9 @@ fn found(x: BlockId, c: Chain, m: usize, n: usize, k: u32, l: u32) -> MaybeMove
     if 0 < l {
         let mv = Move {
             from: x,
-            into: b,
-            inside: m,
-            places: n,
+            into: f,
+            inside: g.inside,
+            places: g.places,
             moved: l,
         };
         return MaybeMove::Is(mv);
@@ -103,8 +104,8 @@ pub fn try_chain<'a>(
     ensures { λ r. ⌜ Followed (now (bounds .entry)) (now (recs .entry)) (now (ops .entry)) (now (pairs .entry)) (now (targets .entry)) (now (replay .entry)) s (k .x .0) (k .c) (now (work64 .entry)) (now (work32 .entry)) (now (work64 .exit)) (now (work32 .exit)) r ⌝ }
 {
     let n = learn(t, bounds, recs, ops, work64, work32, facts, s, k.c);
-    let w = wanted(bounds, replay, k.x, k.c);
-    let moved = plan(
+    let g = toward_t(bounds, replay, k, n);
+    let into_t = try_target(
         t,
         bounds,
         recs,
@@ -116,14 +117,10 @@ pub fn try_chain<'a>(
         facts,
         s,
         k.c,
-        w.least,
-        k.c.t,
-        k.c.f,
-        w.inside,
-        n,
+        g,
     );
-    let least = else_least(moved, w.least);
-    let l = plan(
+    let h = toward_f(g, into_t);
+    let into_f = try_target(
         t,
         bounds,
         recs,
@@ -135,11 +132,7 @@ pub fn try_chain<'a>(
         facts,
         s,
         k.c,
-        least,
-        k.c.f,
-        k.c.t,
-        w.inside,
-        n,
+        h,
     );
-    found(k.x, k.c, w.inside, n, moved, l)
+    found(k.x, g, into_t, into_f)
 }

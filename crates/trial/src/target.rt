@@ -1,5 +1,4 @@
-// The plan for one target (01, "A round" and "The legal set"; 000's `plan`): is it a target, and has the greatest legal set enough
-// members?
+// One target tried (01, "A round" and "The legal set"; 000's `plan`): is it a target, and has the greatest legal set enough members?
 use chains::chain::Chain;
 use chainwords::marks::put_facts;
 use chainwords::marks::put_uses;
@@ -16,18 +15,26 @@ use sizes::at_stamps;
 use words::bits::width;
 use words::numbers::wide;
 ghost use mathlib.Core.Path.{_≡_};
-ghost use mathlib.Core.Bool.{true, false};
-ghost use Prim.Native.Nat.{_+_, _*_, _≤_, _<_};
+ghost use Prim.Native.Nat.{_≤_};
 ghost use lib.ListN.{length};
 ghost use Rattle.inst.specs.Table.{rows};
 ghost use Rattle.analyse.specs.Cells.{cells};
-ghost use Rattle.trial.specs.Target.{from-start, taken, Aiming, Aimed, Trying, PlanTried};
+ghost use Rattle.trial.specs.Target.{from-start, taken, Aiming, Aimed, Trying, TargetTried};
 
-// What is asked of the set: the fewest members that move, or 0 where there is nothing to do; the block that they move into; where the
-// copied words of the registers end; the sweeps.
+// What one target is tried with: the block that members are to move into, and the other branch; the fewest members that a move has, or
+// 0 where none is wanted; the positions in the first block, but for its last, and all positions of the chain.
+pub struct Goal {
+    pub into: BlockId,
+    pub other: BlockId,
+    pub least: u32,
+    pub inside: usize,
+    pub places: usize,
+}
+
+// What is asked of the set: the fewest members that move, or 0 where there is nothing to do; where the copied words of the registers
+// end; the sweeps.
 pub struct Aim {
     pub least: u32,
-    pub into: BlockId,
     pub end: usize,
     pub sweeps: Cycle,
 }
@@ -57,8 +64,8 @@ fn from_start(o: usize, s: usize, m: usize, n: usize, least: u32) -> Cycle
     }
 }
 
-// Is `into` a target, and is a move of at least `least` members wanted (not 0)? Then the row of the registers needed elsewhere is put;
-// else the sweeps are over no positions and no registers.
+// Is g.into a target, and is a move wanted? Then the row of the registers needed elsewhere is put; else the sweeps are over no positions
+// and no registers.
 fn take_aim<'a>(
     t: &[u32; 202],
     bounds: &[u32],
@@ -69,25 +76,20 @@ fn take_aim<'a>(
     work32: &[u32],
     s: Sizes,
     c: Chain,
-    least: u32,
-    into: BlockId,
-    other: BlockId,
-    m: usize,
-    n: usize,
+    g: Goal,
 ) -> Aim
-    requires { ⌜ (now t ≡ rows) × Aiming (now bounds) (now recs) (now pairs) (now targets) s c (now work64) (now work32) (into .0) (other .0) ⌝ }
-    ensures { λ r. ⌜ Aimed (now (bounds .entry)) (now (recs .entry)) (now (pairs .entry)) (now (targets .entry)) s c (now (work64 .entry)) (now (work32 .entry)) least (into .0) (other .0) m n (now (work64 .exit)) r ⌝ }
+    requires { ⌜ (now t ≡ rows) × Aiming (now bounds) (now recs) (now pairs) (now targets) s c (now work64) (now work32) g ⌝ }
+    ensures { λ r. ⌜ Aimed (now (bounds .entry)) (now (recs .entry)) (now (pairs .entry)) (now (targets .entry)) s c (now (work64 .entry)) (now (work32 .entry)) g (now (work64 .exit)) r ⌝ }
 {
     let o = at_needed(s);
     let st = at_stamps(s);
     let end = COPIED + wide(s.regs);
     let k = at_preds(s);
-    let wanted = (least != 0) & c.is_target(&work32[k..], into, s.blocks);
+    let wanted = (g.least != 0) & c.is_target(&work32[k..], g.into, s.blocks);
     if !wanted {
         let none = from_start(o, st, 0, 0, 1);
         return Aim {
             least: 0,
-            into: into,
             end: COPIED,
             sweeps: none,
         };
@@ -100,23 +102,22 @@ fn take_aim<'a>(
         targets,
         work64,
         width(wide(s.regs)),
-        into,
-        other,
+        g.into,
+        g.other,
     );
-    let all = from_start(o, st, m, n, least);
+    let all = from_start(o, st, g.inside, g.places, g.least);
     Aim {
-        least: least,
-        into: into,
+        least: g.least,
         end: end,
         sweeps: all,
     }
 }
 
 // Of a set of k members all move, or none where there is nothing to do or they are too few.
-fn taken(k: u32, a: Aim, n: usize) -> Sunk
-    ensures { λ r. ⌜ r ≡ taken k (a .least) n ⌝ }
+fn taken(k: u32, least: u32, n: usize) -> Sunk
+    ensures { λ r. ⌜ r ≡ taken k least n ⌝ }
 {
-    if (a.least == 0) | (k < a.least) {
+    if (least == 0) | (k < least) {
         return Sunk {
             moved: 0,
             places: 0,
@@ -128,9 +129,9 @@ fn taken(k: u32, a: Aim, n: usize) -> Sunk
     }
 }
 
-// How many members move into `into`, `other` being the other branch; 0 where that is no target, none are wanted (`least` 0) or there are
-// too few. The chain's words then say which, with their last uses and the registers they write.
-pub fn plan<'a>(
+// How many members move into g.into: 0 where that is no target, none is wanted or there are too few. The chain's words then say which,
+// with their last uses and the registers they write.
+pub fn try_target<'a>(
     t: &[u32; 202],
     bounds: &[u32],
     recs: &'a [u32],
@@ -142,34 +143,15 @@ pub fn plan<'a>(
     facts: &mut [Fact],
     s: Sizes,
     c: Chain,
-    least: u32,
-    into: BlockId,
-    other: BlockId,
-    m: usize,
-    n: usize,
+    g: Goal,
 ) -> u32
-    requires { ⌜ (now t ≡ rows) × Trying (now bounds) (now recs) (now ops) (now pairs) (now targets) s c (cells (now facts)) (now work64) (now work32) (into .0) (other .0) m n × (n ≤ length (now facts)) ⌝ }
-    ensures { λ r. ⌜ PlanTried (now (bounds .entry)) (now (recs .entry)) (now (ops .entry)) (now (pairs .entry)) (now (targets .entry)) s c (cells (now (facts .entry))) (now (work64 .entry)) (now (work32 .entry)) least (into .0) (other .0) m n (now (work64 .exit)) (now (work32 .exit)) r × (cells (now (facts .exit)) ≡ cells (now (facts .entry))) ⌝ }
+    requires { ⌜ (now t ≡ rows) × Trying (now bounds) (now recs) (now ops) (now pairs) (now targets) s c (cells (now facts)) (now work64) (now work32) g × (g .places ≤ length (now facts)) ⌝ }
+    ensures { λ r. ⌜ TargetTried (now (bounds .entry)) (now (recs .entry)) (now (ops .entry)) (now (pairs .entry)) (now (targets .entry)) s c (cells (now (facts .entry))) (now (work64 .entry)) (now (work32 .entry)) g (now (work64 .exit)) (now (work32 .exit)) r × (cells (now (facts .exit)) ≡ cells (now (facts .entry))) ⌝ }
 {
-    let a = take_aim(
-        t,
-        bounds,
-        recs,
-        pairs,
-        targets,
-        work64,
-        work32,
-        s,
-        c,
-        least,
-        into,
-        other,
-        m,
-        n,
-    );
+    let a = take_aim(t, bounds, recs, pairs, targets, work64, work32, s, c, g);
     let e = a.end;
     let k = legal_set(t, recs, ops, &work32[COPIED..e], work64, facts, a.sweeps);
-    let b = taken(k, a, n);
+    let b = taken(k, a.least, g.places);
     put_facts(facts, work32, b.places);
     put_uses(
         t,
@@ -181,9 +163,9 @@ pub fn plan<'a>(
         s,
         c,
         b.moved,
-        a.into,
-        m,
-        n,
+        g.into,
+        g.inside,
+        g.places,
     );
     b.moved
 }

@@ -42,8 +42,8 @@ use Rattle.facts.proofs.Params.{Par, opened, closed}
 use Rattle.facts.proofs.Cells.{Cell, room, has, filled, cells, Homes, home, envOf, enters-all, frees-all}
 use Rattle.facts.proofs.Fact as T
 use Rattle.facts.proofs.Frame as F
-use Rattle.facts.proofs.Frame.{Kind, one, sees, too, lends, datum, Slice, One, Datum, Number, number, struct, Values, value, pars, entries, machs, fins, fit-all, ares, lawfuls, uncurried}
-use Rattle.facts.proofs.Passing.{pass-one, pass-slice, pass-too, pass-mut, pass-data, pass-number, pass-struct}
+use Rattle.facts.proofs.Frame.{Kind, one, sees, too, lends, datum, Slice, One, Datum, struct, Values, value, pars, entries, machs, fins, fit-all, ares, lawfuls, uncurried}
+use Rattle.facts.proofs.Passing.{pass-one, pass-slice, pass-too, pass-mut, pass-data, pass-number, pass-struct, last-of, fit-of}
 use Rattle.facts.proofs.Statements.{loads, lends-on}
 use Rattle.inst.specs.Table.{rows}
 use Rattle.inst.proofs.index.BlockId as B
@@ -56,34 +56,34 @@ use Rattle.search.specs.declared.find.Look.{Look}
 use Rattle.analyse.specs.Cells.{cells as numbers}
 use Rattle.inst.specs.declared.index.BlockId.{BlockId}
 use Rattle.chains.specs.declared.chain.Chain.{Chain}
-use Rattle.trial.specs.declared.block.Ask.{Ask}
+use Rattle.trial.specs.declared.target.Goal.{Goal}
 use Rattle.trial.specs.declared.block.MaybeMove.{MaybeMove}
 use Rattle.chainwords.specs.Along.{Learnt}
-use Rattle.trial.specs.Target.{PlanTried}
-use Rattle.trial.specs.Trial.{else-least, found, Following, Followed}
+use Rattle.trial.specs.Target.{Trying, TargetTried}
+use Rattle.trial.specs.Trial.{toward-t, toward-f, found, Following, Followed}
 use Rattle.trial.proofs.Trials as law
 use Rattle.sizes.proofs.Sizes as S
 use Rattle.sizes.proofs.Sizes.Laws as S′
-use Rattle.trial.proofs.block.Ask as O
-use Rattle.trial.proofs.block.Ask.Laws as O′
+use Rattle.trial.proofs.target.Goal as O
+use Rattle.trial.proofs.target.Goal.Laws as O′
 use Rattle.trial.proofs.block.MaybeMove as Y
 use Rattle.trial.proofs.block.MaybeMove.Laws as Y′
 use Rattle.trial.proofs.learn.learn as learn-fn
 use Rattle.trial.proofs.learn.learn.Symbol as learn-def
 use Rattle.trial.proofs.learn.learn.Symbol.{name as #trial·learn·learn}
 use Rattle.trial.proofs.learn.learn.Met as learn-thm
-use Rattle.trial.proofs.block.wanted as wanted-fn
-use Rattle.trial.proofs.block.wanted.Symbol as want-def
-use Rattle.trial.proofs.block.wanted.Symbol.{name as #trial·block·wanted}
-use Rattle.trial.proofs.block.wanted.Met as want-thm
-use Rattle.trial.proofs.target.plan as plan-fn
-use Rattle.trial.proofs.target.plan.Symbol as plan-def
-use Rattle.trial.proofs.target.plan.Symbol.{name as #trial·target·plan}
-use Rattle.trial.proofs.target.plan.Met as plan-thm
-use Rattle.trial.proofs.block.else_least as else-fn
-use Rattle.trial.proofs.block.else_least.Symbol as else-def
-use Rattle.trial.proofs.block.else_least.Symbol.{name as #trial·block·else-least}
-use Rattle.trial.proofs.block.else_least.Met as else-thm
+use Rattle.trial.proofs.block.toward_t as toward-t-fn
+use Rattle.trial.proofs.block.toward_t.Symbol as toward-t-def
+use Rattle.trial.proofs.block.toward_t.Symbol.{name as #trial·block·toward-t}
+use Rattle.trial.proofs.block.toward_t.Met as toward-t-thm
+use Rattle.trial.proofs.target.try_target as try-fn
+use Rattle.trial.proofs.target.try_target.Symbol as try-def
+use Rattle.trial.proofs.target.try_target.Symbol.{name as #trial·target·try-target}
+use Rattle.trial.proofs.target.try_target.Met as try-thm
+use Rattle.trial.proofs.block.toward_f as toward-f-fn
+use Rattle.trial.proofs.block.toward_f.Symbol as toward-f-def
+use Rattle.trial.proofs.block.toward_f.Symbol.{name as #trial·block·toward-f}
+use Rattle.trial.proofs.block.toward_f.Met as toward-f-thm
 use Rattle.trial.proofs.block.found as found-fn
 use Rattle.trial.proofs.block.found.Symbol as found-def
 use Rattle.trial.proofs.block.found.Symbol.{name as #trial·block·found}
@@ -115,19 +115,23 @@ kinds = one 0 tt Tab ∷ sees 1 tt u32 ∷ sees 2 tt u32 ∷ sees 3 tt u32 ∷ s
 abbrev stayed : Stays (f.ended .signature .params) (f.ended .kept)
 stayed = F.stays kinds
 
+-- a goal that a callee answers, by its own machine value
+goal-is : (g : Goal) (u : Val) → Is O.the-row g (u ∷ []) → Is O.the-row g (O′.lowered g ∷ [])
+goal-is g u is = subst (Is O.the-row g) (O′.lowers .val-is g (u ∷ []) is) is
+
 -- the contracts that the proof cites
 module _ {M : Type 1} (𝓤 : URA M) (H : Heap 𝓤) (A : Atoms 𝓤) (mem : Memory → SProp 𝓤) (run : Routine → Fun 𝓤) where
   abbrev Learns : Contract 𝓤
   Learns = tripleOf 𝓤 H A learn-fn.signature (learn-fn.spec 𝓤 H A mem run)
 
-  abbrev Wants : Contract 𝓤
-  Wants = tripleOf 𝓤 H A wanted-fn.signature (wanted-fn.spec 𝓤 H A mem run)
+  abbrev TowardT : Contract 𝓤
+  TowardT = tripleOf 𝓤 H A toward-t-fn.signature (toward-t-fn.spec 𝓤 H A mem run)
 
-  abbrev Plans : Contract 𝓤
-  Plans = tripleOf 𝓤 H A plan-fn.signature (plan-fn.spec 𝓤 H A mem run)
+  abbrev Tries : Contract 𝓤
+  Tries = tripleOf 𝓤 H A try-fn.signature (try-fn.spec 𝓤 H A mem run)
 
-  abbrev Elses : Contract 𝓤
-  Elses = tripleOf 𝓤 H A else-fn.signature (else-fn.spec 𝓤 H A mem run)
+  abbrev TowardF : Contract 𝓤
+  TowardF = tripleOf 𝓤 H A toward-f-fn.signature (toward-f-fn.spec 𝓤 H A mem run)
 
   abbrev Founds : Contract 𝓤
   Founds = tripleOf 𝓤 H A found-fn.signature (found-fn.spec 𝓤 H A mem run)
@@ -137,7 +141,7 @@ abbrev Asked : Values kinds → Type 0
 Asked = F.asks kinds (λ tab bounds recs ops pairs targets replay work64 work32 facts sizes from. (tab .now ≡ rows) × Following (bounds .list) (recs .list) (ops .list) (pairs .list) (targets .list) (replay .list) (sizes .it) (from .it .x .0) (from .it .c) (work64 .list) (work32 .list) × (800 ≤ length (facts .list)))
 
 module _ {M : Type 1} (𝓤 : URA M) (H : Heap 𝓤) (A : Atoms 𝓤) (W : Given 𝓤 H A) (mem : Memory → SProp 𝓤) (run : Routine → Fun 𝓤) (𝓣 : Tables 𝓤 H)
-    (known-learn : Triple 𝓤 (𝓣 .C #trial·learn·learn) (Learns 𝓤 H A mem run)) (known-want : Triple 𝓤 (𝓣 .C #trial·block·wanted) (Wants 𝓤 H A mem run)) (known-plan : Triple 𝓤 (𝓣 .C #trial·target·plan) (Plans 𝓤 H A mem run)) (known-else : Triple 𝓤 (𝓣 .C #trial·block·else-least) (Elses 𝓤 H A mem run)) (known-found : Triple 𝓤 (𝓣 .C #trial·block·found) (Founds 𝓤 H A mem run)) where
+    (known-learn : Triple 𝓤 (𝓣 .C #trial·learn·learn) (Learns 𝓤 H A mem run)) (known-toward-t : Triple 𝓤 (𝓣 .C #trial·block·toward-t) (TowardT 𝓤 H A mem run)) (known-try : Triple 𝓤 (𝓣 .C #trial·target·try-target) (Tries 𝓤 H A mem run)) (known-toward-f : Triple 𝓤 (𝓣 .C #trial·block·toward-f) (TowardF 𝓤 H A mem run)) (known-found : Triple 𝓤 (𝓣 .C #trial·block·found) (Founds 𝓤 H A mem run)) where
   abbrev C : Calls 𝓤 H
   C = 𝓣 .C
 
@@ -151,25 +155,28 @@ module _ {M : Type 1} (𝓤 : URA M) (H : Heap 𝓤) (A : Atoms 𝓤) (W : Given
   abbrev Ends : (κs : Lfts 9) (qs : Shares 9) → Values kinds → Val → SProp 𝓤
   Ends κs qs vs = walkOf 𝓤 H A f.ended stayed (f.clauses 𝓤 H A mem run) .post ((κs, qs, tt, entries κs kinds vs, machs κs kinds vs), tt)
 
-  abbrev Goal : (κs : Lfts 9) (qs : Shares 9) → Values kinds → Type 1
-  Goal κs qs vs = Asked vs → ent 𝓤 (onEntry 𝓤 H A f.signature κs qs (entries κs kinds vs) (machs κs kinds vs)) (WpFn 𝓤 H C Λ code.function (F.given kinds vs) (Ends κs qs vs))
+  abbrev Shown : (κs : Lfts 9) (qs : Shares 9) → Values kinds → Type 1
+  Shown κs qs vs = Asked vs → ent 𝓤 (onEntry 𝓤 H A f.signature κs qs (entries κs kinds vs) (machs κs kinds vs)) (WpFn 𝓤 H C Λ code.function (F.given kinds vs) (Ends κs qs vs))
 
   module _ (κs : Lfts 9) (qs : Shares 9) (tab : One Tab) (bounds recs ops pairs targets replay : Slice u32) (work64 : Slice u64) (work32 : Slice u32) (facts : Slice T.the-row) (sizes : Datum S.the-row (λ d. S′.lowered d ∷ [])) (from-x : Datum N.the-row (λ d. N′.lowered d ∷ [])) where
     abbrev vs : Values kinds
     vs = (tab, (bounds, (recs, (ops, (pairs, (targets, (replay, (work64, (work32, (facts, (sizes, (from-x, tt))))))))))))
 
-    -- block x, and the chain from it
+    -- what is looked at: block x, and the chain from it
+    abbrev at : Look
+    at = from-x .it
+
     abbrev x : BlockId
-    x = from-x .it .x
+    x = at .x
 
     abbrev chain : Chain
-    chain = from-x .it .c
+    chain = at .c
 
     x-is : Is B.the-row x (B′.lowered x ∷ [])
-    x-is = is-parts (from-x .it) (from-x .is) .0
+    x-is = is-parts at (from-x .is) .0
 
     chain-is : Is K.the-row chain (K′.lowered chain ∷ [])
-    chain-is = is-parts (from-x .it) (from-x .is) .1 .0
+    chain-is = is-parts at (from-x .is) .1 .0
 
     -- the parameters at these lists, and what the walk holds of them: ten items
     abbrev params : List ℕ → List ℕ → List Fact → List (Par 𝓤 H A)
@@ -189,13 +196,6 @@ module _ {M : Type 1} (𝓤 : URA M) (H : Heap 𝓤) (A : Atoms 𝓤) (W : Given
         qed W (Held xs′ ws′ fs′) ∵
         suffices ! _ (ends-at 𝓤 H A f.ended stayed (f.clauses 𝓤 H A mem run) W ((κs, qs, tt, entries κs kinds vs, machs κs kinds vs), tt) w r (fins κs kinds vs (xs′, (ws′, (fs′, tt)))) (fit-all κs kinds vs (xs′, (ws′, (fs′, tt))) (e, (e′, (e″, tt))))) $ says ! said $
         cut (Held xs′ ws′ fs′) (raw (Q.tokens 𝓤 H A (params xs′ ws′ fs′)) ∷ ‵ (Q.owned 𝓤 H A (params xs′ ws′ fs′)) ∷ []) _ (closed 𝓤 H A W (params xs′ ws′ fs′)) $ frame ! $ frame ! $ owned ! Y.the-row (Is Y.the-row) (EL.makes Y.the-type Y′.the-plain 𝓤 H A) r (w ∷ []) is $ done !
-
-    -- the chain's branches
-    t-is : Is B.the-row (chain .t) (B′.lowered (chain .t) ∷ [])
-    t-is = let h = chain-is .1 .1 .1 .1 .1 .1 .1 .1 .1 .0 in subst (Is B.the-row (chain .t)) (B′.lowers .val-is (chain .t) _ h) h
-
-    f-is : Is B.the-row (chain .f) (B′.lowered (chain .f) ∷ [])
-    f-is = let h = chain-is .1 .1 .1 .1 .1 .1 .1 .1 .1 .1 .0 in subst (Is B.the-row (chain .f)) (B′.lowers .val-is (chain .f) _ h) h
 
     module _ (ready : Asked vs) where
       module _ (homes : Homes (code.function .locals)) where
@@ -218,132 +218,134 @@ module _ {M : Type 1} (𝓤 : URA M) (H : Heap 𝓤) (A : Atoms 𝓤) (W : Given
         abbrev lent-locals : List Cell
         lent-locals = filled (vptr (work64 .b) (work64 .o) ∷ value work64 ∷ vptr (work32 .b) (work32 .o) ∷ value work32 ∷ vptr (facts .b) (facts .o) ∷ value facts ∷ [])
 
+        -- ---- a target is tried, with `to`, where the lists are these
+        module _ (xs ws : List ℕ) (fs : List Fact) (e-x : length xs ≡ length (work64 .list)) (e-w : length ws ≡ length (work32 .list)) (e-f : length fs ≡ length (facts .list)) (to : Goal) (to-is : Is O.the-row to (O′.lowered to ∷ [])) where
+          abbrev try-args : List (Arg 𝓤 H A)
+          try-args = pass-one 𝓤 H A W 9 κs qs 0 tt tab ∷ pass-slice 𝓤 H A W 9 κs qs 1 tt bounds ∷ pass-slice 𝓤 H A W 9 κs qs 2 tt recs ∷ pass-slice 𝓤 H A W 9 κs qs 3 tt ops ∷ pass-slice 𝓤 H A W 9 κs qs 4 tt pairs ∷ pass-too 𝓤 H A W 9 κs qs 2 tt targets ∷ pass-mut 𝓤 H A W 9 κs qs 6 tt work64 5 xs e-x ∷ pass-mut 𝓤 H A W 9 κs qs 7 tt work32 6 ws e-w ∷ pass-mut 𝓤 H A W 9 κs qs 8 tt facts 7 fs e-f
+              ∷ pass-data 𝓤 H A W sizes-data sizes ∷ pass-struct 𝓤 H A W K.the-type K′.the-plain chain (K′.lowered chain) chain-is ∷ pass-struct 𝓤 H A W O.the-type O′.the-plain to (O′.lowered to) to-is ∷ []
+
+          abbrev Tried : List ℕ → List ℕ → List Fact → ℕ → Type 0
+          Tried xs′ ws′ fs′ r = TargetTried (bounds .list) (recs .list) (ops .list) (pairs .list) (targets .list) (sizes .it) chain (numbers fs) xs ws to xs′ ws′ r × (numbers fs′ ≡ numbers fs)
+
+          abbrev Try-says : ℕ → Lasts 𝓤 H A try-args → Type 0
+          Try-says r y = Tried (last-of 𝓤 H A try-args 6 y) (last-of 𝓤 H A try-args 7 y) (last-of 𝓤 H A try-args 8 y) r
+
+          try-call : Trying (bounds .list) (recs .list) (ops .list) (pairs .list) (targets .list) (sizes .it) chain (numbers fs) xs ws to × (to .places ≤ length fs) → ent 𝓤 (⋆ 𝓤 H A (G.hads 𝓤 H A try-args)) (H .⇛ (C #trial·target·try-target (G.flat 𝓤 H A try-args) (G.Then 𝓤 H A W try-args u32 Try-says)))
+          try-call asks = calls-of 𝓤 H A W C fm #trial·target·try-target (Tries 𝓤 H A mem run) known-try try-args (λ g. ((G.lfts 𝓤 H A try-args g, G.shares 𝓤 H A try-args, tt, G.values 𝓤 H A try-args g, G.machs 𝓤 H A try-args), tt)) (λ g. refl)
+              (λ g. qed W (raw (G.tokens 𝓤 H A try-args g) ∷ ‵ (G.owns 𝓤 H A try-args g) ∷ []) ∵ says ! (ready .0, asks .0, asks .1) $ done !) u32 Try-says (λ g w. id⊢ 𝓤 _)
+
         -- ---- the facts fs₁ along the chain, n positions
         module _ (n : ℕ) (n-fits : n < 2 ^ 64) (xs₁ ws₁ : List ℕ) (fs₁ : List Fact) (e-x : length xs₁ ≡ length (work64 .list)) (e-w : length ws₁ ≡ length (work32 .list)) (e-f : length fs₁ ≡ length (facts .list)) (learnt : Learnt (bounds .list) (recs .list) (ops .list) (sizes .it) chain (work64 .list) (work32 .list) xs₁ ws₁ fs₁ n) where
-          abbrev want-args : List (Arg 𝓤 H A)
-          want-args = pass-slice 𝓤 H A W 9 κs qs 1 tt bounds ∷ pass-slice 𝓤 H A W 9 κs qs 5 tt replay ∷ pass-struct 𝓤 H A W B.the-type B′.the-plain x (B′.lowered x) x-is ∷ pass-struct 𝓤 H A W K.the-type K′.the-plain chain (K′.lowered chain) chain-is ∷ []
+          abbrev toward-t-args : List (Arg 𝓤 H A)
+          toward-t-args = pass-slice 𝓤 H A W 9 κs qs 1 tt bounds ∷ pass-slice 𝓤 H A W 9 κs qs 5 tt replay ∷ pass-data 𝓤 H A W look-data from-x ∷ pass-number 𝓤 H A W w64 n n-fits ∷ []
 
-          abbrev Want-says : Ask → Lasts 𝓤 H A want-args → Type 0
-          Want-says r y = law.Wanted (bounds .list) (replay .list) (x .0) chain r
+          abbrev Toward-t-says : Goal → Lasts 𝓤 H A toward-t-args → Type 0
+          Toward-t-says r y = r ≡ toward-t (bounds .list) (replay .list) at n
 
-          want-call : ent 𝓤 (⋆ 𝓤 H A (G.hads 𝓤 H A want-args)) (H .⇛ (C #trial·block·wanted (G.flat 𝓤 H A want-args) (G.Then 𝓤 H A W want-args O.the-row Want-says)))
-          want-call = calls-of 𝓤 H A W C fm #trial·block·wanted (Wants 𝓤 H A mem run) known-want want-args (λ g. ((G.lfts 𝓤 H A want-args g, G.shares 𝓤 H A want-args, tt, G.values 𝓤 H A want-args g, G.machs 𝓤 H A want-args), tt)) (λ g. refl)
-              (λ g. qed W (raw (G.tokens 𝓤 H A want-args g) ∷ ‵ (G.owns 𝓤 H A want-args g) ∷ []) ∵ says ! (law.wanting (ready .1)) $ done !) O.the-row Want-says (λ g w. id⊢ 𝓤 _)
+          toward-t-call : ent 𝓤 (⋆ 𝓤 H A (G.hads 𝓤 H A toward-t-args)) (H .⇛ (C #trial·block·toward-t (G.flat 𝓤 H A toward-t-args) (G.Then 𝓤 H A W toward-t-args O.the-row Toward-t-says)))
+          toward-t-call = calls-of 𝓤 H A W C fm #trial·block·toward-t (TowardT 𝓤 H A mem run) known-toward-t toward-t-args (λ g. ((G.lfts 𝓤 H A toward-t-args g, G.shares 𝓤 H A toward-t-args, tt, G.values 𝓤 H A toward-t-args g, G.machs 𝓤 H A toward-t-args), tt)) (λ g. refl)
+              (λ g. qed W (raw (G.tokens 𝓤 H A toward-t-args g) ∷ ‵ (G.owns 𝓤 H A toward-t-args g) ∷ []) ∵ says ! (law.measured at (ready .1)) $ done !) O.the-row Toward-t-says (λ g w. id⊢ 𝓤 _)
 
-          -- ---- q: how many positions are in the first block, and the fewest members
-          module _ (q : Ask) (q-is : Is O.the-row q (O′.lowered q ∷ [])) (asked : law.Wanted (bounds .list) (replay .list) (x .0) chain q) where
-            inside-fits : q .inside < 2 ^ 64
-            inside-fits = LL.owed O.the-type O′.the-laws q _ q-is .0 .1
-
-            least-fits : q .least < 2 ^ 32
-            least-fits = LL.owed O.the-type O′.the-laws q _ q-is .1 .0 .1
-
+          -- ---- what t is tried with
+          module _ (to-t : Goal) (to-t-is : Is O.the-row to-t (O′.lowered to-t ∷ [])) (from-here : to-t ≡ toward-t (bounds .list) (replay .list) at n) where
             abbrev t-args : List (Arg 𝓤 H A)
-            t-args = pass-one 𝓤 H A W 9 κs qs 0 tt tab ∷ pass-slice 𝓤 H A W 9 κs qs 1 tt bounds ∷ pass-slice 𝓤 H A W 9 κs qs 2 tt recs ∷ pass-slice 𝓤 H A W 9 κs qs 3 tt ops ∷ pass-slice 𝓤 H A W 9 κs qs 4 tt pairs ∷ pass-too 𝓤 H A W 9 κs qs 2 tt targets ∷ pass-mut 𝓤 H A W 9 κs qs 6 tt work64 5 xs₁ e-x ∷ pass-mut 𝓤 H A W 9 κs qs 7 tt work32 6 ws₁ e-w ∷ pass-mut 𝓤 H A W 9 κs qs 8 tt facts 7 fs₁ e-f
-                ∷ pass-data 𝓤 H A W sizes-data sizes ∷ pass-struct 𝓤 H A W K.the-type K′.the-plain chain (K′.lowered chain) chain-is ∷ pass-number 𝓤 H A W w32 (q .least) least-fits ∷ pass-struct 𝓤 H A W B.the-type B′.the-plain (chain .t) (B′.lowered (chain .t)) t-is ∷ pass-struct 𝓤 H A W B.the-type B′.the-plain (chain .f) (B′.lowered (chain .f)) f-is ∷ pass-number 𝓤 H A W w64 (q .inside) inside-fits ∷ pass-number 𝓤 H A W w64 n n-fits ∷ []
-
-            abbrev T-says : ℕ → Lasts 𝓤 H A t-args → Type 0
-            T-says r y = PlanTried (bounds .list) (recs .list) (ops .list) (pairs .list) (targets .list) (sizes .it) chain (numbers fs₁) xs₁ ws₁ (q .least) (chain .t .0) (chain .f .0) (q .inside) n (y .1 .1 .1 .1 .1 .1 .0) (y .1 .1 .1 .1 .1 .1 .1 .0) r × (numbers (y .1 .1 .1 .1 .1 .1 .1 .1 .0) ≡ numbers fs₁)
-
-            t-call : ent 𝓤 (⋆ 𝓤 H A (G.hads 𝓤 H A t-args)) (H .⇛ (C #trial·target·plan (G.flat 𝓤 H A t-args) (G.Then 𝓤 H A W t-args u32 T-says)))
-            t-call = calls-of 𝓤 H A W C fm #trial·target·plan (Plans 𝓤 H A mem run) known-plan t-args (λ g. ((G.lfts 𝓤 H A t-args g, G.shares 𝓤 H A t-args, tt, G.values 𝓤 H A t-args g, G.machs 𝓤 H A t-args), tt)) (λ g. refl)
-                (λ g. qed W (raw (G.tokens 𝓤 H A t-args g) ∷ ‵ (G.owns 𝓤 H A t-args g) ∷ []) ∵ says ! (let h = law.trying-t (facts .list) q (ready .1) (ready .2) learnt e-f asked in (ready .0, h .0, h .1)) $ done !) u32 T-says (λ g w. id⊢ 𝓤 _)
+            t-args = try-args xs₁ ws₁ fs₁ e-x e-w e-f to-t to-t-is
 
             -- ---- k members move into t
-            module _ (k : ℕ) (k-fits : k < 2 ^ 32) (xs₂ ws₂ : List ℕ) (fs₂ : List Fact) (e-x₂ : length xs₂ ≡ length (work64 .list)) (e-w₂ : length ws₂ ≡ length (work32 .list)) (e-f₂ : length fs₂ ≡ length fs₁)
-                (into-t : PlanTried (bounds .list) (recs .list) (ops .list) (pairs .list) (targets .list) (sizes .it) chain (numbers fs₁) xs₁ ws₁ (q .least) (chain .t .0) (chain .f .0) (q .inside) n xs₂ ws₂ k × (numbers fs₂ ≡ numbers fs₁)) where
-              abbrev else-args : List (Arg 𝓤 H A)
-              else-args = pass-number 𝓤 H A W w32 k k-fits ∷ pass-number 𝓤 H A W w32 (q .least) least-fits ∷ []
+            module _ (k : ℕ) (k-fits : k < 2 ^ 32) (xs₂ ws₂ : List ℕ) (fs₂ : List Fact) (e-x₂ : length xs₂ ≡ length (work64 .list)) (e-w₂ : length ws₂ ≡ length (work32 .list)) (e-f₂ : length fs₂ ≡ length fs₁) (into-t : Tried xs₁ ws₁ fs₁ e-x e-w e-f to-t to-t-is xs₂ ws₂ fs₂ k) where
+              abbrev toward-f-args : List (Arg 𝓤 H A)
+              toward-f-args = pass-struct 𝓤 H A W O.the-type O′.the-plain to-t (O′.lowered to-t) to-t-is ∷ pass-number 𝓤 H A W w32 k k-fits ∷ []
 
-              abbrev Else-says : ℕ → Lasts 𝓤 H A else-args → Type 0
-              Else-says r y = r ≡ else-least k (q .least)
+              abbrev Toward-f-says : Goal → Lasts 𝓤 H A toward-f-args → Type 0
+              Toward-f-says r y = r ≡ toward-f to-t k
 
-              else-call : ent 𝓤 (⋆ 𝓤 H A (G.hads 𝓤 H A else-args)) (H .⇛ (C #trial·block·else-least (G.flat 𝓤 H A else-args) (G.Then 𝓤 H A W else-args u32 Else-says)))
-              else-call = calls-of 𝓤 H A W C fm #trial·block·else-least (Elses 𝓤 H A mem run) known-else else-args (λ g. ((G.lfts 𝓤 H A else-args g, G.shares 𝓤 H A else-args, tt, G.values 𝓤 H A else-args g, G.machs 𝓤 H A else-args), tt)) (λ g. refl)
-                  (λ g. qed W (raw (G.tokens 𝓤 H A else-args g) ∷ ‵ (G.owns 𝓤 H A else-args g) ∷ []) ∵ join ! $ frame ! $ done !) u32 Else-says (λ g w. id⊢ 𝓤 _)
+              toward-f-call : ent 𝓤 (⋆ 𝓤 H A (G.hads 𝓤 H A toward-f-args)) (H .⇛ (C #trial·block·toward-f (G.flat 𝓤 H A toward-f-args) (G.Then 𝓤 H A W toward-f-args O.the-row Toward-f-says)))
+              toward-f-call = calls-of 𝓤 H A W C fm #trial·block·toward-f (TowardF 𝓤 H A mem run) known-toward-f toward-f-args (λ g. ((G.lfts 𝓤 H A toward-f-args g, G.shares 𝓤 H A toward-f-args, tt, G.values 𝓤 H A toward-f-args g, G.machs 𝓤 H A toward-f-args), tt)) (λ g. refl)
+                  (λ g. qed W (raw (G.tokens 𝓤 H A toward-f-args g) ∷ ‵ (G.owns 𝓤 H A toward-f-args g) ∷ []) ∵ join ! $ frame ! $ done !) O.the-row Toward-f-says (λ g w. id⊢ 𝓤 _)
 
-              -- ---- v: the fewest for f
-              module _ (v : ℕ) (v-fits : v < 2 ^ 32) (v-is : v ≡ else-least k (q .least)) where
+              -- ---- what f is tried with
+              module _ (to-f : Goal) (to-f-is : Is O.the-row to-f (O′.lowered to-f ∷ [])) (from-t : to-f ≡ toward-f to-t k) where
                 abbrev f-args : List (Arg 𝓤 H A)
-                f-args = pass-one 𝓤 H A W 9 κs qs 0 tt tab ∷ pass-slice 𝓤 H A W 9 κs qs 1 tt bounds ∷ pass-slice 𝓤 H A W 9 κs qs 2 tt recs ∷ pass-slice 𝓤 H A W 9 κs qs 3 tt ops ∷ pass-slice 𝓤 H A W 9 κs qs 4 tt pairs ∷ pass-too 𝓤 H A W 9 κs qs 2 tt targets ∷ pass-mut 𝓤 H A W 9 κs qs 6 tt work64 5 xs₂ e-x₂ ∷ pass-mut 𝓤 H A W 9 κs qs 7 tt work32 6 ws₂ e-w₂ ∷ pass-mut 𝓤 H A W 9 κs qs 8 tt facts 7 fs₂ (e-f₂ ∙ e-f)
-                    ∷ pass-data 𝓤 H A W sizes-data sizes ∷ pass-struct 𝓤 H A W K.the-type K′.the-plain chain (K′.lowered chain) chain-is ∷ pass-number 𝓤 H A W w32 v v-fits ∷ pass-struct 𝓤 H A W B.the-type B′.the-plain (chain .f) (B′.lowered (chain .f)) f-is ∷ pass-struct 𝓤 H A W B.the-type B′.the-plain (chain .t) (B′.lowered (chain .t)) t-is ∷ pass-number 𝓤 H A W w64 (q .inside) inside-fits ∷ pass-number 𝓤 H A W w64 n n-fits ∷ []
-
-                abbrev F-says : ℕ → Lasts 𝓤 H A f-args → Type 0
-                F-says r y = PlanTried (bounds .list) (recs .list) (ops .list) (pairs .list) (targets .list) (sizes .it) chain (numbers fs₂) xs₂ ws₂ v (chain .f .0) (chain .t .0) (q .inside) n (y .1 .1 .1 .1 .1 .1 .0) (y .1 .1 .1 .1 .1 .1 .1 .0) r × (numbers (y .1 .1 .1 .1 .1 .1 .1 .1 .0) ≡ numbers fs₂)
-
-                f-call : ent 𝓤 (⋆ 𝓤 H A (G.hads 𝓤 H A f-args)) (H .⇛ (C #trial·target·plan (G.flat 𝓤 H A f-args) (G.Then 𝓤 H A W f-args u32 F-says)))
-                f-call = calls-of 𝓤 H A W C fm #trial·target·plan (Plans 𝓤 H A mem run) known-plan f-args (λ g. ((G.lfts 𝓤 H A f-args g, G.shares 𝓤 H A f-args, tt, G.values 𝓤 H A f-args g, G.machs 𝓤 H A f-args), tt)) (λ g. refl)
-                    (λ g. qed W (raw (G.tokens 𝓤 H A f-args g) ∷ ‵ (G.owns 𝓤 H A f-args g) ∷ []) ∵ says ! (let h = law.trying-f (facts .list) q fs₂ (ready .1) (ready .2) learnt e-f asked into-t e-f₂ in (ready .0, h .0, h .1)) $ done !) u32 F-says (λ g w. id⊢ 𝓤 _)
+                f-args = try-args xs₂ ws₂ fs₂ e-x₂ e-w₂ (e-f₂ ∙ e-f) to-f to-f-is
 
                 -- ---- j members move into f
-                module _ (j : ℕ) (j-fits : j < 2 ^ 32) (xs₃ ws₃ : List ℕ) (fs₃ : List Fact) (e-x₃ : length xs₃ ≡ length (work64 .list)) (e-w₃ : length ws₃ ≡ length (work32 .list)) (e-f₃ : length fs₃ ≡ length (facts .list))
-                    (into-f : PlanTried (bounds .list) (recs .list) (ops .list) (pairs .list) (targets .list) (sizes .it) chain (numbers fs₂) xs₂ ws₂ v (chain .f .0) (chain .t .0) (q .inside) n xs₃ ws₃ j × (numbers fs₃ ≡ numbers fs₂)) where
+                module _ (j : ℕ) (j-fits : j < 2 ^ 32) (xs₃ ws₃ : List ℕ) (fs₃ : List Fact) (e-x₃ : length xs₃ ≡ length (work64 .list)) (e-w₃ : length ws₃ ≡ length (work32 .list)) (e-f₃ : length fs₃ ≡ length (facts .list)) (into-f : Tried xs₂ ws₂ fs₂ e-x₂ e-w₂ (e-f₂ ∙ e-f) to-f to-f-is xs₃ ws₃ fs₃ j) where
                   abbrev found-args : List (Arg 𝓤 H A)
-                  found-args = pass-struct 𝓤 H A W B.the-type B′.the-plain x (B′.lowered x) x-is ∷ pass-struct 𝓤 H A W K.the-type K′.the-plain chain (K′.lowered chain) chain-is ∷ pass-number 𝓤 H A W w64 (q .inside) inside-fits ∷ pass-number 𝓤 H A W w64 n n-fits ∷ pass-number 𝓤 H A W w32 k k-fits ∷ pass-number 𝓤 H A W w32 j j-fits ∷ []
+                  found-args = pass-struct 𝓤 H A W B.the-type B′.the-plain x (B′.lowered x) x-is ∷ pass-struct 𝓤 H A W O.the-type O′.the-plain to-t (O′.lowered to-t) to-t-is ∷ pass-number 𝓤 H A W w32 k k-fits ∷ pass-number 𝓤 H A W w32 j j-fits ∷ []
 
                   abbrev Found-says : MaybeMove → Lasts 𝓤 H A found-args → Type 0
-                  Found-says r y = r ≡ found x chain (q .inside) n k j
+                  Found-says r y = r ≡ found x to-t k j
 
                   found-call : ent 𝓤 (⋆ 𝓤 H A (G.hads 𝓤 H A found-args)) (H .⇛ (C #trial·block·found (G.flat 𝓤 H A found-args) (G.Then 𝓤 H A W found-args Y.the-row Found-says)))
                   found-call = calls-of 𝓤 H A W C fm #trial·block·found (Founds 𝓤 H A mem run) known-found found-args (λ g. ((G.lfts 𝓤 H A found-args g, G.shares 𝓤 H A found-args, tt, G.values 𝓤 H A found-args g, G.machs 𝓤 H A found-args), tt)) (λ g. refl)
                       (λ g. qed W (raw (G.tokens 𝓤 H A found-args g) ∷ ‵ (G.owns 𝓤 H A found-args g) ∷ []) ∵ join ! $ frame ! $ done !) Y.the-row Found-says (λ g w. id⊢ 𝓤 _)
 
-                  followed : {r : MaybeMove} → r ≡ found x chain (q .inside) n k j → Followed (bounds .list) (recs .list) (ops .list) (pairs .list) (targets .list) (replay .list) (sizes .it) (x .0) chain (work64 .list) (work32 .list) xs₃ ws₃ r
+                  followed : {r : MaybeMove} → r ≡ found x to-t k j → Followed (bounds .list) (recs .list) (ops .list) (pairs .list) (targets .list) (replay .list) (sizes .it) (x .0) chain (work64 .list) (work32 .list) xs₃ ws₃ r
                   followed e = subst (Followed (bounds .list) (recs .list) (ops .list) (pairs .list) (targets .list) (replay .list) (sizes .it) (x .0) chain (work64 .list) (work32 .list) xs₃ ws₃) (sym e)
-                      (law.followed (facts .list) q fs₂ x refl fs₃ (ready .1) (ready .2) learnt e-f asked into-t e-f₂ (subst (λ (i : ℕ). PlanTried (bounds .list) (recs .list) (ops .list) (pairs .list) (targets .list) (sizes .it) chain (numbers fs₂) xs₂ ws₂ i (chain .f .0) (chain .t .0) (q .inside) n xs₃ ws₃ j × (numbers fs₃ ≡ numbers fs₂)) v-is into-f))
+                      (law.followed at (ready .1) (facts .list) (ready .2) learnt e-f from-here fs₂ into-t e-f₂ from-t (into-f .0))
 
-                  -- the move, and the answer; nothing is handed over, ops an operand's local stands one place higher
-                  finds : ent 𝓤 (⋆ 𝓤 H A (At xs₃ ws₃ fs₃ (vint w64 n ∷ O′.lowered q ∷ vint w32 k ∷ vint w32 v ∷ vint w32 j ∷ []))) (Wp 𝓤 H C Λ En body.t-24 (atReturn 𝓤 H En Post))
+                  -- the locals of the function's own then
+                  abbrev locals : List Val
+                  locals = vint w64 n ∷ O′.lowered to-t ∷ vint w32 k ∷ O′.lowered to-f ∷ vint w32 j ∷ []
+
+                  -- the move, and the answer; nothing is handed over, so an operand's local stands one place higher
+                  finds : ent 𝓤 (⋆ 𝓤 H A (At xs₃ ws₃ fs₃ locals)) (Wp 𝓤 H C Λ En body.t-24 (atReturn 𝓤 H En Post))
                   finds =
-                      qed W (At xs₃ ws₃ fs₃ (vint w64 n ∷ O′.lowered q ∷ vint w32 k ∷ vint w32 v ∷ vint w32 j ∷ [])) ∵ exec ! C Λ En body.t-24 (atRet En Post) $
-                      calls-with {Γ = At xs₃ ws₃ fs₃ (vint w64 n ∷ O′.lowered q ∷ vint w32 k ∷ vint w32 v ∷ vint w32 j ∷ [])} found-args Y.the-row Found-says fm found-call ! (and-then ! (load ! (from ! (fld ! refl (stop !))) (look-in ! 57 (sub ! 0 refl (whole !)))) (and-then ! (load ! (from ! (fld ! refl (stop !))) (look-in ! 57 (sub ! 1 refl (whole !)))) (and-then ! (load ! (from ! (fld ! refl (stop !))) (look-in ! 53 (sub ! 0 refl (whole !)))) (and-then ! (load ! (from ! (stop !)) (look ! 55 refl)) (and-then ! (load ! (from ! (stop !)) (look ! 51 refl)) (and-then ! (load ! (from ! (stop !)) (look ! 47 refl)) (no-more !))))))) (λ w r y.
+                      qed W (At xs₃ ws₃ fs₃ locals) ∵ exec ! C Λ En body.t-24 (atRet En Post) $
+                      calls-with {Γ = At xs₃ ws₃ fs₃ locals} found-args Y.the-row Found-says fm found-call ! (and-then ! (load ! (from ! (fld ! refl (stop !))) (look-in ! 57 (sub ! 0 refl (whole !)))) (and-then ! (load ! (from ! (stop !)) (look ! 53 refl)) (and-then ! (load ! (from ! (stop !)) (look ! 51 refl)) (and-then ! (load ! (from ! (stop !)) (look ! 47 refl)) (no-more !))))) (λ w r y.
                       land ! (from ! (stop !)) (init ! 80 refl (EL.lawful Y.the-type Y′.the-laws 𝓤 H A W tt .typed (r .0) (w ∷ []) (y .0) .0)) $ returns ! (look ! 80 refl) $
-                      frees-all (Held xs₃ ws₃ fs₃) En (has w ∷ filled (given ++ (vint w64 n ∷ O′.lowered q ∷ vint w32 k ∷ vint w32 v ∷ vint w32 j ∷ []))) ! (by ! (exits xs₃ ws₃ fs₃ (r .0) w (y .0) e-x₃ e-w₃ e-f₃ (followed (y .1 .0)))))
+                      frees-all (Held xs₃ ws₃ fs₃) En (has w ∷ filled (given ++ locals)) ! (by ! (exits xs₃ ws₃ fs₃ (r .0) w (y .0) e-x₃ e-w₃ e-f₃ (followed (y .1 .0)))))
 
-                -- the plan for f; nine items are handed over
-                tries-f : ent 𝓤 (⋆ 𝓤 H A (At xs₂ ws₂ fs₂ (vint w64 n ∷ O′.lowered q ∷ vint w32 k ∷ vint w32 v ∷ []))) (Wp 𝓤 H C Λ En body.t-17 (atReturn 𝓤 H En Post))
+                -- f is tried; nine items are handed over
+                tries-f : ent 𝓤 (⋆ 𝓤 H A (At xs₂ ws₂ fs₂ (vint w64 n ∷ O′.lowered to-t ∷ vint w32 k ∷ O′.lowered to-f ∷ []))) (Wp 𝓤 H C Λ En body.t-17 (atReturn 𝓤 H En Post))
                 tries-f =
-                    qed W (At xs₂ ws₂ fs₂ (vint w64 n ∷ O′.lowered q ∷ vint w32 k ∷ vint w32 v ∷ [])) ∵ exec ! C Λ En body.t-17 (atRet En Post) $
+                    qed W (At xs₂ ws₂ fs₂ (vint w64 n ∷ O′.lowered to-t ∷ vint w32 k ∷ O′.lowered to-f ∷ [])) ∵ exec ! C Λ En body.t-17 (atRet En Post) $
                     lends-on ! 80 work64 refl refl $ lends-on ! 80 work32 refl refl $ lends-on ! 80 facts refl refl $ move ! (0 ∷ 1 ∷ 2 ∷ 3 ∷ 4 ∷ 5 ∷ 7 ∷ 8 ∷ 9 ∷ []) $
-                    calls-with {Γ = Rest (sees 5 tt u32 ∷ []) (replay, tt) tt (vint w64 n ∷ O′.lowered q ∷ vint w32 k ∷ vint w32 v ∷ []) (room ∷ room ∷ room ∷ room ∷ room ∷ room ∷ room ∷ room ∷ room ∷ room ∷ room ∷ room ∷ room ∷ lent-locals)} f-args u32 F-says fm f-call ! (loads ! 72 (1 ∷ 2 ∷ 3 ∷ 4 ∷ 5 ∷ 6 ∷ 31 ∷ 33 ∷ 35 ∷ 11 ∷ []) (take 10 (G.flat 𝓤 H A f-args)) refl (and-then ! (load ! (from ! (fld ! refl (stop !))) (look-in ! 48 (sub ! 1 refl (whole !)))) (and-then ! (load ! (from ! (stop !)) (look ! 40 refl)) (and-then ! (load ! (from ! (fld ! refl (fld ! refl (stop !)))) (look-in ! 48 (sub ! 8 refl (sub ! 1 refl (whole !))))) (and-then ! (load ! (from ! (fld ! refl (fld ! refl (stop !)))) (look-in ! 48 (sub ! 7 refl (sub ! 1 refl (whole !))))) (and-then ! (load ! (from ! (fld ! refl (stop !))) (look-in ! 44 (sub ! 0 refl (whole !)))) (and-then ! (load ! (from ! (stop !)) (look ! 46 refl)) (no-more !)))))))) (λ w r y.
+                    calls-with {Γ = Rest (sees 5 tt u32 ∷ []) (replay, tt) tt (vint w64 n ∷ O′.lowered to-t ∷ vint w32 k ∷ O′.lowered to-f ∷ []) (room ∷ room ∷ room ∷ room ∷ room ∷ room ∷ room ∷ room ∷ room ∷ room ∷ room ∷ room ∷ room ∷ lent-locals)} f-args u32 (Try-says xs₂ ws₂ fs₂ e-x₂ e-w₂ (e-f₂ ∙ e-f) to-f to-f-is) fm
+                    (try-call xs₂ ws₂ fs₂ e-x₂ e-w₂ (e-f₂ ∙ e-f) to-f to-f-is (law.trying-f at (ready .1) (facts .list) (ready .2) learnt e-f from-here fs₂ into-t e-f₂ from-t)) !
+                    (loads ! 72 (1 ∷ 2 ∷ 3 ∷ 4 ∷ 5 ∷ 6 ∷ 31 ∷ 33 ∷ 35 ∷ 11 ∷ []) (take 10 (G.flat 𝓤 H A f-args)) refl (and-then ! (load ! (from ! (fld ! refl (stop !))) (look-in ! 48 (sub ! 1 refl (whole !)))) (and-then ! (load ! (from ! (stop !)) (look ! 40 refl)) (no-more !)))) (λ w r y.
                     land ! (from ! (stop !)) (init ! 46 refl (uint-lawful 𝓤 H A W w32 .typed (r .0) (w ∷ []) (y .0) .0)) $ rewrite ! 46 (λ (u : Val). ‵ (fat fullShare (tyInt w32) (l 17) 0 u)) (ap only (y .0 .0)) refl $ move ! (0 ∷ 1 ∷ 2 ∷ 3 ∷ 4 ∷ 5 ∷ 9 ∷ []) $
                     forget ! 20 refl $ forget ! 18 refl $ forget ! 16 refl $ forget ! 14 refl $ forget ! 12 refl $ forget ! 10 refl $
-                    by ! (finds (r .0) (y .0 .1) (r .1 .1 .1 .1 .1 .1 .1 .0) (r .1 .1 .1 .1 .1 .1 .1 .1 .0) (r .1 .1 .1 .1 .1 .1 .1 .1 .1 .0) (y .1 .1 .1 .1 .1 .1 .1 .1 .0 ∙ e-x₂) (y .1 .1 .1 .1 .1 .1 .1 .1 .1 .0 ∙ e-w₂) (y .1 .1 .1 .1 .1 .1 .1 .1 .1 .1 .0 ∙ (e-f₂ ∙ e-f)) (y .1 .0)))
+                    by ! (finds (r .0) (y .0 .1) (last-of 𝓤 H A f-args 6 (r .1)) (last-of 𝓤 H A f-args 7 (r .1)) (last-of 𝓤 H A f-args 8 (r .1)) (fit-of 𝓤 H A f-args 6 (r .1) (y .1 .1) ∙ e-x₂) (fit-of 𝓤 H A f-args 7 (r .1) (y .1 .1) ∙ e-w₂) (fit-of 𝓤 H A f-args 8 (r .1) (y .1 .1) ∙ (e-f₂ ∙ e-f)) (y .1 .0)))
 
-              elses : ent 𝓤 (⋆ 𝓤 H A (At xs₂ ws₂ fs₂ (vint w64 n ∷ O′.lowered q ∷ vint w32 k ∷ []))) (Wp 𝓤 H C Λ En body.t-16 (atReturn 𝓤 H En Post))
-              elses =
-                  qed W (At xs₂ ws₂ fs₂ (vint w64 n ∷ O′.lowered q ∷ vint w32 k ∷ [])) ∵ exec ! C Λ En body.t-16 (atRet En Post) $
-                  calls-with {Γ = At xs₂ ws₂ fs₂ (vint w64 n ∷ O′.lowered q ∷ vint w32 k ∷ [])} else-args u32 Else-says fm else-call ! (and-then ! (load ! (from ! (stop !)) (look ! 51 refl)) (and-then ! (load ! (from ! (fld ! refl (stop !))) (look-in ! 53 (sub ! 1 refl (whole !)))) (no-more !))) (λ w r y.
-                  land ! (from ! (stop !)) (init ! 48 refl (uint-lawful 𝓤 H A W w32 .typed (r .0) (w ∷ []) (y .0) .0)) $ rewrite ! 48 (λ (u : Val). ‵ (fat fullShare (tyInt w32) (l 16) 0 u)) (ap only (y .0 .0)) refl $ by ! (tries-f (r .0) (y .0 .1) (y .1 .0)))
+              -- what f is tried with; nothing is handed over
+              turns : ent 𝓤 (⋆ 𝓤 H A (At xs₂ ws₂ fs₂ (vint w64 n ∷ O′.lowered to-t ∷ vint w32 k ∷ []))) (Wp 𝓤 H C Λ En body.t-16 (atReturn 𝓤 H En Post))
+              turns =
+                  qed W (At xs₂ ws₂ fs₂ (vint w64 n ∷ O′.lowered to-t ∷ vint w32 k ∷ [])) ∵ exec ! C Λ En body.t-16 (atRet En Post) $
+                  calls-with {Γ = At xs₂ ws₂ fs₂ (vint w64 n ∷ O′.lowered to-t ∷ vint w32 k ∷ [])} toward-f-args O.the-row Toward-f-says fm toward-f-call ! (and-then ! (load ! (from ! (stop !)) (look ! 53 refl)) (and-then ! (load ! (from ! (stop !)) (look ! 51 refl)) (no-more !))) (λ w r y.
+                  land ! (from ! (stop !)) (init ! 48 refl (LL.lawful O.the-type O′.the-laws 𝓤 H A W .typed (r .0) (w ∷ []) (y .0) .0)) $ rewrite ! 48 (λ (u : Val). ‵ (fat fullShare O′.mir (l 16) 0 u)) (ap only (O′.lowers .val-is (r .0) (w ∷ []) (y .0))) refl $
+                  cut (At xs₂ ws₂ fs₂ (vint w64 n ∷ O′.lowered to-t ∷ vint w32 k ∷ O′.lowered (r .0) ∷ [])) (At xs₂ ws₂ fs₂ (vint w64 n ∷ O′.lowered to-t ∷ vint w32 k ∷ O′.lowered (r .0) ∷ [])) [] (id⊢ 𝓤 _) $ by ! (tries-f (r .0) (goal-is (r .0) w (y .0)) (y .1 .0)))
 
-            -- the plan for t; nine items are handed over
-            tries-t : ent 𝓤 (⋆ 𝓤 H A (At xs₁ ws₁ fs₁ (vint w64 n ∷ O′.lowered q ∷ []))) (Wp 𝓤 H C Λ En body.t-9 (atReturn 𝓤 H En Post))
+            -- t is tried; nine items are handed over
+            tries-t : ent 𝓤 (⋆ 𝓤 H A (At xs₁ ws₁ fs₁ (vint w64 n ∷ O′.lowered to-t ∷ []))) (Wp 𝓤 H C Λ En body.t-9 (atReturn 𝓤 H En Post))
             tries-t =
-                qed W (At xs₁ ws₁ fs₁ (vint w64 n ∷ O′.lowered q ∷ [])) ∵ exec ! C Λ En body.t-9 (atRet En Post) $
+                qed W (At xs₁ ws₁ fs₁ (vint w64 n ∷ O′.lowered to-t ∷ [])) ∵ exec ! C Λ En body.t-9 (atRet En Post) $
                 lends-on ! 80 work64 refl refl $ lends-on ! 80 work32 refl refl $ lends-on ! 80 facts refl refl $ move ! (0 ∷ 1 ∷ 2 ∷ 3 ∷ 4 ∷ 5 ∷ 7 ∷ 8 ∷ 9 ∷ []) $
-                calls-with {Γ = Rest (sees 5 tt u32 ∷ []) (replay, tt) tt (vint w64 n ∷ O′.lowered q ∷ []) (room ∷ room ∷ room ∷ room ∷ room ∷ room ∷ room ∷ room ∷ room ∷ lent-locals)} t-args u32 T-says fm t-call ! (loads ! 72 (1 ∷ 2 ∷ 3 ∷ 4 ∷ 5 ∷ 6 ∷ 25 ∷ 27 ∷ 29 ∷ 11 ∷ []) (take 10 (G.flat 𝓤 H A t-args)) refl (and-then ! (load ! (from ! (fld ! refl (stop !))) (look-in ! 48 (sub ! 1 refl (whole !)))) (and-then ! (load ! (from ! (fld ! refl (stop !))) (look-in ! 44 (sub ! 1 refl (whole !)))) (and-then ! (load ! (from ! (fld ! refl (fld ! refl (stop !)))) (look-in ! 48 (sub ! 7 refl (sub ! 1 refl (whole !))))) (and-then ! (load ! (from ! (fld ! refl (fld ! refl (stop !)))) (look-in ! 48 (sub ! 8 refl (sub ! 1 refl (whole !))))) (and-then ! (load ! (from ! (fld ! refl (stop !))) (look-in ! 44 (sub ! 0 refl (whole !)))) (and-then ! (load ! (from ! (stop !)) (look ! 46 refl)) (no-more !)))))))) (λ w r y.
+                calls-with {Γ = Rest (sees 5 tt u32 ∷ []) (replay, tt) tt (vint w64 n ∷ O′.lowered to-t ∷ []) (room ∷ room ∷ room ∷ room ∷ room ∷ room ∷ room ∷ room ∷ room ∷ lent-locals)} t-args u32 (Try-says xs₁ ws₁ fs₁ e-x e-w e-f to-t to-t-is) fm
+                (try-call xs₁ ws₁ fs₁ e-x e-w e-f to-t to-t-is (law.trying-t at (ready .1) (facts .list) (ready .2) learnt e-f from-here)) !
+                (loads ! 72 (1 ∷ 2 ∷ 3 ∷ 4 ∷ 5 ∷ 6 ∷ 25 ∷ 27 ∷ 29 ∷ 11 ∷ []) (take 10 (G.flat 𝓤 H A t-args)) refl (and-then ! (load ! (from ! (fld ! refl (stop !))) (look-in ! 48 (sub ! 1 refl (whole !)))) (and-then ! (load ! (from ! (stop !)) (look ! 44 refl)) (no-more !)))) (λ w r y.
                 land ! (from ! (stop !)) (init ! 50 refl (uint-lawful 𝓤 H A W w32 .typed (r .0) (w ∷ []) (y .0) .0)) $ rewrite ! 50 (λ (u : Val). ‵ (fat fullShare (tyInt w32) (l 15) 0 u)) (ap only (y .0 .0)) refl $ move ! (0 ∷ 1 ∷ 2 ∷ 3 ∷ 4 ∷ 5 ∷ 9 ∷ []) $
                 forget ! 32 refl $ forget ! 30 refl $ forget ! 28 refl $ forget ! 26 refl $ forget ! 24 refl $ forget ! 22 refl $
-                by ! (elses (r .0) (y .0 .1) (r .1 .1 .1 .1 .1 .1 .1 .0) (r .1 .1 .1 .1 .1 .1 .1 .1 .0) (r .1 .1 .1 .1 .1 .1 .1 .1 .1 .0) (y .1 .1 .1 .1 .1 .1 .1 .1 .0 ∙ e-x) (y .1 .1 .1 .1 .1 .1 .1 .1 .1 .0 ∙ e-w) (y .1 .1 .1 .1 .1 .1 .1 .1 .1 .1 .0) (y .1 .0)))
+                by ! (turns (r .0) (y .0 .1) (last-of 𝓤 H A t-args 6 (r .1)) (last-of 𝓤 H A t-args 7 (r .1)) (last-of 𝓤 H A t-args 8 (r .1)) (fit-of 𝓤 H A t-args 6 (r .1) (y .1 .1) ∙ e-x) (fit-of 𝓤 H A t-args 7 (r .1) (y .1 .1) ∙ e-w) (fit-of 𝓤 H A t-args 8 (r .1) (y .1 .1)) (y .1 .0)))
 
-          -- what is asked; two items are handed over
-          wants : ent 𝓤 (⋆ 𝓤 H A (At xs₁ ws₁ fs₁ (vint w64 n ∷ []))) (Wp 𝓤 H C Λ En body.t-8 (atReturn 𝓤 H En Post))
-          wants =
+          -- what t is tried with; two items are handed over
+          aims : ent 𝓤 (⋆ 𝓤 H A (At xs₁ ws₁ fs₁ (vint w64 n ∷ []))) (Wp 𝓤 H C Λ En body.t-8 (atReturn 𝓤 H En Post))
+          aims =
               qed W (At xs₁ ws₁ fs₁ (vint w64 n ∷ [])) ∵ exec ! C Λ En body.t-8 (atRet En Post) $ move ! (1 ∷ 6 ∷ []) $
-              calls-with {Γ = Rest (one 0 tt Tab ∷ sees 2 tt u32 ∷ sees 3 tt u32 ∷ sees 4 tt u32 ∷ too 2 tt u32 ∷ lends 6 tt u64 ∷ lends 7 tt u32 ∷ lends 8 tt T.the-row ∷ []) (tab, (recs, (ops, (pairs, (targets, (work64, (work32, (facts, tt)))))))) (xs₁, (ws₁, (fs₁, tt))) (vint w64 n ∷ []) []} want-args O.the-row Want-says fm want-call ! (loads ! 79 (2 ∷ 7 ∷ []) (take 2 (G.flat 𝓤 H A want-args)) refl (and-then ! (load ! (from ! (fld ! refl (stop !))) (look-in ! 55 (sub ! 0 refl (whole !)))) (and-then ! (load ! (from ! (fld ! refl (stop !))) (look-in ! 55 (sub ! 1 refl (whole !)))) (no-more !)))) (λ w r y.
+              calls-with {Γ = Rest (one 0 tt Tab ∷ sees 2 tt u32 ∷ sees 3 tt u32 ∷ sees 4 tt u32 ∷ too 2 tt u32 ∷ lends 6 tt u64 ∷ lends 7 tt u32 ∷ lends 8 tt T.the-row ∷ []) (tab, (recs, (ops, (pairs, (targets, (work64, (work32, (facts, tt)))))))) (xs₁, (ws₁, (fs₁, tt))) (vint w64 n ∷ []) []} toward-t-args O.the-row Toward-t-says fm toward-t-call ! (loads ! 79 (2 ∷ 7 ∷ 12 ∷ 13 ∷ []) (G.flat 𝓤 H A toward-t-args) refl (no-more !)) (λ w r y.
               land ! (from ! (stop !)) (init ! 52 refl (LL.lawful O.the-type O′.the-laws 𝓤 H A W .typed (r .0) (w ∷ []) (y .0) .0)) $ rewrite ! 52 (λ (u : Val). ‵ (fat fullShare O′.mir (l 14) 0 u)) (ap only (O′.lowers .val-is (r .0) (w ∷ []) (y .0))) refl $ move ! (2 ∷ 0 ∷ 3 ∷ 4 ∷ 5 ∷ 6 ∷ 1 ∷ []) $
-              cut (At xs₁ ws₁ fs₁ (vint w64 n ∷ O′.lowered (r .0) ∷ [])) (At xs₁ ws₁ fs₁ (vint w64 n ∷ O′.lowered (r .0) ∷ [])) [] (id⊢ 𝓤 _) $ by ! (tries-t (r .0) (subst (Is O.the-row (r .0)) (O′.lowers .val-is (r .0) (w ∷ []) (y .0)) (y .0)) (y .1 .0)))
+              cut (At xs₁ ws₁ fs₁ (vint w64 n ∷ O′.lowered (r .0) ∷ [])) (At xs₁ ws₁ fs₁ (vint w64 n ∷ O′.lowered (r .0) ∷ [])) [] (id⊢ 𝓤 _) $ by ! (tries-t (r .0) (goal-is (r .0) w (y .0)) (y .1 .0)))
 
         abbrev learn-args : List (Arg 𝓤 H A)
         learn-args = pass-one 𝓤 H A W 9 κs qs 0 tt tab ∷ pass-slice 𝓤 H A W 9 κs qs 1 tt bounds ∷ pass-slice 𝓤 H A W 9 κs qs 2 tt recs ∷ pass-slice 𝓤 H A W 9 κs qs 3 tt ops ∷ pass-mut 𝓤 H A W 9 κs qs 6 tt work64 4 (work64 .list) refl ∷ pass-mut 𝓤 H A W 9 κs qs 7 tt work32 5 (work32 .list) refl ∷ pass-mut 𝓤 H A W 9 κs qs 8 tt facts 6 (facts .list) refl
             ∷ pass-data 𝓤 H A W sizes-data sizes ∷ pass-struct 𝓤 H A W K.the-type K′.the-plain chain (K′.lowered chain) chain-is ∷ []
 
         abbrev Learn-says : ℕ → Lasts 𝓤 H A learn-args → Type 0
-        Learn-says r y = Learnt (bounds .list) (recs .list) (ops .list) (sizes .it) chain (work64 .list) (work32 .list) (y .1 .1 .1 .1 .0) (y .1 .1 .1 .1 .1 .0) (y .1 .1 .1 .1 .1 .1 .0) r
+        Learn-says r y = Learnt (bounds .list) (recs .list) (ops .list) (sizes .it) chain (work64 .list) (work32 .list) (last-of 𝓤 H A learn-args 4 y) (last-of 𝓤 H A learn-args 5 y) (last-of 𝓤 H A learn-args 6 y) r
 
         learn-call : ent 𝓤 (⋆ 𝓤 H A (G.hads 𝓤 H A learn-args)) (H .⇛ (C #trial·learn·learn (G.flat 𝓤 H A learn-args) (G.Then 𝓤 H A W learn-args usize Learn-says)))
         learn-call = calls-of 𝓤 H A W C fm #trial·learn·learn (Learns 𝓤 H A mem run) known-learn learn-args (λ g. ((G.lfts 𝓤 H A learn-args g, G.shares 𝓤 H A learn-args, tt, G.values 𝓤 H A learn-args g, G.machs 𝓤 H A learn-args), tt)) (λ g. refl)
-            (λ g. qed W (raw (G.tokens 𝓤 H A learn-args g) ∷ ‵ (G.owns 𝓤 H A learn-args g) ∷ []) ∵ says ! (ready .0, law.learning (ready .1) (ready .2)) $ done !) usize Learn-says (λ g w. id⊢ 𝓤 _)
+            (λ g. qed W (raw (G.tokens 𝓤 H A learn-args g) ∷ ‵ (G.owns 𝓤 H A learn-args g) ∷ []) ∵ says ! (ready .0, law.learning at (ready .1) (ready .2)) $ done !) usize Learn-says (λ g w. id⊢ 𝓤 _)
 
         -- the MIR, once the parameters are in their locals: [the locals; what is held], and then [what is held; the locals]. Seven items are handed over
         begins : ent 𝓤 (⋆ 𝓤 H A (cells 𝓤 H En (room ∷ filled given) ++ Held (work64 .list) (work32 .list) (facts .list))) (Wp 𝓤 H C Λ En body.t-1 (atReturn 𝓤 H En Post))
@@ -353,7 +355,7 @@ module _ {M : Type 1} (𝓤 : URA M) (H : Heap 𝓤) (A : Atoms 𝓤) (W : Given
             calls-with {Γ = Rest (sees 4 tt u32 ∷ too 2 tt u32 ∷ sees 5 tt u32 ∷ []) (pairs, (targets, (replay, tt))) tt [] (room ∷ room ∷ room ∷ room ∷ room ∷ lent-locals)} learn-args usize Learn-says fm learn-call ! (loads ! 74 (1 ∷ 2 ∷ 3 ∷ 4 ∷ 19 ∷ 21 ∷ 23 ∷ 11 ∷ []) (take 8 (G.flat 𝓤 H A learn-args)) refl (and-then ! (load ! (from ! (fld ! refl (stop !))) (look-in ! 50 (sub ! 1 refl (whole !)))) (no-more !))) (λ w r y.
             land ! (from ! (stop !)) (init ! 54 refl (uint-lawful 𝓤 H A W w64 .typed (r .0) (w ∷ []) (y .0) .0)) $ rewrite ! 54 (λ (u : Val). ‵ (fat fullShare (tyInt w64) (l 13) 0 u)) (ap only (y .0 .0)) refl $ move ! (0 ∷ 1 ∷ 2 ∷ 3 ∷ 7 ∷ 8 ∷ 9 ∷ []) $
             forget ! 44 refl $ forget ! 42 refl $ forget ! 40 refl $ forget ! 38 refl $ forget ! 36 refl $ forget ! 34 refl $
-            by ! (wants (r .0) (y .0 .1) (r .1 .1 .1 .1 .1 .0) (r .1 .1 .1 .1 .1 .1 .0) (r .1 .1 .1 .1 .1 .1 .1 .0) (y .1 .1 .1 .1 .1 .1 .0) (y .1 .1 .1 .1 .1 .1 .1 .0) (y .1 .1 .1 .1 .1 .1 .1 .1 .0) (y .1 .0)))
+            by ! (aims (r .0) (y .0 .1) (last-of 𝓤 H A learn-args 4 (r .1)) (last-of 𝓤 H A learn-args 5 (r .1)) (last-of 𝓤 H A learn-args 6 (r .1)) (fit-of 𝓤 H A learn-args 4 (r .1) (y .1 .1)) (fit-of 𝓤 H A learn-args 5 (r .1) (y .1 .1)) (fit-of 𝓤 H A learn-args 6 (r .1) (y .1 .1)) (y .1 .0)))
 
       from-entry : ent 𝓤 (onEntry 𝓤 H A f.signature κs qs (entries κs kinds vs) (machs κs kinds vs)) (WpFn 𝓤 H C Λ code.function given Post)
       from-entry = via 𝓤 (⋆ 𝓤 H A (Held (work64 .list) (work32 .list) (facts .list))) (opened 𝓤 H A W (params (work64 .list) (work32 .list) (facts .list)))
@@ -361,7 +363,7 @@ module _ {M : Type 1} (𝓤 : URA M) (H : Heap 𝓤) (A : Atoms 𝓤) (W : Given
 
   try-chain-walks : Walks 𝓤 H A f.ended stayed (WpFn 𝓤 H C Λ code.function) (f.clauses 𝓤 H A mem run)
   try-chain-walks = walked 𝓤 H A f.ended stayed (f.clauses 𝓤 H A mem run) (WpFn 𝓤 H C Λ code.function) (λ κs. F.spells κs kinds) (λ κs. F.tells κs kinds)
-      (λ κs qs bounds a g are. needs 𝓤 (Asked (F.takes κs kinds a are)) _ (λ ready. uncurried kinds (Goal κs qs) (from-entry κs qs) (F.takes κs kinds a are) ready))
+      (λ κs qs bounds a g are. needs 𝓤 (Asked (F.takes κs kinds a are)) _ (λ ready. uncurried kinds (Shown κs qs) (from-entry κs qs) (F.takes κs kinds a are) ready))
 
   try-chain-meets : Meets 𝓤 H A f.signature (WpFn 𝓤 H C Λ code.function) (f.spec 𝓤 H A mem run)
   try-chain-meets = walk-meets 𝓤 H A f.ended stayed W (F.all-go 𝓤 H A W kinds) (f.clauses 𝓤 H A mem run) (WpFn 𝓤 H C Λ code.function) (WpFn-mono 𝓤 H (W .laws) 𝓣 code.function) try-chain-walks
@@ -373,7 +375,7 @@ try-chain-spec 𝓤 H 𝓜 𝓖 𝓡 =
     (tables 𝓤 H 𝓜 𝓡 code.env .C) (tables 𝓤 H 𝓜 𝓡 code.env .Λ) #trial·block·try-chain code.function (code.unfolded 𝓤 H 𝓜 𝓡)
     (try-chain-meets 𝓤 H (𝓖 .A) (givenOf 𝓤 H 𝓜 𝓖) (𝓜 .mem) (𝓡 .run) (tablesOf 𝓤 H 𝓜 (tables 𝓤 H 𝓜 𝓡 code.env))
     (cited 𝓤 H (Learns 𝓤 H (𝓖 .A) (𝓜 .mem) (𝓡 .run)) 𝓜 𝓡 code.env #trial·learn·learn learn-def.routine code.calls-trial·learn·learn (learn-thm.met 𝓤 H 𝓜 𝓖 𝓡))
-    (cited 𝓤 H (Wants 𝓤 H (𝓖 .A) (𝓜 .mem) (𝓡 .run)) 𝓜 𝓡 code.env #trial·block·wanted want-def.routine code.calls-trial·block·wanted (want-thm.met 𝓤 H 𝓜 𝓖 𝓡))
-    (cited 𝓤 H (Plans 𝓤 H (𝓖 .A) (𝓜 .mem) (𝓡 .run)) 𝓜 𝓡 code.env #trial·target·plan plan-def.routine code.calls-trial·target·plan (plan-thm.met 𝓤 H 𝓜 𝓖 𝓡))
-    (cited 𝓤 H (Elses 𝓤 H (𝓖 .A) (𝓜 .mem) (𝓡 .run)) 𝓜 𝓡 code.env #trial·block·else-least else-def.routine code.calls-trial·block·else-least (else-thm.met 𝓤 H 𝓜 𝓖 𝓡))
+    (cited 𝓤 H (TowardT 𝓤 H (𝓖 .A) (𝓜 .mem) (𝓡 .run)) 𝓜 𝓡 code.env #trial·block·toward-t toward-t-def.routine code.calls-trial·block·toward-t (toward-t-thm.met 𝓤 H 𝓜 𝓖 𝓡))
+    (cited 𝓤 H (Tries 𝓤 H (𝓖 .A) (𝓜 .mem) (𝓡 .run)) 𝓜 𝓡 code.env #trial·target·try-target try-def.routine code.calls-trial·target·try-target (try-thm.met 𝓤 H 𝓜 𝓖 𝓡))
+    (cited 𝓤 H (TowardF 𝓤 H (𝓖 .A) (𝓜 .mem) (𝓡 .run)) 𝓜 𝓡 code.env #trial·block·toward-f toward-f-def.routine code.calls-trial·block·toward-f (toward-f-thm.met 𝓤 H 𝓜 𝓖 𝓡))
     (cited 𝓤 H (Founds 𝓤 H (𝓖 .A) (𝓜 .mem) (𝓡 .run)) 𝓜 𝓡 code.env #trial·block·found found-def.routine code.calls-trial·block·found (found-thm.met 𝓤 H 𝓜 𝓖 𝓡)))

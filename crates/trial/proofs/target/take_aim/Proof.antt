@@ -1,5 +1,5 @@
 -- `trial::target::take_aim` meets its contract. Assumes nothing.
-use mathlib.Core.Path.{refl, sym, ap, _∙_, subst}
+use mathlib.Core.Path.{sym, ap, _∙_, subst}
 use Prim.Native.Nat.{ℕ, _+_, _-_, _*_, _≤_, _<_}
 use native.Mathlib.Omega.{arith}
 use borrow.Author.Tests.{not-true, not-false}
@@ -27,24 +27,26 @@ at-preds-requires : tie.Need-at-preds-requires
 at-preds-requires c κs = room (c .before .before .before .before .before .before .before .before .before .pre .1 .lists) .few
 
 mul-is-target : tie.Need-mul-is-target
-mul-is-target c = let r = room (c .before .before .before .before .before .before .before .before .before .before .pre .1 .lists) in omega (arith, r .few, c .at-preds .ensures)
+mul-is-target c = let r = room (c .before .before .before .before .before .before .before .before .before .before .before .pre .1 .lists) in omega (arith, r .few, c .before .at-preds .ensures)
 
 sub-is-target : tie.Need-sub-is-target
-sub-is-target c = let r = room (c .before .before .before .before .before .before .before .before .before .before .pre .1 .lists) in omega (arith, r .words32, c .at-preds .ensures)
+sub-is-target c = let r = room (c .before .before .before .before .before .before .before .before .before .before .before .pre .1 .lists) in omega (arith, r .words32, c .before .at-preds .ensures)
 
 part-is-target-start : tie.Need-part-is-target-start
-part-is-target-start c = let r = room (c .before .before .before .before .before .before .before .before .before .before .pre .1 .lists) in omega (arith, r .words32, c .at-preds .ensures)
+part-is-target-start c = let r = room (c .before .before .before .before .before .before .before .before .before .before .before .pre .1 .lists) in omega (arith, r .words32, c .before .at-preds .ensures)
 
 part-is-target-end : tie.Need-part-is-target-end
 part-is-target-end c = search needs
 
 is-target-requires : tie.Need-is-target-requires
 is-target-requires c κs =
-    let g = c .before .before .before .before .before .before .before .before .before .before .before .args in
-    let p = c .before .before .before .before .before .before .before .before .before .before .before .pre .1 in
-    let low = subst (λ (y : ℕ). g .into .0 < y) (sym (p .lists .blocks-are)) (p .into-block) in
-    let ws = g .work32 .now in
-    let long = subst (λ (i : ℕ). 2 * g .s .blocks ≤ length (take (length ws - i) (drop i ws))) (sym (c .before .at-preds .ensures)) (preds-room ws (p .lists)) in
+    let at-preds = c .before .before in
+    let start = at-preds .before .before .before .before .before .before .before .before .before .before in
+    let a = start .args in
+    let p = start .pre .1 in
+    let low = subst (λ (y : ℕ). a .g .into .0 < y) (sym (p .lists .blocks-are)) (p .into-block) in
+    let ws = a .work32 .now in
+    let long = subst (λ (i : ℕ). 2 * a .s .blocks ≤ length (take (length ws - i) (drop i ws))) (sym (at-preds .at-preds .ensures)) (preds-room ws (p .lists)) in
     (p .few, low, long)
 
 from-start-requires : tie.Need-from-start-requires
@@ -52,24 +54,28 @@ from-start-requires c κs = search needs
 
 returns : tie.Need-returns
 returns c =
-    let g = c .before .before .before .before .before .before .before .before .before .before .before .before .before .before .args in
-    aim-off (record { is = λ P h. c .before .before .is-target .ensures P (preds-from (g .s) (g .work32 .now) P (c .before .before .before .before .at-preds .ensures) h) }) (not-true _ (c .before .if1 .taken)) (c .before .before .before .before .before .before .before .at-needed .ensures .0) (c .before .before .before .before .before .before .at-stamps .ensures .0) (c .from-start .ensures) refl
+    let at-target = c .before .before in
+    let at-preds = at-target .before .before .before in
+    let at-stamps = at-preds .before .before in
+    let at-needed = at-stamps .before in
+    let a = at-needed .before .before .before .before .before .before .before .args in
+    aim-off (record { is = λ P h. at-target .is-target .ensures P (preds-from (a .s) (a .work32 .now) P (at-preds .at-preds .ensures) h) }) (not-true _ (c .before .if1 .taken)) (at-needed .at-needed .ensures .0) (at-stamps .at-stamps .ensures .0) (c .from-start .ensures)
 
 wide-requires-2 : tie.Need-wide-requires-2
 wide-requires-2 c κs = search needs
 
 width-requires : tie.Need-width-requires
-width-requires c κs = let r = room (c .before .before .before .before .before .before .before .before .before .before .before .before .before .before .before .pre .1 .lists) in omega (arith, r .lent, r .few, c .wide2 .ensures)
+width-requires c κs = let r = room (c .before .before .before .before .before .before .before .before .before .before .before .before .before .before .before .before .pre .1 .lists) in omega (arith, r .lent, r .few, c .wide2 .ensures)
 
 put-needed-requires : tie.Need-put-needed-requires
 put-needed-requires c κs =
-    let in-f = c .before .before .before .before .before .before .before .before .before .before .before .before .before .before .before .before in
-    let t = in-f .pre .1 in
+    let start = c .before .before .before .before .before .before .before .before .before .before .before .before .before .before .before .before .before in
+    let t = start .pre .1 in
     let l = t .lists in
     let low = block-lent l (t .into-block) in
     let other = block-lent l (t .other-block) in
     let ew = c .width .ensures ∙ ap width (c .before .wide2 .ensures) in
-    (in-f .pre .0, graph-lent l (t .tabled), omega (arith, low, other), omega (arith, low, other), row-lent l (t .into-block) ew)
+    (start .pre .0, graph-lent l (t .tabled), omega (arith, low, other), omega (arith, low, other), row-lent l (t .into-block) ew)
 
 from-start-requires-2 : tie.Need-from-start-requires-2
 from-start-requires-2 c κs = search needs
@@ -79,9 +85,17 @@ same-length c = search needs
 
 returns-2 : tie.Need-returns-2
 returns-2 c =
-    let g = c .before .before .before .before .before .before .before .before .before .before .before .before .before .before .before .before .before .before .before .before .args in
-    aim-on (c .before .before .before .before .before .before .before .before .before .before .before .before .before .before .before .before .before .before .before .before .pre .1) (record { is = λ P h. c .before .before .before .before .before .before .before .before .is-target .ensures P (preds-from (g .s) (g .work32 .now) P (c .before .before .before .before .before .before .before .before .before .before .at-preds .ensures) h) }) (not-false _ (c .before .before .before .before .before .before .before .if1 .left)) (c .before .before .before .before .width .ensures ∙ ap width (c .before .before .before .before .before .wide2 .ensures)) (c .before .before .before .before .before .before .before .before .before .before .before .before .before .at-needed .ensures .0) (c .before .before .before .before .before .before .before .before .before .before .before .before .at-stamps .ensures .0)
-    (ap (λ (x : ℕ). 8000 + x) (c .before .before .before .before .before .before .before .before .before .before .before .wide .ensures)) (c .before .before .before .put-needed .ensures) (c .from-start2 .ensures) refl
+    let at-put = c .before .before .before in
+    let at-width = at-put .before in
+    let at-target = at-width .before .before .before .before in
+    let at-preds = at-target .before .before .before in
+    let at-regs = at-preds .before in
+    let at-stamps = at-regs .before in
+    let at-needed = at-stamps .before in
+    let start = at-needed .before .before .before .before .before .before .before in
+    let a = start .args in
+    aim-on (start .pre .1) (record { is = λ P h. at-target .is-target .ensures P (preds-from (a .s) (a .work32 .now) P (at-preds .at-preds .ensures) h) }) (not-false _ (c .before .before .before .before .before .before .before .if1 .left)) (at-width .width .ensures ∙ ap width (at-width .before .wide2 .ensures)) (at-needed .at-needed .ensures .0) (at-stamps .at-stamps .ensures .0)
+    (ap (λ (x : ℕ). 8000 + x) (at-regs .wide .ensures)) (at-put .put-needed .ensures) (c .from-start2 .ensures)
 
 pub take-aim-spec : {M : Type 1} → statement M
 take-aim-spec =

@@ -5,10 +5,10 @@ use Rattle.trial.proofs.target.taken.Statement.{statement}
 use Rattle.trial.proofs.target.taken.Tie as tie
 
 returns : tie.Need-returns
-returns c = sym (taken-none (c .before .before .before .args .k) (c .before .before .before .args .a .least) (c .before .before .before .args .n) (c .if1 .taken))
+returns c = let a = c .before .args in sym (taken-none (a .k) (a .least) (a .n) (c .if1 .taken))
 
 returns-2 : tie.Need-returns-2
-returns-2 c = sym (taken-all (c .before .before .before .args .k) (c .before .before .before .args .a .least) (c .before .before .before .args .n) (c .if1 .left))
+returns-2 c = let a = c .before .args in sym (taken-all (a .k) (a .least) (a .n) (c .if1 .left))
 
 pub taken-spec : {M : Type 1} → statement M
 taken-spec = tie.close (tie.spec returns returns-2)

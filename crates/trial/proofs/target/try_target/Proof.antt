@@ -1,4 +1,4 @@
--- `trial::target::plan` meets its contract: a walk of its MIR, by hand, one declaration a call. The table and the words are held as `&` (the targets at the records' lifetime), the work slices and the facts as `Mine`. Assumes nothing.
+-- `trial::target::try_target` meets its contract: a walk of its MIR, by hand, one declaration a call. The table and the words are held as `&` (the targets at the records' lifetime), the work slices and the facts as `Mine`. Assumes nothing.
 use mathlib.Core.Path.{_≡_, refl, _∙_, ap, subst}
 use Prim.Native.Nat.{ℕ, _+_, _-_, _<_, _≤_, _^_}
 use native.Mathlib.Omega.{arith}
@@ -27,7 +27,7 @@ use denote.Array.{Array}
 use denote.RattleType.{RattleType}
 use denote.Laws.{Is, all-typed}
 use denote.Plain.{uint-makes, uint-lawful, nothing-lawful}
-use denote.Builtin.{u32, u64, usize, unit}
+use denote.Builtin.{u32, u64, unit}
 use denote.Slice.{sliceVal}
 use denote.Steps.{only, owned}
 use denote.Struct.Laws as LL
@@ -46,7 +46,7 @@ use Rattle.facts.proofs.PartAs.{numbers-halved, lent-as-part}
 use Rattle.facts.proofs.Cells.{Cell, room, has, filled, cells, Homes, home, envOf, enters-all, frees-all}
 use Rattle.facts.proofs.Fact as T
 use Rattle.facts.proofs.Frame as F
-use Rattle.facts.proofs.Frame.{Kind, one, sees, too, lends, datum, Slice, One, Datum, Number, number, struct, Values, value, shareAt, pars, entries, machs, fins, fit-all, ares, lawfuls, uncurried}
+use Rattle.facts.proofs.Frame.{Kind, one, sees, too, lends, datum, Slice, One, Datum, struct, Values, value, shareAt, pars, entries, machs, fins, fit-all, ares, lawfuls, uncurried}
 use Rattle.facts.proofs.Passing.{pass-one, pass-slice, pass-too, pass-mut, pass-as, pass-data, pass-number, pass-struct}
 use Rattle.facts.proofs.Statements.{loads, lends-on, big}
 use Rattle.inst.specs.Table.{rows}
@@ -58,14 +58,17 @@ use Rattle.analyse.specs.Cells.{cells as numbers}
 use Rattle.plan.specs.Cycle.{Chose}
 use Rattle.plan.proofs.settle.Cycle as Y
 use Rattle.plan.proofs.settle.Cycle.Laws as Y′
+use Rattle.trial.specs.declared.target.Goal.{Goal}
 use Rattle.trial.specs.declared.target.Aim.{Aim}
 use Rattle.trial.specs.declared.target.Sunk.{Sunk}
 use Rattle.chainwords.specs.Puts.{Facts}
 use Rattle.chainwords.specs.Along.{Used}
-use Rattle.trial.specs.Target.{taken, Aimed, Trying, PlanTried}
+use Rattle.trial.specs.Target.{taken, Aimed, Trying, TargetTried}
 use Rattle.trial.proofs.Planned as law
 use Rattle.sizes.proofs.Sizes as S
 use Rattle.sizes.proofs.Sizes.Laws as S′
+use Rattle.trial.proofs.target.Goal as O
+use Rattle.trial.proofs.target.Goal.Laws as O′
 use Rattle.trial.proofs.target.Aim as E
 use Rattle.trial.proofs.target.Aim.Laws as E′
 use Rattle.trial.proofs.target.Sunk as D
@@ -90,11 +93,11 @@ use Rattle.chainwords.proofs.marks.put_uses as put-uses
 use Rattle.chainwords.proofs.marks.put_uses.Symbol as use-def
 use Rattle.chainwords.proofs.marks.put_uses.Symbol.{name as #chainwords·marks·put-uses}
 use Rattle.chainwords.proofs.marks.put_uses.Met as use-thm
-use Rattle.trial.proofs.target.plan.Key.{name as #trial·target·plan}
-use Rattle.trial.proofs.target.plan as f
-use Rattle.trial.proofs.target.plan.Statement as stated
-use Rattle.trial.proofs.target.plan.Code as code
-use Rattle.trial.proofs.target.plan.Code.Mir as body
+use Rattle.trial.proofs.target.try_target.Key.{name as #trial·target·try-target}
+use Rattle.trial.proofs.target.try_target as f
+use Rattle.trial.proofs.target.try_target.Statement as stated
+use Rattle.trial.proofs.target.try_target.Code as code
+use Rattle.trial.proofs.target.try_target.Code.Mir as body
 
 -- the table and the structs by value
 abbrev Tab : RattleType
@@ -106,12 +109,12 @@ sizes-data = struct S.the-type S′.the-laws S′.the-plain S′.lowered (S′.l
 abbrev chain-data : F.Plain K.the-row
 chain-data = struct K.the-type K′.the-laws K′.the-plain K′.lowered (K′.lowers .val-is) (λ x. tt) (λ x f. refl)
 
-abbrev block-data : F.Plain B.the-row
-block-data = struct B.the-type B′.the-laws B′.the-plain B′.lowered (B′.lowers .val-is) (λ x. tt) (λ x f. refl)
+abbrev goal-data : F.Plain O.the-row
+goal-data = struct O.the-type O′.the-laws O′.the-plain O′.lowered (O′.lowers .val-is) (λ x. tt) (λ x f. refl)
 
 -- the parameters
 abbrev kinds : List (Kind 8)
-kinds = one 0 tt Tab ∷ sees 1 tt u32 ∷ sees 2 tt u32 ∷ sees 3 tt u32 ∷ sees 4 tt u32 ∷ too 2 tt u32 ∷ lends 5 tt u64 ∷ lends 6 tt u32 ∷ lends 7 tt T.the-row ∷ datum S.the-row sizes-data ∷ datum K.the-row chain-data ∷ datum u32 (number w32) ∷ datum B.the-row block-data ∷ datum B.the-row block-data ∷ datum usize (number w64) ∷ datum usize (number w64) ∷ []
+kinds = one 0 tt Tab ∷ sees 1 tt u32 ∷ sees 2 tt u32 ∷ sees 3 tt u32 ∷ sees 4 tt u32 ∷ too 2 tt u32 ∷ lends 5 tt u64 ∷ lends 6 tt u32 ∷ lends 7 tt T.the-row ∷ datum S.the-row sizes-data ∷ datum K.the-row chain-data ∷ datum O.the-row goal-data ∷ []
 
 abbrev stayed : Stays (f.ended .signature .params) (f.ended .kept)
 stayed = F.stays kinds
@@ -142,7 +145,7 @@ module _ {M : Type 1} (𝓤 : URA M) (H : Heap 𝓤) (A : Atoms 𝓤) (mem : Mem
 
 -- what the function requires
 abbrev Asked : Values kinds → Type 0
-Asked = F.asks kinds (λ tab bounds recs ops pairs targets work64 work32 facts sizes chain fewest target besides inner count. (tab .now ≡ rows) × Trying (bounds .list) (recs .list) (ops .list) (pairs .list) (targets .list) (sizes .it) (chain .it) (numbers (facts .list)) (work64 .list) (work32 .list) (target .it .0) (besides .it .0) (inner .it) (count .it) × (count .it ≤ length (facts .list)))
+Asked = F.asks kinds (λ tab bounds recs ops pairs targets work64 work32 facts sizes chain goal. (tab .now ≡ rows) × Trying (bounds .list) (recs .list) (ops .list) (pairs .list) (targets .list) (sizes .it) (chain .it) (numbers (facts .list)) (work64 .list) (work32 .list) (goal .it) × (goal .it .places ≤ length (facts .list)))
 
 module _ {M : Type 1} (𝓤 : URA M) (H : Heap 𝓤) (A : Atoms 𝓤) (W : Given 𝓤 H A) (mem : Memory → SProp 𝓤) (run : Routine → Fun 𝓤) (𝓣 : Tables 𝓤 H)
     (known-aim : Triple 𝓤 (𝓣 .C #trial·target·take-aim) (TakeAim 𝓤 H A mem run)) (known-choose : Triple 𝓤 (𝓣 .C #plan·set·legal-set) (LegalSet 𝓤 H A mem run)) (known-take : Triple 𝓤 (𝓣 .C #trial·target·taken) (Taken 𝓤 H A mem run)) (known-put : Triple 𝓤 (𝓣 .C #chainwords·marks·put-facts) (PutFacts 𝓤 H A mem run)) (known-use : Triple 𝓤 (𝓣 .C #chainwords·marks·put-uses) (PutUses 𝓤 H A mem run)) where
@@ -159,12 +162,25 @@ module _ {M : Type 1} (𝓤 : URA M) (H : Heap 𝓤) (A : Atoms 𝓤) (W : Given
   abbrev Ends : (κs : Lfts 8) (qs : Shares 8) → Values kinds → Val → SProp 𝓤
   Ends κs qs vs = walkOf 𝓤 H A f.ended stayed (f.clauses 𝓤 H A mem run) .post ((κs, qs, tt, entries κs kinds vs, machs κs kinds vs), tt)
 
-  abbrev Goal : (κs : Lfts 8) (qs : Shares 8) → Values kinds → Type 1
-  Goal κs qs vs = Asked vs → ent 𝓤 (onEntry 𝓤 H A f.signature κs qs (entries κs kinds vs) (machs κs kinds vs)) (WpFn 𝓤 H C Λ code.function (F.given kinds vs) (Ends κs qs vs))
+  abbrev Shown : (κs : Lfts 8) (qs : Shares 8) → Values kinds → Type 1
+  Shown κs qs vs = Asked vs → ent 𝓤 (onEntry 𝓤 H A f.signature κs qs (entries κs kinds vs) (machs κs kinds vs)) (WpFn 𝓤 H C Λ code.function (F.given kinds vs) (Ends κs qs vs))
 
-  module _ (κs : Lfts 8) (qs : Shares 8) (tab : One Tab) (bounds recs ops pairs targets : Slice u32) (work64 : Slice u64) (work32 : Slice u32) (facts : Slice T.the-row) (sizes : Datum S.the-row (λ d. S′.lowered d ∷ [])) (chain : Datum K.the-row (λ d. K′.lowered d ∷ [])) (fewest : Number w32) (target besides : Datum B.the-row (λ d. B′.lowered d ∷ [])) (inner count : Number w64) where
+  module _ (κs : Lfts 8) (qs : Shares 8) (tab : One Tab) (bounds recs ops pairs targets : Slice u32) (work64 : Slice u64) (work32 : Slice u32) (facts : Slice T.the-row) (sizes : Datum S.the-row (λ d. S′.lowered d ∷ [])) (chain : Datum K.the-row (λ d. K′.lowered d ∷ [])) (goal : Datum O.the-row (λ d. O′.lowered d ∷ [])) where
     abbrev vs : Values kinds
-    vs = (tab, (bounds, (recs, (ops, (pairs, (targets, (work64, (work32, (facts, (sizes, (chain, (fewest, (target, (besides, (inner, (count, tt))))))))))))))))
+    vs = (tab, (bounds, (recs, (ops, (pairs, (targets, (work64, (work32, (facts, (sizes, (chain, (goal, tt))))))))))))
+
+    -- what the target is tried with
+    abbrev g : Goal
+    g = goal .it
+
+    into-is : Is B.the-row (g .into) (B′.lowered (g .into) ∷ [])
+    into-is = LL.owed O.the-type O′.the-laws g _ (goal .is) .0
+
+    inner-fits : g .inside < 2 ^ 64
+    inner-fits = LL.owed O.the-type O′.the-laws g _ (goal .is) .1 .1 .1 .0 .1
+
+    count-fits : g .places < 2 ^ 64
+    count-fits = LL.owed O.the-type O′.the-laws g _ (goal .is) .1 .1 .1 .1 .0 .1
 
     -- the parameters at these lists, and what the walk holds of them: nine items
     abbrev params : List ℕ → List ℕ → List Fact → List (Par 𝓤 H A)
@@ -180,7 +196,7 @@ module _ {M : Type 1} (𝓤 : URA M) (H : Heap 𝓤) (A : Atoms 𝓤) (W : Given
     Post = Ends κs qs vs
 
     abbrev Said : List ℕ → List ℕ → List Fact → ℕ → Type 0
-    Said xs′ ws′ fs′ r = PlanTried (bounds .list) (recs .list) (ops .list) (pairs .list) (targets .list) (sizes .it) (chain .it) (numbers (facts .list)) (work64 .list) (work32 .list) (fewest .it) (target .it .0) (besides .it .0) (inner .it) (count .it) xs′ ws′ r × (numbers fs′ ≡ numbers (facts .list))
+    Said xs′ ws′ fs′ r = TargetTried (bounds .list) (recs .list) (ops .list) (pairs .list) (targets .list) (sizes .it) (chain .it) (numbers (facts .list)) (work64 .list) (work32 .list) g xs′ ws′ r × (numbers fs′ ≡ numbers (facts .list))
 
     exits : (xs′ ws′ : List ℕ) (fs′ : List Fact) (r : ℕ) → r < 2 ^ 32 → length xs′ ≡ length (work64 .list) → length ws′ ≡ length (work32 .list) → length fs′ ≡ length (facts .list) → Said xs′ ws′ fs′ r → ent 𝓤 (⋆ 𝓤 H A (Held xs′ ws′ fs′)) (Post (vint w32 r))
     exits xs′ ws′ fs′ r fits e e′ e″ said =
@@ -197,7 +213,7 @@ module _ {M : Type 1} (𝓤 : URA M) (H : Heap 𝓤) (A : Atoms 𝓤) (W : Given
         abbrev l : ℕ → ℕ
         l = home (code.function .locals) homes
 
-        -- what is held, and the locals, those of vs after the parameters: local i stands at 9 + 2 · (41 − i)
+        -- what is held, and the locals, those of vs after the parameters: local i stands at 9 + 2 · (37 − i)
         abbrev At : List ℕ → List ℕ → List Fact → List Val → List (Item 𝓤)
         At xs′ ws′ fs′ vs = Held xs′ ws′ fs′ ++ cells 𝓤 H En (room ∷ filled (given ++ vs))
 
@@ -206,7 +222,7 @@ module _ {M : Type 1} (𝓤 : URA M) (H : Heap 𝓤) (A : Atoms 𝓤) (W : Given
         Rest ks us zs more cs = Q.items 𝓤 H A (pars 𝓤 H A W κs qs ks us zs) ++ cells 𝓤 H En (room ∷ (filled (given ++ more) ++ cs))
 
         -- ---- is it a target, and the row of registers needed elsewhere: a is what is asked of the set
-        module _ (a : Aim) (a-is : Is E.the-row a (E′.lowered a ∷ [])) (xs₁ : List ℕ) (e₁ : length xs₁ ≡ length (work64 .list)) (aimed : Aimed (bounds .list) (recs .list) (pairs .list) (targets .list) (sizes .it) (chain .it) (work64 .list) (work32 .list) (fewest .it) (target .it .0) (besides .it .0) (inner .it) (count .it) xs₁ a) where
+        module _ (a : Aim) (a-is : Is E.the-row a (E′.lowered a ∷ [])) (xs₁ : List ℕ) (e₁ : length xs₁ ≡ length (work64 .list)) (aimed : Aimed (bounds .list) (recs .list) (pairs .list) (targets .list) (sizes .it) (chain .it) (work64 .list) (work32 .list) g xs₁ a) where
           -- how many words of registers are lent, from word 8,000 on
           abbrev e : ℕ
           e = a .end - 8000
@@ -218,16 +234,16 @@ module _ {M : Type 1} (𝓤 : URA M) (H : Heap 𝓤) (A : Atoms 𝓤) (W : Given
           within = let h = inside .0 in let k = inside .1 in omega (arith, h, k)
 
           end-fits : a .end < 2 ^ 64
-          end-fits = LL.owed E.the-type E′.the-laws a _ a-is .1 .1 .0 .1
+          end-fits = LL.owed E.the-type E′.the-laws a _ a-is .1 .0 .1
 
-          into-is : Is B.the-row (a .into) (B′.lowered (a .into) ∷ [])
-          into-is = LL.owed E.the-type E′.the-laws a _ a-is .1 .0
+          least-fits : a .least < 2 ^ 32
+          least-fits = LL.owed E.the-type E′.the-laws a _ a-is .0 .1
 
           e-fits : e < 2 ^ 64
           e-fits = omega (arith, end-fits)
 
           sweeps-is : Is Y.the-row (a .sweeps) (Y′.lowered (a .sweeps) ∷ [])
-          sweeps-is = let h = a-is .1 .1 .1 .1 .1 .0 in subst (Is Y.the-row (a .sweeps)) (Y′.lowers .val-is (a .sweeps) _ h) h
+          sweeps-is = let h = a-is .1 .1 .1 .1 .0 in subst (Is Y.the-row (a .sweeps)) (Y′.lowers .val-is (a .sweeps) _ h) h
 
           abbrev choose-args : List (Arg 𝓤 H A)
           choose-args = pass-one 𝓤 H A W 8 κs qs 0 tt tab ∷ pass-slice 𝓤 H A W 8 κs qs 2 tt recs ∷ pass-slice 𝓤 H A W 8 κs qs 3 tt ops ∷ lent-as-part 𝓤 H A W u32 (numbers-halved 𝓤 H A W w32) (named 6) (lftAt 8 6 tt κs) (shareAt 8 6 tt qs) (work32 .γ) (work32 .b) (work32 .o) (length (work32 .list)) (named 3) (work32 .list) 8000 e within (work32 .wide) refl
@@ -243,17 +259,17 @@ module _ {M : Type 1} (𝓤 : URA M) (H : Heap 𝓤) (A : Atoms 𝓤) (W : Given
           -- ---- the set, of k members: the facts hs are marked
           module _ (k : ℕ) (k-fits : k < 2 ^ 32) (xs₂ : List ℕ) (hs : List Fact) (e₂ : length xs₂ ≡ length (work64 .list)) (e-hs : length hs ≡ length (facts .list)) (chose : Chose (recs .list) (ops .list) (midOf 8000 e (work32 .list)) (a .sweeps) xs₁ (facts .list) xs₂ hs k) where
             abbrev take-args : List (Arg 𝓤 H A)
-            take-args = pass-number 𝓤 H A W w32 k k-fits ∷ pass-struct 𝓤 H A W E.the-type E′.the-plain a (E′.lowered a) a-is ∷ pass-data 𝓤 H A W (number w64) count ∷ []
+            take-args = pass-number 𝓤 H A W w32 k k-fits ∷ pass-number 𝓤 H A W w32 (a .least) least-fits ∷ pass-number 𝓤 H A W w64 (g .places) count-fits ∷ []
 
             abbrev Take-says : Sunk → Lasts 𝓤 H A take-args → Type 0
-            Take-says r y = r ≡ taken k (a .least) (count .it)
+            Take-says r y = r ≡ taken k (a .least) (g .places)
 
             take-call : ent 𝓤 (⋆ 𝓤 H A (G.hads 𝓤 H A take-args)) (H .⇛ (C #trial·target·taken (G.flat 𝓤 H A take-args) (G.Then 𝓤 H A W take-args D.the-row Take-says)))
             take-call = calls-of 𝓤 H A W C fm #trial·target·taken (Taken 𝓤 H A mem run) known-take take-args (λ g. ((G.lfts 𝓤 H A take-args g, G.shares 𝓤 H A take-args, tt, G.values 𝓤 H A take-args g, G.machs 𝓤 H A take-args), tt)) (λ g. refl)
                 (λ g. qed W (raw (G.tokens 𝓤 H A take-args g) ∷ ‵ (G.owns 𝓤 H A take-args g) ∷ []) ∵ join ! $ frame ! $ done !) D.the-row Take-says (λ g w. id⊢ 𝓤 _)
 
             -- ---- how many of them move, b
-            module _ (b : Sunk) (b-is : Is D.the-row b (D′.lowered b ∷ [])) (sunk : b ≡ taken k (a .least) (count .it)) where
+            module _ (b : Sunk) (b-is : Is D.the-row b (D′.lowered b ∷ [])) (sunk : b ≡ taken k (a .least) (g .places)) where
               moved-fits : b .moved < 2 ^ 32
               moved-fits = LL.owed D.the-type D′.the-laws b _ b-is .0 .1
 
@@ -270,14 +286,14 @@ module _ {M : Type 1} (𝓤 : URA M) (H : Heap 𝓤) (A : Atoms 𝓤) (W : Given
               put-call = calls-of 𝓤 H A W C fm #chainwords·marks·put-facts (PutFacts 𝓤 H A mem run) known-put put-args (λ g. ((G.lfts 𝓤 H A put-args g, G.shares 𝓤 H A put-args, tt, G.values 𝓤 H A put-args g, G.machs 𝓤 H A put-args), tt)) (λ g. refl)
                   (λ g. qed W (raw (G.tokens 𝓤 H A put-args g) ∷ ‵ (G.owns 𝓤 H A put-args g) ∷ []) ∵ says ! (law.putting (ready .1) (ready .2) aimed chose sunk) $ done !) unit Put-says (λ g w. id⊢ 𝓤 _)
 
-              -- ---- their words are put (target .it) ws₁
+              -- ---- their words are put, in ws₁
               module _ (ws₁ : List ℕ) (e-ws : length ws₁ ≡ length (work32 .list)) (wrote : Facts hs (work32 .list) ws₁ (b .places)) where
                 abbrev use-args : List (Arg 𝓤 H A)
                 use-args = pass-one 𝓤 H A W 8 κs qs 0 tt tab ∷ pass-slice 𝓤 H A W 8 κs qs 1 tt bounds ∷ pass-slice 𝓤 H A W 8 κs qs 2 tt recs ∷ pass-slice 𝓤 H A W 8 κs qs 3 tt ops ∷ pass-mut 𝓤 H A W 8 κs qs 5 tt work64 4 xs₂ e₂ ∷ pass-mut 𝓤 H A W 8 κs qs 6 tt work32 5 ws₁ e-ws
-                    ∷ pass-data 𝓤 H A W sizes-data sizes ∷ pass-data 𝓤 H A W chain-data chain ∷ pass-number 𝓤 H A W w32 (b .moved) moved-fits ∷ pass-struct 𝓤 H A W B.the-type B′.the-plain (a .into) (B′.lowered (a .into)) into-is ∷ pass-data 𝓤 H A W (number w64) inner ∷ pass-data 𝓤 H A W (number w64) count ∷ []
+                    ∷ pass-data 𝓤 H A W sizes-data sizes ∷ pass-data 𝓤 H A W chain-data chain ∷ pass-number 𝓤 H A W w32 (b .moved) moved-fits ∷ pass-struct 𝓤 H A W B.the-type B′.the-plain (g .into) (B′.lowered (g .into)) into-is ∷ pass-number 𝓤 H A W w64 (g .inside) inner-fits ∷ pass-number 𝓤 H A W w64 (g .places) count-fits ∷ []
 
                 abbrev Use-says : Unit {0} → Lasts 𝓤 H A use-args → Type 0
-                Use-says r y = Used (bounds .list) (recs .list) (ops .list) (sizes .it) (chain .it) xs₂ ws₁ (b .moved) (a .into .0) (inner .it) (count .it) (y .1 .1 .1 .1 .0) (y .1 .1 .1 .1 .1 .0)
+                Use-says r y = Used (bounds .list) (recs .list) (ops .list) (sizes .it) (chain .it) xs₂ ws₁ (b .moved) (g .into .0) (g .inside) (g .places) (y .1 .1 .1 .1 .0) (y .1 .1 .1 .1 .1 .0)
 
                 use-call : ent 𝓤 (⋆ 𝓤 H A (G.hads 𝓤 H A use-args)) (H .⇛ (C #chainwords·marks·put-uses (G.flat 𝓤 H A use-args) (G.Then 𝓤 H A W use-args unit Use-says)))
                 use-call = calls-of 𝓤 H A W C fm #chainwords·marks·put-uses (PutUses 𝓤 H A mem run) known-use use-args (λ g. ((G.lfts 𝓤 H A use-args g, G.shares 𝓤 H A use-args, tt, G.values 𝓤 H A use-args g, G.machs 𝓤 H A use-args), tt)) (λ g. refl)
@@ -287,11 +303,11 @@ module _ {M : Type 1} (𝓤 : URA M) (H : Heap 𝓤) (A : Atoms 𝓤) (W : Given
                 uses : ent 𝓤 (⋆ 𝓤 H A (At xs₂ ws₁ hs (E′.lowered a ∷ vint w64 (a .end) ∷ vint w32 k ∷ D′.lowered b ∷ []))) (Wp 𝓤 H C Λ En body.t-22 (atReturn 𝓤 H En Post))
                 uses =
                     qed W (At xs₂ ws₁ hs (E′.lowered a ∷ vint w64 (a .end) ∷ vint w32 k ∷ D′.lowered b ∷ [])) ∵ exec ! C Λ En body.t-22 (atRet En Post) $
-                    lends-on ! 91 work64 refl refl $ lends-on ! 91 work32 refl refl $  -- six items are handed over, ops an operand's local stands five places lower
+                    lends-on ! 83 work64 refl refl $ lends-on ! 83 work32 refl refl $  -- six items are handed over, so an operand's local stands five places lower
                     move ! (0 ∷ 1 ∷ 2 ∷ 3 ∷ 6 ∷ 7 ∷ []) $
-                    calls-with {Γ = Rest (sees 4 tt u32 ∷ too 2 tt u32 ∷ lends 7 tt T.the-row ∷ []) (pairs, (targets, (facts, tt))) (hs, tt) (E′.lowered a ∷ vint w64 (a .end) ∷ vint w32 k ∷ D′.lowered b ∷ []) (room ∷ room ∷ room ∷ room ∷ room ∷ room ∷ room ∷ room ∷ room ∷ room ∷ room ∷ room ∷ room ∷ room ∷ room ∷ room ∷ room ∷ filled (vptr (work64 .b) (work64 .o) ∷ value work64 ∷ vptr (work32 .b) (work32 .o) ∷ value work32 ∷ []))} use-args unit Use-says fm use-call ! (loads ! 86 (1 ∷ 2 ∷ 3 ∷ 4 ∷ 39 ∷ 41 ∷ 10 ∷ 11 ∷ []) (take 8 (G.flat 𝓤 H A use-args)) refl (and-then ! (load ! (from ! (fld ! refl (stop !))) (look-in ! 46 (sub ! 0 refl (whole !)))) (and-then ! (load ! (from ! (fld ! refl (stop !))) (look-in ! 52 (sub ! 1 refl (whole !)))) (and-then ! (load ! (from ! (stop !)) (look ! 56 refl)) (and-then ! (load ! (from ! (stop !)) (look ! 54 refl)) (no-more !)))))) (λ w r y.
+                    calls-with {Γ = Rest (sees 4 tt u32 ∷ too 2 tt u32 ∷ lends 7 tt T.the-row ∷ []) (pairs, (targets, (facts, tt))) (hs, tt) (E′.lowered a ∷ vint w64 (a .end) ∷ vint w32 k ∷ D′.lowered b ∷ []) (room ∷ room ∷ room ∷ room ∷ room ∷ room ∷ room ∷ room ∷ room ∷ room ∷ room ∷ room ∷ room ∷ room ∷ room ∷ room ∷ room ∷ filled (vptr (work64 .b) (work64 .o) ∷ value work64 ∷ vptr (work32 .b) (work32 .o) ∷ value work32 ∷ []))} use-args unit Use-says fm use-call ! (loads ! 78 (1 ∷ 2 ∷ 3 ∷ 4 ∷ 35 ∷ 37 ∷ 10 ∷ 11 ∷ []) (take 8 (G.flat 𝓤 H A use-args)) refl (and-then ! (load ! (from ! (fld ! refl (stop !))) (look-in ! 46 (sub ! 0 refl (whole !)))) (and-then ! (load ! (from ! (fld ! refl (stop !))) (look-in ! 54 (sub ! 0 refl (whole !)))) (and-then ! (load ! (from ! (fld ! refl (stop !))) (look-in ! 54 (sub ! 3 refl (whole !)))) (and-then ! (load ! (from ! (fld ! refl (stop !))) (look-in ! 54 (sub ! 4 refl (whole !)))) (no-more !)))))) (λ w r y.
                     land ! (from ! (stop !)) (init ! 25 refl (nothing-lawful 𝓤 H A W .typed tt (w ∷ []) (y .0) .0)) $ move ! (0 ∷ 1 ∷ 2 ∷ 3 ∷ 6 ∷ 7 ∷ 4 ∷ 5 ∷ []) $
-                    assigns ! (of-opd ! (load ! (from ! (fld ! refl (stop !))) (look-in ! 51 (sub ! 0 refl (whole !))))) (from ! (stop !)) (init ! 91 refl (tt, record { fits = moved-fits })) $ returns ! (look ! 91 refl) $
+                    assigns ! (of-opd ! (load ! (from ! (fld ! refl (stop !))) (look-in ! 51 (sub ! 0 refl (whole !))))) (from ! (stop !)) (init ! 83 refl (tt, record { fits = moved-fits })) $ returns ! (look ! 83 refl) $
                     frees-all (Held (r .1 .1 .1 .1 .1 .0) (r .1 .1 .1 .1 .1 .1 .0) hs) En (has (vint w32 (b .moved)) ∷ (filled (given ++ (E′.lowered a ∷ vint w64 (a .end) ∷ vint w32 k ∷ D′.lowered b ∷ [])) ++ (room ∷ room ∷ room ∷ room ∷ room ∷ room ∷ room ∷ room ∷ room ∷ room ∷ room ∷ room ∷ has w ∷ room ∷ room ∷ room ∷ room ∷ filled (vptr (work64 .b) (work64 .o) ∷ value work64 ∷ vptr (work32 .b) (work32 .o) ∷ value work32 ∷ [])))) !
                     (by ! (exits (r .1 .1 .1 .1 .1 .0) (r .1 .1 .1 .1 .1 .1 .0) hs (b .moved) moved-fits (y .1 .1 .1 .1 .1 .1 .0 ∙ e₂) (y .1 .1 .1 .1 .1 .1 .1 .0 ∙ e-ws) e-hs (law.planned (ready .1) (ready .2) aimed chose sunk wrote (y .1 .0)))))
 
@@ -299,39 +315,39 @@ module _ {M : Type 1} (𝓤 : URA M) (H : Heap 𝓤) (A : Atoms 𝓤) (W : Given
               puts : ent 𝓤 (⋆ 𝓤 H A (At xs₂ (work32 .list) hs (E′.lowered a ∷ vint w64 (a .end) ∷ vint w32 k ∷ D′.lowered b ∷ []))) (Wp 𝓤 H C Λ En body.t-17 (atReturn 𝓤 H En Post))
               puts =
                   qed W (At xs₂ (work32 .list) hs (E′.lowered a ∷ vint w64 (a .end) ∷ vint w32 k ∷ D′.lowered b ∷ [])) ∵ exec ! C Λ En body.t-17 (atRet En Post) $
-                  lends-on ! 91 facts refl refl $ lends-on ! 91 work32 refl refl $ move ! (8 ∷ 7 ∷ []) $
-                  calls-with {Γ = Rest (one 0 tt Tab ∷ sees 1 tt u32 ∷ sees 2 tt u32 ∷ sees 3 tt u32 ∷ sees 4 tt u32 ∷ too 2 tt u32 ∷ lends 5 tt u64 ∷ []) (tab, (bounds, (recs, (ops, (pairs, (targets, (work64, tt))))))) (xs₂, tt) (E′.lowered a ∷ vint w64 (a .end) ∷ vint w32 k ∷ D′.lowered b ∷ []) (room ∷ room ∷ room ∷ room ∷ room ∷ room ∷ room ∷ room ∷ room ∷ room ∷ room ∷ room ∷ room ∷ filled (vptr (facts .b) (facts .o) ∷ value facts ∷ vptr (work32 .b) (work32 .o) ∷ value work32 ∷ []))} put-args unit Put-says fm put-call ! (loads ! 90 (35 ∷ 37 ∷ []) (take 2 (G.flat 𝓤 H A put-args)) refl (and-then ! (load ! (from ! (fld ! refl (stop !))) (look-in ! 50 (sub ! 1 refl (whole !)))) (no-more !))) (λ w r y.
+                  lends-on ! 83 facts refl refl $ lends-on ! 83 work32 refl refl $ move ! (8 ∷ 7 ∷ []) $
+                  calls-with {Γ = Rest (one 0 tt Tab ∷ sees 1 tt u32 ∷ sees 2 tt u32 ∷ sees 3 tt u32 ∷ sees 4 tt u32 ∷ too 2 tt u32 ∷ lends 5 tt u64 ∷ []) (tab, (bounds, (recs, (ops, (pairs, (targets, (work64, tt))))))) (xs₂, tt) (E′.lowered a ∷ vint w64 (a .end) ∷ vint w32 k ∷ D′.lowered b ∷ []) (room ∷ room ∷ room ∷ room ∷ room ∷ room ∷ room ∷ room ∷ room ∷ room ∷ room ∷ room ∷ room ∷ filled (vptr (facts .b) (facts .o) ∷ value facts ∷ vptr (work32 .b) (work32 .o) ∷ value work32 ∷ []))} put-args unit Put-says fm put-call ! (loads ! 82 (31 ∷ 33 ∷ []) (take 2 (G.flat 𝓤 H A put-args)) refl (and-then ! (load ! (from ! (fld ! refl (stop !))) (look-in ! 50 (sub ! 1 refl (whole !)))) (no-more !))) (λ w r y.
                   land ! (from ! (stop !)) (init ! 25 refl (nothing-lawful 𝓤 H A W .typed tt (w ∷ []) (y .0) .0)) $ move ! (2 ∷ 3 ∷ 4 ∷ 5 ∷ 6 ∷ 7 ∷ 8 ∷ 1 ∷ 0 ∷ []) $
                   forget ! 25 refl $ forget ! 23 refl $ forget ! 21 refl $ forget ! 19 refl $ forget ! 17 refl $ by ! (uses (r .1 .1 .0) (y .1 .1 .1 .0) (y .1 .0)))
 
-            -- how many move; nothing is handed over, ops an operand's local stands one place higher
+            -- how many move; nothing is handed over, so an operand's local stands one place higher
             takes : ent 𝓤 (⋆ 𝓤 H A (At xs₂ (work32 .list) hs (E′.lowered a ∷ vint w64 (a .end) ∷ vint w32 k ∷ []))) (Wp 𝓤 H C Λ En body.t-16 (atReturn 𝓤 H En Post))
             takes =
                 qed W (At xs₂ (work32 .list) hs (E′.lowered a ∷ vint w64 (a .end) ∷ vint w32 k ∷ [])) ∵ exec ! C Λ En body.t-16 (atRet En Post) $
-                calls-with {Γ = At xs₂ (work32 .list) hs (E′.lowered a ∷ vint w64 (a .end) ∷ vint w32 k ∷ [])} take-args D.the-row Take-says fm take-call ! (loads ! 92 (19 ∷ 17 ∷ 16 ∷ []) (G.flat 𝓤 H A take-args) refl (no-more !)) (λ w r y.
-                land ! (from ! (stop !)) (init ! 51 refl (LL.lawful D.the-type D′.the-laws 𝓤 H A W .typed (r .0) (w ∷ []) (y .0) .0)) $ rewrite ! 51 (λ (u : Val). ‵ (fat fullShare D′.mir (l 20) 0 u)) (ap only (D′.lowers .val-is (r .0) (w ∷ []) (y .0))) refl $
+                calls-with {Γ = At xs₂ (work32 .list) hs (E′.lowered a ∷ vint w64 (a .end) ∷ vint w32 k ∷ [])} take-args D.the-row Take-says fm take-call ! (and-then ! (load ! (from ! (stop !)) (look ! 54 refl)) (and-then ! (load ! (from ! (fld ! refl (stop !))) (look-in ! 58 (sub ! 0 refl (whole !)))) (and-then ! (load ! (from ! (fld ! refl (stop !))) (look-in ! 60 (sub ! 4 refl (whole !)))) (no-more !)))) (λ w r y.
+                land ! (from ! (stop !)) (init ! 51 refl (LL.lawful D.the-type D′.the-laws 𝓤 H A W .typed (r .0) (w ∷ []) (y .0) .0)) $ rewrite ! 51 (λ (u : Val). ‵ (fat fullShare D′.mir (l 16) 0 u)) (ap only (D′.lowers .val-is (r .0) (w ∷ []) (y .0))) refl $
                 cut (At xs₂ (work32 .list) hs (E′.lowered a ∷ vint w64 (a .end) ∷ vint w32 k ∷ D′.lowered (r .0) ∷ [])) (At xs₂ (work32 .list) hs (E′.lowered a ∷ vint w64 (a .end) ∷ vint w32 k ∷ D′.lowered (r .0) ∷ [])) [] (id⊢ 𝓤 _) $ by ! (puts (r .0) (sunk-is (r .0) w (y .0)) (y .1 .0)))
 
-          -- the set: _18, where the copied words end; _25 to _28, the copied words; six items are handed over
+          -- the set: _14, where the copied words end; _21 to _24, the copied words; six items are handed over
           chooses : ent 𝓤 (⋆ 𝓤 H A (At xs₁ (work32 .list) (facts .list) (E′.lowered a ∷ []))) (Wp 𝓤 H C Λ En body.t-6 (atReturn 𝓤 H En Post))
           chooses =
               qed W (At xs₁ (work32 .list) (facts .list) (E′.lowered a ∷ [])) ∵ exec ! C Λ En body.t-6 (atRet En Post) $
-              assigns ! (of-opd ! (load ! (from ! (fld ! refl (stop !))) (look-in ! 57 (sub ! 2 refl (whole !))))) (from ! (stop !)) (init ! 55 refl (tt, record { fits = end-fits })) $
-              assigns ! (bin ! (load ! (from ! (fld ! refl (stop !))) (look-in ! 75 (sub ! 0 refl (whole !)))) (big ! (record { fits = lit< tt })) tt) (from ! (stop !)) (init ! 41 refl (tt, tt)) $
+              assigns ! (of-opd ! (load ! (from ! (fld ! refl (stop !))) (look-in ! 57 (sub ! 1 refl (whole !))))) (from ! (stop !)) (init ! 55 refl (tt, record { fits = end-fits })) $
+              assigns ! (bin ! (load ! (from ! (fld ! refl (stop !))) (look-in ! 67 (sub ! 0 refl (whole !)))) (big ! (record { fits = lit< tt })) tt) (from ! (stop !)) (init ! 41 refl (tt, tt)) $
               assigns ! (bin ! (load ! (from ! (stop !)) (look ! 55 refl)) (big ! (record { fits = lit< tt })) (inside .0)) (from ! (stop !)) (init ! 39 refl (tt, record { fits = e-fits })) $
               assigns ! (addr ! (from ! (hop ! (look ! 41 refl) (stop !)))) (from ! (stop !)) (init ! 37 refl (tt, tt)) $
               assigns ! (agg ! (and-then ! (load ! (from ! (stop !)) (look ! 37 refl)) (and-then ! (load ! (from ! (stop !)) (look ! 39 refl)) (no-more !)))) (from ! (stop !)) (init ! 35 refl (tt, (tt, (record { fits = e-fits }, tt)))) $
-              lends-on ! 91 work64 refl refl $ lends-on ! 91 facts refl refl $ move ! (0 ∷ 2 ∷ 3 ∷ 7 ∷ 6 ∷ 8 ∷ []) $
-              calls-with {Γ = Rest (sees 1 tt u32 ∷ sees 4 tt u32 ∷ too 2 tt u32 ∷ []) (bounds, (pairs, (targets, tt))) tt (E′.lowered a ∷ vint w64 (a .end) ∷ []) (room ∷ room ∷ room ∷ room ∷ room ∷ room ∷ filled (vptr (work32 .b) (32000 + work32 .o) ∷ vint w64 e ∷ vptr (work32 .b) (32000 + work32 .o) ∷ sliceVal (work32 .b, 32000 + work32 .o) e ∷ vptr (work64 .b) (work64 .o) ∷ value work64 ∷ vptr (facts .b) (facts .o) ∷ value facts ∷ []))} choose-args u32 Choose-says fm choose-call ! (loads ! 86 (1 ∷ 3 ∷ 4 ∷ 28 ∷ 30 ∷ 32 ∷ []) (take 6 (G.flat 𝓤 H A choose-args)) refl (and-then ! (load ! (from ! (fld ! refl (stop !))) (look-in ! 52 (sub ! 3 refl (whole !)))) (no-more !))) (λ w r y.
-              land ! (from ! (stop !)) (init ! 53 refl (uint-lawful 𝓤 H A W w32 .typed (r .0) (w ∷ []) (y .0) .0)) $ rewrite ! 53 (λ (u : Val). ‵ (fat fullShare (tyInt w32) (l 19) 0 u)) (ap only (y .0 .0)) refl $ move ! (0 ∷ 6 ∷ 1 ∷ 2 ∷ 7 ∷ 8 ∷ 4 ∷ 3 ∷ 5 ∷ []) $
+              lends-on ! 83 work64 refl refl $ lends-on ! 83 facts refl refl $ move ! (0 ∷ 2 ∷ 3 ∷ 7 ∷ 6 ∷ 8 ∷ []) $
+              calls-with {Γ = Rest (sees 1 tt u32 ∷ sees 4 tt u32 ∷ too 2 tt u32 ∷ []) (bounds, (pairs, (targets, tt))) tt (E′.lowered a ∷ vint w64 (a .end) ∷ []) (room ∷ room ∷ room ∷ room ∷ room ∷ room ∷ filled (vptr (work32 .b) (32000 + work32 .o) ∷ vint w64 e ∷ vptr (work32 .b) (32000 + work32 .o) ∷ sliceVal (work32 .b, 32000 + work32 .o) e ∷ vptr (work64 .b) (work64 .o) ∷ value work64 ∷ vptr (facts .b) (facts .o) ∷ value facts ∷ []))} choose-args u32 Choose-says fm choose-call ! (loads ! 78 (1 ∷ 3 ∷ 4 ∷ 24 ∷ 26 ∷ 28 ∷ []) (take 6 (G.flat 𝓤 H A choose-args)) refl (and-then ! (load ! (from ! (fld ! refl (stop !))) (look-in ! 52 (sub ! 2 refl (whole !)))) (no-more !))) (λ w r y.
+              land ! (from ! (stop !)) (init ! 53 refl (uint-lawful 𝓤 H A W w32 .typed (r .0) (w ∷ []) (y .0) .0)) $ rewrite ! 53 (λ (u : Val). ‵ (fat fullShare (tyInt w32) (l 15) 0 u)) (ap only (y .0 .0)) refl $ move ! (0 ∷ 6 ∷ 1 ∷ 2 ∷ 7 ∷ 8 ∷ 4 ∷ 3 ∷ 5 ∷ []) $
               forget ! 41 refl $ forget ! 39 refl $ forget ! 37 refl $ forget ! 35 refl $ forget ! 33 refl $ forget ! 31 refl $ forget ! 29 refl $ forget ! 27 refl $ by ! (takes (r .0) (y .0 .1) (r .1 .1 .1 .1 .1 .0) (r .1 .1 .1 .1 .1 .1 .0) (y .1 .1 .1 .1 .1 .1 .0 ∙ e₁) (y .1 .1 .1 .1 .1 .1 .1 .0) (y .1 .0)))
 
         abbrev aim-args : List (Arg 𝓤 H A)
         aim-args = pass-one 𝓤 H A W 8 κs qs 0 tt tab ∷ pass-slice 𝓤 H A W 8 κs qs 1 tt bounds ∷ pass-slice 𝓤 H A W 8 κs qs 2 tt recs ∷ pass-slice 𝓤 H A W 8 κs qs 4 tt pairs ∷ pass-too 𝓤 H A W 8 κs qs 2 tt targets ∷ pass-mut 𝓤 H A W 8 κs qs 5 tt work64 4 (work64 .list) refl ∷ pass-as 𝓤 H A W 8 κs qs 6 tt work32 5 (work32 .list) refl
-            ∷ pass-data 𝓤 H A W sizes-data sizes ∷ pass-data 𝓤 H A W chain-data chain ∷ pass-data 𝓤 H A W (number w32) fewest ∷ pass-data 𝓤 H A W block-data target ∷ pass-data 𝓤 H A W block-data besides ∷ pass-data 𝓤 H A W (number w64) inner ∷ pass-data 𝓤 H A W (number w64) count ∷ []
+            ∷ pass-data 𝓤 H A W sizes-data sizes ∷ pass-data 𝓤 H A W chain-data chain ∷ pass-data 𝓤 H A W goal-data goal ∷ []
 
         abbrev Aim-says : Aim → Lasts 𝓤 H A aim-args → Type 0
-        Aim-says r y = Aimed (bounds .list) (recs .list) (pairs .list) (targets .list) (sizes .it) (chain .it) (work64 .list) (work32 .list) (fewest .it) (target .it .0) (besides .it .0) (inner .it) (count .it) (y .1 .1 .1 .1 .1 .0) r
+        Aim-says r y = Aimed (bounds .list) (recs .list) (pairs .list) (targets .list) (sizes .it) (chain .it) (work64 .list) (work32 .list) g (y .1 .1 .1 .1 .1 .0) r
 
         aim-call : ent 𝓤 (⋆ 𝓤 H A (G.hads 𝓤 H A aim-args)) (H .⇛ (C #trial·target·take-aim (G.flat 𝓤 H A aim-args) (G.Then 𝓤 H A W aim-args E.the-row Aim-says)))
         aim-call = calls-of 𝓤 H A W C fm #trial·target·take-aim (TakeAim 𝓤 H A mem run) known-aim aim-args (λ g. ((G.lfts 𝓤 H A aim-args g, G.shares 𝓤 H A aim-args, tt, G.values 𝓤 H A aim-args g, G.machs 𝓤 H A aim-args), tt)) (λ g. refl)
@@ -340,29 +356,29 @@ module _ {M : Type 1} (𝓤 : URA M) (H : Heap 𝓤) (A : Atoms 𝓤) (W : Given
         -- the MIR, once the parameters are in their locals: [the locals; what is held], and then [what is held; the locals]. Seven items are handed over
         begins : ent 𝓤 (⋆ 𝓤 H A (cells 𝓤 H En (room ∷ filled given) ++ Held (work64 .list) (work32 .list) (facts .list))) (Wp 𝓤 H C Λ En body.t-1 (atReturn 𝓤 H En Post))
         begins =
-            qed W (cells 𝓤 H En (room ∷ filled given) ++ Held (work64 .list) (work32 .list) (facts .list)) ∵ exec ! C Λ En body.t-1 (atRet En Post) $ move ! (84 ∷ 85 ∷ 86 ∷ 87 ∷ 88 ∷ 89 ∷ 90 ∷ 91 ∷ 92 ∷ []) $
-            lends-on ! 91 work64 refl refl $ lends-on ! 91 work32 refl refl $ move ! (0 ∷ 1 ∷ 2 ∷ 4 ∷ 5 ∷ 6 ∷ 7 ∷ []) $
-            calls-with {Γ = Rest (sees 3 tt u32 ∷ lends 7 tt T.the-row ∷ []) (ops, (facts, tt)) ((facts .list), tt) [] (room ∷ room ∷ room ∷ room ∷ filled (vptr (work64 .b) (work64 .o) ∷ value work64 ∷ vptr (work32 .b) (work32 .o) ∷ value work32 ∷ []))} aim-args E.the-row Aim-says fm aim-call ! (loads ! 85 (1 ∷ 2 ∷ 3 ∷ 5 ∷ 6 ∷ 22 ∷ 24 ∷ 10 ∷ 11 ∷ 12 ∷ 13 ∷ 14 ∷ 15 ∷ 16 ∷ []) (G.flat 𝓤 H A aim-args) refl (no-more !)) (λ w r y.
-            land ! (from ! (stop !)) (init ! 57 refl (LL.lawful E.the-type E′.the-laws 𝓤 H A W .typed (r .0) (w ∷ []) (y .0) .0)) $ rewrite ! 57 (λ (u : Val). ‵ (fat fullShare E′.mir (l 17) 0 u)) (ap only (E′.lowers .val-is (r .0) (w ∷ []) (y .0))) refl $ move ! (0 ∷ 1 ∷ 2 ∷ 7 ∷ []) $
+            qed W (cells 𝓤 H En (room ∷ filled given) ++ Held (work64 .list) (work32 .list) (facts .list)) ∵ exec ! C Λ En body.t-1 (atRet En Post) $ move ! (76 ∷ 77 ∷ 78 ∷ 79 ∷ 80 ∷ 81 ∷ 82 ∷ 83 ∷ 84 ∷ []) $
+            lends-on ! 83 work64 refl refl $ lends-on ! 83 work32 refl refl $ move ! (0 ∷ 1 ∷ 2 ∷ 4 ∷ 5 ∷ 6 ∷ 7 ∷ []) $
+            calls-with {Γ = Rest (sees 3 tt u32 ∷ lends 7 tt T.the-row ∷ []) (ops, (facts, tt)) ((facts .list), tt) [] (room ∷ room ∷ room ∷ room ∷ filled (vptr (work64 .b) (work64 .o) ∷ value work64 ∷ vptr (work32 .b) (work32 .o) ∷ value work32 ∷ []))} aim-args E.the-row Aim-says fm aim-call ! (loads ! 77 (1 ∷ 2 ∷ 3 ∷ 5 ∷ 6 ∷ 18 ∷ 20 ∷ 10 ∷ 11 ∷ 12 ∷ []) (G.flat 𝓤 H A aim-args) refl (no-more !)) (λ w r y.
+            land ! (from ! (stop !)) (init ! 57 refl (LL.lawful E.the-type E′.the-laws 𝓤 H A W .typed (r .0) (w ∷ []) (y .0) .0)) $ rewrite ! 57 (λ (u : Val). ‵ (fat fullShare E′.mir (l 13) 0 u)) (ap only (E′.lowers .val-is (r .0) (w ∷ []) (y .0))) refl $ move ! (0 ∷ 1 ∷ 2 ∷ 7 ∷ []) $
             forget ! 49 refl $ forget ! 47 refl $ forget ! 45 refl $ forget ! 43 refl $ cut (At (r .1 .1 .1 .1 .1 .1 .0) (work32 .list) (facts .list) (E′.lowered (r .0) ∷ [])) (At (r .1 .1 .1 .1 .1 .1 .0) (work32 .list) (facts .list) (E′.lowered (r .0) ∷ [])) [] (id⊢ 𝓤 _) $ by ! (chooses (r .0) (aim-is (r .0) w (y .0)) (r .1 .1 .1 .1 .1 .1 .0) (y .1 .1 .1 .1 .1 .1 .1 .0) (y .1 .0)))
 
       from-entry : ent 𝓤 (onEntry 𝓤 H A f.signature κs qs (entries κs kinds vs) (machs κs kinds vs)) (WpFn 𝓤 H C Λ code.function given Post)
       from-entry = via 𝓤 (⋆ 𝓤 H A (Held (work64 .list) (work32 .list) (facts .list))) (opened 𝓤 H A W (params (work64 .list) (work32 .list) (facts .list)))
           (enters-all 𝓤 H A W C Λ code.function given (Held (work64 .list) (work32 .list) (facts .list)) Post (λ homes. all-typed 𝓤 H A (typesAt (F.slots kinds) κs) (lawfuls 𝓤 H A W κs kinds) (entries κs kinds vs) (machs κs kinds vs) (ares κs kinds vs)) begins)
 
-  plan-walks : Walks 𝓤 H A f.ended stayed (WpFn 𝓤 H C Λ code.function) (f.clauses 𝓤 H A mem run)
-  plan-walks = walked 𝓤 H A f.ended stayed (f.clauses 𝓤 H A mem run) (WpFn 𝓤 H C Λ code.function) (λ κs. F.spells κs kinds) (λ κs. F.tells κs kinds)
-      (λ κs qs bounds a g are. needs 𝓤 (Asked (F.takes κs kinds a are)) _ (λ ready. uncurried kinds (Goal κs qs) (from-entry κs qs) (F.takes κs kinds a are) ready))
+  try-target-walks : Walks 𝓤 H A f.ended stayed (WpFn 𝓤 H C Λ code.function) (f.clauses 𝓤 H A mem run)
+  try-target-walks = walked 𝓤 H A f.ended stayed (f.clauses 𝓤 H A mem run) (WpFn 𝓤 H C Λ code.function) (λ κs. F.spells κs kinds) (λ κs. F.tells κs kinds)
+      (λ κs qs bounds a g are. needs 𝓤 (Asked (F.takes κs kinds a are)) _ (λ ready. uncurried kinds (Shown κs qs) (from-entry κs qs) (F.takes κs kinds a are) ready))
 
-  plan-meets : Meets 𝓤 H A f.signature (WpFn 𝓤 H C Λ code.function) (f.spec 𝓤 H A mem run)
-  plan-meets = walk-meets 𝓤 H A f.ended stayed W (F.all-go 𝓤 H A W kinds) (f.clauses 𝓤 H A mem run) (WpFn 𝓤 H C Λ code.function) (WpFn-mono 𝓤 H (W .laws) 𝓣 code.function) plan-walks
+  try-target-meets : Meets 𝓤 H A f.signature (WpFn 𝓤 H C Λ code.function) (f.spec 𝓤 H A mem run)
+  try-target-meets = walk-meets 𝓤 H A f.ended stayed W (F.all-go 𝓤 H A W kinds) (f.clauses 𝓤 H A mem run) (WpFn 𝓤 H C Λ code.function) (WpFn-mono 𝓤 H (W .laws) 𝓣 code.function) try-target-walks
 
-pub plan-spec : {M : Type 1} → stated.statement M
+pub try-target-spec : {M : Type 1} → stated.statement M
 unfolding code.routine tablesOf
-plan-spec 𝓤 H 𝓜 𝓖 𝓡 =
+try-target-spec 𝓤 H 𝓜 𝓖 𝓡 =
     entered 𝓤 H (tripleOf 𝓤 H (𝓖 .A) f.signature (f.spec 𝓤 H (𝓖 .A) (𝓜 .mem) (𝓡 .run)))
-    (tables 𝓤 H 𝓜 𝓡 code.env .C) (tables 𝓤 H 𝓜 𝓡 code.env .Λ) #trial·target·plan code.function (code.unfolded 𝓤 H 𝓜 𝓡)
-    (plan-meets 𝓤 H (𝓖 .A) (givenOf 𝓤 H 𝓜 𝓖) (𝓜 .mem) (𝓡 .run) (tablesOf 𝓤 H 𝓜 (tables 𝓤 H 𝓜 𝓡 code.env))
+    (tables 𝓤 H 𝓜 𝓡 code.env .C) (tables 𝓤 H 𝓜 𝓡 code.env .Λ) #trial·target·try-target code.function (code.unfolded 𝓤 H 𝓜 𝓡)
+    (try-target-meets 𝓤 H (𝓖 .A) (givenOf 𝓤 H 𝓜 𝓖) (𝓜 .mem) (𝓡 .run) (tablesOf 𝓤 H 𝓜 (tables 𝓤 H 𝓜 𝓡 code.env))
     (cited 𝓤 H (TakeAim 𝓤 H (𝓖 .A) (𝓜 .mem) (𝓡 .run)) 𝓜 𝓡 code.env #trial·target·take-aim aim-def.routine code.calls-trial·target·take-aim (aim-thm.met 𝓤 H 𝓜 𝓖 𝓡))
     (cited 𝓤 H (LegalSet 𝓤 H (𝓖 .A) (𝓜 .mem) (𝓡 .run)) 𝓜 𝓡 code.env #plan·set·legal-set choose-def.routine code.calls-plan·set·legal-set (choose-thm.met 𝓤 H 𝓜 𝓖 𝓡))
     (cited 𝓤 H (Taken 𝓤 H (𝓖 .A) (𝓜 .mem) (𝓡 .run)) 𝓜 𝓡 code.env #trial·target·taken take-def.routine code.calls-trial·target·taken (take-thm.met 𝓤 H 𝓜 𝓖 𝓡))
