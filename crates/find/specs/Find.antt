@@ -51,6 +51,13 @@ abbrev pub answered : Picture → Facts → List ℕ → List ℕ → MaybeMove 
 answered P G work64 work32 (Is mv) = Sure P G work64 work32 mv
 answered P G work64 work32 Not = Over P G work64 work32
 
+-- there is an accepted picture whose lists these are, and the work slices hold what the call began with
+pub record Finding (bounds recs ops pairs targets replay : List ℕ) (s : Sizes) (work64 work32 : List ℕ) : Type 0 where
+  pub P : Picture
+  pub G : Facts
+  pub shown : Shown P bounds recs ops pairs targets replay s (length work64) (length work32)
+  pub begun : Begun P G work64 work32
+
 -- the work slices after: of every picture and facts that they were for
 pub record Searched (bounds recs ops pairs targets replay : List ℕ) (s : Sizes) (work64 work32 work64′ work32′ : List ℕ) (r : MaybeMove) : Type 0 where
   pub size64 : length work64′ ≡ length work64

@@ -14,8 +14,7 @@ ghost use mathlib.Core.Path.{_≡_};
 ghost use Prim.Native.Nat.{_≤_};
 ghost use lib.ListN.{length};
 ghost use Rattle.inst.specs.Table.{rows};
-ghost use Rattle.search.specs.Search.{Looking};
-ghost use Rattle.find.specs.Find.{Searched};
+ghost use Rattle.find.specs.Find.{Finding, Searched};
 
 // The move of the round, if there is one. The words of its chain then stand for it, and the list holds the facts along that chain.
 pub fn find_move<'a>(
@@ -31,7 +30,7 @@ pub fn find_move<'a>(
     facts: &mut [Fact],
     s: Sizes,
 ) -> MaybeMove
-    requires { ⌜ (now t ≡ rows) × Looking (now bounds) (now recs) (now pairs) (now targets) (now replay) s (now work64) (now work32) × (800 ≤ length (now facts)) ⌝ }
+    requires { ⌜ (now t ≡ rows) × Finding (now bounds) (now recs) (now ops) (now pairs) (now targets) (now replay) s (now work64) (now work32) × (800 ≤ length (now facts)) ⌝ }
     ensures { λ r. ⌜ Searched (now (bounds .entry)) (now (recs .entry)) (now (ops .entry)) (now (pairs .entry)) (now (targets .entry)) (now (replay .entry)) s (now (work64 .entry)) (now (work32 .entry)) (now (work64 .exit)) (now (work32 .exit)) r ⌝ }
 {
     let mut at = open(t, bounds, recs, pairs, targets, replay, work64, work32, s);
