@@ -1,6 +1,6 @@
 -- Where the search for a round's move stands (01, "A round"), and how it comes from one chain to the next: a chain is found, or none; the
 -- chain that was tried has a move, or none; the end. Assumes nothing.
-use mathlib.Core.Path.{_≡_, refl, sym, _∙_, subst}
+use mathlib.Core.Path.{_≡_, refl, sym, ap, _∙_, subst}
 use mathlib.Core.List.{List}
 use mathlib.Core.Option.{none}
 use Prim.Native.Nat.{ℕ, _+_, _-_, _<_}
@@ -95,10 +95,11 @@ module _ {bounds recs ops pairs targets replay : List ℕ} {s : Sizes} {work64 w
   running-open o = record { size64 = o .size64; size32 = refl; is = λ P G sh b. o .is P G (own-ops sh) b }
 
   module _ {work64′ work32′ : List ℕ} {q : Stand} (r : Running bounds recs ops pairs targets replay s work64 work32 work64′ work32′ q) where
-    -- the search is at its end
-    pub running-end : {a : MaybeMove} → ((P : Picture) (G : Facts) → stands P G work64′ work32′ q → answered P G work64′ work32′ (outcome q)) → a ≡ outcome q
+    -- the search is at its end, with o
+    pub running-end : {a : MaybeMove} (o : Stand) → q ≡ o → ((P : Picture) (G : Facts) → stands P G work64′ work32′ o → answered P G work64′ work32′ (outcome o)) → a ≡ outcome q
         → Searched bounds recs ops pairs targets replay s work64 work32 work64′ work32′ a
-    running-end f e = subst (Searched bounds recs ops pairs targets replay s work64 work32 work64′ work32′) (sym e) (record { size64 = r .size64; size32 = r .size32; is = λ P G sh b. f P G (r .is P G sh b) })
+    running-end {a} o e f ea = subst (Searched bounds recs ops pairs targets replay s work64 work32 work64′ work32′) (sym (ea ∙ ap outcome e))
+        (record { size64 = r .size64; size32 = r .size32; is = λ P G sh b. f P G (subst (stands P G work64′ work32′) e (r .is P G sh b)) })
 
     -- chain k is to be tried
     module _ {k : Look} (on : q ≡ Looks k) where
