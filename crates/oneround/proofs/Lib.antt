@@ -2,5 +2,4 @@ pub mod Asked
 pub mod Counted
 pub mod Prepared
 pub mod Renewal
-pub mod Step
 pub mod Kept

@@ -1,5 +1,5 @@
 -- What the move of a round comes to (01, "A round" and "Answers"): it is counted, against the room that is lent. Assumes nothing.
-use mathlib.Core.Path.{_≡_, sym, ap, _∙_, subst}
+use mathlib.Core.Path.{_≡_, refl, sym, ap, ap₂, _∙_, subst}
 use mathlib.Core.Logic.{⊎-elim}
 use mathlib.Core.Bool.{Bool, true, false, _&&_, and-false}
 use mathlib.Core.List.{List}
@@ -11,9 +11,10 @@ use borrow.Author.Tests.{le-leb, lt-leb}
 use lib.Dec.{leb}
 use lib.ListN.{length, take}
 use lib.Seq.{length-take-le}
+use Rattle.words.specs.Bits.{width}
 use Rattle.words.proofs.Bools.{both-true, lt?}
 use Rattle.words.proofs.Lists.{drop-more}
-use Rattle.model.specs.Refusal.{records}
+use Rattle.model.specs.Refusal.{refusal, records}
 use Rattle.model.specs.Picture.{Picture, nblocks}
 use Rattle.model.specs.Analyse.{Facts}
 use Rattle.model.specs.Move.{apply}
@@ -25,12 +26,17 @@ use Rattle.apply.specs.declared.needs.Counts.{Counts}
 use Rattle.apply.specs.Apply.{Asks, Counted, Stands, Given}
 use Rattle.apply.proofs.Done.{asks-kept}
 use Rattle.apply.specs.declared.moves.Move.{Move}
-use Rattle.chainwords.specs.Work.{at-stamps, chain-words}
+use Rattle.sizes.specs.declared.Sizes.{Sizes}
+use Rattle.sizes.specs.Parts.{stamps-at}
+use Rattle.chainwords.specs.Work.{at-stamps, chain-words, Begun}
 use Rattle.trial.specs.Trial.{Found}
-use Rattle.oneround.specs.declared.round.Line.{Line}
-use Rattle.oneround.specs.declared.round.Step.{Step}
-use Rattle.oneround.specs.declared.round.Step.the-variants.{Goes, Short}
-use Rattle.oneround.specs.Round.{Ready, Needing, Needed, stepped, prepared, Decided}
+use Rattle.trial.specs.declared.block.MaybeMove.{MaybeMove}
+use Rattle.trial.specs.declared.block.MaybeMove.the-variants.{Is, Not}
+use Rattle.find.specs.Find.{answered, Sure, Over}
+use Rattle.oneround.specs.declared.weigh.Line.{Line}
+use Rattle.oneround.specs.declared.weigh.Step.{Step}
+use Rattle.oneround.specs.declared.weigh.Step.the-variants.{Ends, Goes, Short}
+use Rattle.oneround.specs.Weigh.{Needing, Needed, stepped, prepared, Beside, with-beside, Ready, Weighed}
 use Rattle.search.proofs.Start.{rooms-of}
 use Rattle.chainwords.proofs.Standing.{begun-kept, firm-front}
 use Rattle.oneround.proofs.Asked.{x-is, asked}
@@ -83,41 +89,74 @@ module _ {P : Picture} (ok : Accepted P) {G : Facts} {x : ℕ} {mv : Move} {w v 
   comes-to : (r : Step) → stepped mv c (length (P .types)) (length (P .ops)) r → prepared P G r v
   comes-to (Goes l) h = subst (λ (z : Line). prepared P G (Goes z) v) (sym (h .2)) (goes (h .0) (h .1))
   comes-to Short h = (f .a, q, no-room h)
+  comes-to Ends h = absurd h
 
 -- ---- `weigh`
 
-module _ {P : Picture} {work64 work32 : List ℕ} {mv : Move} (k : Ready P work64 work32 mv) where
-  good : Accepted P
-  good = accepted P (length work64) (length work32) records (k .accepted)
+-- no move: nothing is written
+pub weighed-none : {bounds recs types ops : List ℕ} {s : Sizes} {work64 work32 : List ℕ} {r : MaybeMove} → r ≡ Not → Weighed bounds recs types ops s work64 work32 r work64 work32 Ends
+weighed-none {bounds} {recs} {types} {ops} {s} {work64} {work32} n = record {
+  size64 = refl;
+  size32 = refl;
+  is = λ e G ok b. let o : Over (with-beside bounds recs types ops s e) G work64 work32 = subst (answered (with-beside bounds recs types ops s e) G work64 work32) n b in (o .begun, o .none-is);
+}
 
-  pub ops-few : length (P .ops) ≤ 131072
-  ops-few = S.few-ops P good
+-- a move mv
+module _ {bounds recs types ops : List ℕ} {s : Sizes} {work64 work32 : List ℕ} {r : MaybeMove} (k : Ready bounds recs types ops s work64 work32 r) where
+  abbrev P : Beside → Picture
+  P e = with-beside bounds recs types ops s e
+
+  good : Accepted (P (k .e))
+  good = accepted (P (k .e)) (length work64) (length work32) records (k .accepted)
+
+  pub ops-few : length ops ≤ 131072
+  ops-few = S.few-ops (P (k .e)) good
 
   words-there : 8000 ≤ length work32
-  words-there = let r = rooms-of P (length work64) (length work32) (k .accepted) .room32 in omega arith
+  words-there = let r = rooms-of (P (k .e)) (length work64) (length work32) (k .accepted) .room32 in omega arith
 
   words-long : length (chain-words work32) ≡ 8000
   words-long = length-take-le 8000 work32 words-there
 
-  pub needing : Needing (P .bounds) (P .recs) (P .types) (P .ops) work64 work32 (P .regs) (P .opers) (length (P .locs)) mv
-  needing =
-      let f = k .sure .found in
-      record {
-        asks = subst (λ (z : ℕ). Asks z (mv .into .0) (mv .inside) (mv .places) (P .regs) (P .opers) (length (P .types)) (length (P .locs)) (P .bounds) (P .recs) (P .types) (P .ops) (chain-words work32)) (sym (f .from-is))
-            (subst (λ (z : ℕ). Asks (k .sure .x) z (mv .inside) (mv .places) (P .regs) (P .opers) (length (P .types)) (length (P .locs)) (P .bounds) (P .recs) (P .types) (P .ops) (chain-words work32)) (sym (f .into-is)) (asked good f words-long));
-        few-blocks = rooms-of P (length work64) (length work32) (k .accepted) .few-blocks;
-        room64 = let r = rooms-of P (length work64) (length work32) (k .accepted) .room64 in omega arith;
-        room32 = words-there;
-      }
+  blocks-are : s .blocks ≡ nblocks (P (k .e))
+  blocks-are = ap (λ (z : Sizes). z .blocks) (k .sizes-are)
 
-  pub decided : {work64′ work32′ : List ℕ} {c : Counts} {r : Step}
-      → Needed (P .bounds) (P .recs) (P .types) (P .ops) work64 work32 (P .regs) (P .opers) mv work64′ work32′ c
-      → stepped mv c (length (P .types)) (length (P .ops)) r → Decided P work64 work32 mv r work64′ work32′
-  decided {work64′} {work32′} {c} {r} n h = record {
-    size64 = n .size64;
-    size32 = n .size32;
-    begun = λ G b.
-        begun-kept (firm-front P good (at-stamps P) work64 work64′ (le-refl (at-stamps P)) (n .before))
-        (ap (take (2 * nblocks P)) (drop-more 8000 (8000 + length (P .types)) work32′ work32 (omega arith) (n .behind))) b;
-    is = λ G b. comes-to good c (b .found) words-long (n .counted) (b .first) r h;
-  }
+  lent-are : s .lent ≡ length types
+  lent-are = ap (λ (z : Sizes). z .lent) (k .sizes-are)
+
+  stamps-are : (e : Beside) → stamps-at s ≡ at-stamps (P e)
+  stamps-are e = ap₂ (λ (b l : ℕ). 4 * b * width l + l) blocks-are lent-are
+
+  module _ {mv : Move} (m : r ≡ Is mv) where
+    sure : (e : Beside) (G : Facts) → answered (P e) G work64 work32 r → Sure (P e) G work64 work32 mv
+    sure e G b = subst (answered (P e) G work64 work32) m b
+
+    pub needing : Needing bounds recs types ops s work64 work32 (length (k .e .locs)) mv
+    needing =
+        let f = sure (k .e) (k .G) (k .answer) .found in
+        let asks-of : ℕ → ℕ → ℕ → Type 0 = λ x t l. Asks x t (mv .inside) (mv .places) (s .regs) (s .opers) l (length (k .e .locs)) bounds recs types ops (chain-words work32) in
+        record {
+          asks = subst (λ (z : ℕ). asks-of z (mv .into .0) (s .lent)) (sym (f .from-is))
+              (subst (λ (z : ℕ). asks-of (sure (k .e) (k .G) (k .answer) .x) z (s .lent)) (sym (f .into-is))
+              (subst (λ (z : ℕ). asks-of (sure (k .e) (k .G) (k .answer) .x) (f .a .into) z) (sym lent-are) (asked good f words-long)));
+          lent-are = lent-are;
+          few-blocks = let h = rooms-of (P (k .e)) (length work64) (length work32) (k .accepted) .few-blocks in let q = blocks-are in omega arith;
+          room64 = let h = rooms-of (P (k .e)) (length work64) (length work32) (k .accepted) .room64 in let q = stamps-are (k .e) in let l = lent-are in omega arith;
+          room32 = words-there;
+        }
+
+    pub weighed : {work64′ work32′ : List ℕ} {c : Counts} {q : Step} → Needed bounds recs types ops s work64 work32 mv work64′ work32′ c → stepped mv c (s .lent) (length ops) q
+        → Weighed bounds recs types ops s work64 work32 r work64′ work32′ q
+    weighed {work64′} {work32′} {c} {q} n h = record {
+      size64 = n .size64;
+      size32 = n .size32;
+      is = λ e G ok b.
+          let z = sure e G b in
+          let fine = accepted (P e) (length work64) (length work32) records ok in
+          (begun-over e G fine (z .begun), comes-to fine c (z .found) words-long (n .counted) (z .first) q (subst (λ (l : ℕ). stepped mv c l (length ops) q) lent-are h));
+    }
+      where
+        begun-over : (e : Beside) (G : Facts) → Accepted (P e) → Begun (P e) G work64 work32 → Begun (P e) G work64′ work32′
+        begun-over e G fine b =
+            begun-kept (firm-front (P e) fine (at-stamps (P e)) work64 work64′ (le-refl (at-stamps (P e))) (subst (λ (z : ℕ). take z work64′ ≡ take z work64) (stamps-are e) (n .before)))
+            (ap (take (2 * nblocks (P e))) (drop-more 8000 (8000 + length types) work32′ work32 (omega arith) (n .behind))) b

@@ -30,7 +30,7 @@ use Rattle.words.specs.Bits.{width}
 use Rattle.chainwords.specs.Work.{at-regs, at-stamps, reg-words, pred-words, Begun}
 use Rattle.chainwords.proofs.Standing.{begun-kept, firm-front, flags-same, firsts-before, rows-of, rows-for}
 use Rattle.search.proofs.Start.{RowsAsk, rows-asked}
-use Rattle.oneround.specs.Round.{Renewing, Renewed}
+use Rattle.oneround.specs.Make.{Renewing, Renewed}
 
 -- ---- what is asked to make rows
 
