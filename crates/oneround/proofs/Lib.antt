@@ -2,4 +2,5 @@ pub mod Asked
 pub mod Counted
 pub mod Prepared
 pub mod Renewal
+pub mod Making
 pub mod Kept
