@@ -1,17 +1,17 @@
 -- The move of a round, made (01, "The move"): what `apply` asks, from what was prepared; after it, and with the rows anew, the work slices
 -- hold for the new picture what the call began with. Assumes nothing.
-use mathlib.Core.Path.{_≡_, refl, sym, ap, ap₂, _∙_, subst}
+use mathlib.Core.Path.{_≡_, refl, sym, ap, _∙_, subst}
 use mathlib.Core.Bool.{Bool}
 use mathlib.Core.List.{List}
 use mathlib.Core.Logic.{_⊎_, ⊎-elim}
-use Prim.Native.Nat.{ℕ, _+_, _-_, _*_, _/_, _≤_, _<_}
+use Prim.Native.Nat.{ℕ, _+_, _-_, _/_, _≤_, _<_}
 use native.Mathlib.Omega.{arith}
 use lib.ListN.{length, take}
 use lib.Seq.{length-take-le}
 use borrow.Rule.Slice.PartMut.{midOf, putMid, mid-len, same-len-mid, take-put}
 use denote.Enum.Declared.{tagOf}
 use Rattle.words.specs.Bits.{width}
-use Rattle.model.specs.Picture.{Picture, nblocks}
+use Rattle.model.specs.Picture.{Picture}
 use Rattle.model.specs.Refusal.{refusal, records}
 use Rattle.model.specs.Analyse.{Facts, Fact}
 use Rattle.model.specs.Move.{apply}
@@ -113,11 +113,11 @@ module _ {bounds recs locs vias types ops : List ℕ} {s : Sizes} {work64 work32
   }
 
   -- where the new names lie
-  stamps-are : stamps-at s ≡ 4 * (length bounds / 2) * width (length types) + length types
-  stamps-are = ap₂ (λ (b l : ℕ). 4 * b * width l + l) blocks-are lent-are
+  stamps-are : (rest : Rest) → stamps-at s ≡ at-stamps (P rest)
+  stamps-are rest = ap (λ (z : Sizes). stamps-at z) (h .sizes-are)
 
   pub names-fit : (a : ℕ) → a ≡ stamps-at s → a + s .lent ≤ length work64
-  names-fit a e = let r = there .room64 in let f = stamps-are in let l = lent-are in omega arith
+  names-fit a e = let r = there .room64 in let f = stamps-are (h .rest) in let l = lent-are in omega arith
 
   -- a move
   module _ {l : Line} (e : q ≡ Goes l) where
@@ -143,7 +143,7 @@ module _ {bounds recs locs vias types ops : List ℕ} {s : Sizes} {work64 work32
       named-long = same-len-mid a (a + s .lent - a) work64 names same
 
       named-behind : (rest : Rest) → take (at-stamps (P rest)) named ≡ take (at-stamps (P rest)) work64
-      named-behind rest = subst (λ (z : ℕ). take z named ≡ take z work64) (ea ∙ stamps-are) (take-put a (a + s .lent - a) work64 names (let g = names-fit a ea in omega arith))
+      named-behind rest = subst (λ (z : ℕ). take z named ≡ take z work64) (ea ∙ stamps-are rest) (take-put a (a + s .lent - a) work64 names (let g = names-fit a ea in omega arith))
 
       module _ (rest : Rest) (G : Facts) (ok : refusal (P rest) (length work64) (length work32) records ≡ 0) (z : prepared (P rest) G (Goes l) (chain-words work32)) where
         abbrev Q : Picture

@@ -1,5 +1,5 @@
 -- What the move of a round comes to (01, "A round" and "Answers"): it is counted, against the room that is lent. Assumes nothing.
-use mathlib.Core.Path.{_≡_, refl, sym, ap, ap₂, _∙_, subst}
+use mathlib.Core.Path.{_≡_, refl, sym, ap, _∙_, subst}
 use mathlib.Core.Logic.{⊎-elim}
 use mathlib.Core.Bool.{Bool, true, false, _&&_, and-false}
 use mathlib.Core.List.{List}
@@ -11,10 +11,9 @@ use borrow.Author.Tests.{le-leb, lt-leb}
 use lib.Dec.{leb}
 use lib.ListN.{length, take}
 use lib.Seq.{length-take-le}
-use Rattle.words.specs.Bits.{width}
 use Rattle.words.proofs.Bools.{both-true, lt?}
 use Rattle.words.proofs.Lists.{drop-more}
-use Rattle.model.specs.Refusal.{refusal, records}
+use Rattle.model.specs.Refusal.{records}
 use Rattle.model.specs.Picture.{Picture, nblocks}
 use Rattle.model.specs.Analyse.{Facts}
 use Rattle.model.specs.Move.{apply}
@@ -125,7 +124,7 @@ module _ {bounds recs types ops : List ℕ} {s : Sizes} {work64 work32 : List �
   lent-are = ap (λ (z : Sizes). z .lent) (k .sizes-are)
 
   stamps-are : (e : Beside) → stamps-at s ≡ at-stamps (P e)
-  stamps-are e = ap₂ (λ (b l : ℕ). 4 * b * width l + l) blocks-are lent-are
+  stamps-are e = ap (λ (z : Sizes). stamps-at z) (k .sizes-are)
 
   module _ {mv : Move} (m : r ≡ Is mv) where
     sure : (e : Beside) (G : Facts) → answered (P e) G work64 work32 r → Sure (P e) G work64 work32 mv

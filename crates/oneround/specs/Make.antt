@@ -5,7 +5,6 @@ use mathlib.Core.List.{List, []}
 use mathlib.Core.Option.{none, some}
 use Prim.Native.Nat.{ℕ, _+_, _*_, _/_, _≤_, _<_}
 use lib.ListN.{getD, length}
-use Rattle.words.specs.Bits.{width}
 use Rattle.model.specs.Picture.{Picture}
 use Rattle.model.specs.Refusal.{refusal, records}
 use Rattle.model.specs.Analyse.{Facts}

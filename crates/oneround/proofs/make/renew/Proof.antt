@@ -44,7 +44,7 @@ block-rows-requires-2 c κs =
     let at-k = c .before .before .before .before .before .before .before .before .before in
     let p = at-k .before .before .before .before .before .before .pre in
     let z = renew-ask (p .1) _ (c .before .before .work642 .given) (at-k .wide .ensures) in
-    (p .0, z .0, z .1, z .2, p .1 .into-block)
+    (p .0, z .0, z .1, z .2, omega (arith, p .1 .from-block, p .1 .into-block))
 
 same-length-2 : tie.Need-same-length-2
 same-length-2 c = c .before .work643 .given ∙ c .before .before .before .before .before .work642 .given

@@ -38,7 +38,7 @@ use Rattle.facts.proofs.Args.{Arg, seen, seen-too, Lasts, calls-of, calls-with}
 use Rattle.facts.proofs.Both.{lends-both, backs-both}
 use Rattle.facts.proofs.Params as Q
 use Rattle.facts.proofs.Params.{Par, opened, closed}
-use Rattle.facts.proofs.Cells.{Cell, room, has, filled, cells, Homes, home, envOf, enters-all, frees-all}
+use Rattle.facts.proofs.Cells.{Cell, room, has, filled, cells, Homes, envOf, enters-all, frees-all}
 use Rattle.facts.proofs.Fact as T
 use Rattle.facts.proofs.Frame as F
 use Rattle.facts.proofs.Frame.{Kind, one, sees, lends, datum, Slice, One, Datum, struct, Values, at, value, shareAt, pars, entries, machs, fins, fit-all, ares, lawfuls, uncurried}
