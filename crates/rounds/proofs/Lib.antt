@@ -1,3 +1,3 @@
-pub mod Going
-pub mod Start
 pub mod Lines
+pub mod Going
+pub mod Opening

@@ -1,19 +1,14 @@
--- The lines of the rounds, six words each; one round on, and whether another opens. Assumes nothing.
-use mathlib.Core.Path.{_≡_, sym, ap, _∙_, subst}
-use mathlib.Core.Bool.{Bool, false}
+-- The lines of the rounds, six words each. Assumes nothing.
+use mathlib.Core.Path.{_≡_, sym, ap, _∙_}
 use mathlib.Core.List.{List, [], _∷_, _++_}
 use Prim.Native.Nat.{ℕ, suc, _+_, _-_, _*_, _<_}
 use native.Mathlib.Omega.{arith}
-use lib.Dec.{ltb}
 use lib.ListN.{length, take, drop, set, replicate}
 use lib.Seq.{sets, drop-drop, length-sets}
 use Rattle.words.proofs.Copying.{front-sets, drop-sets}
 use Rattle.model.specs.Pass.{most-rounds}
-use Rattle.oneround.specs.declared.round.Step.{Step}
-use Rattle.oneround.specs.declared.round.Step.the-variants.{Goes, Short}
-use Rattle.oneround.specs.declared.round.Line.{Line}
-use Rattle.rounds.specs.declared.state.At.{At}
-use Rattle.rounds.specs.Rounds.{line-words, with-line, small, Advancing, gone, halted, advanced, opens-after}
+use Rattle.oneround.specs.declared.weigh.Line.{Line}
+use Rattle.rounds.specs.State.{line-words, with-line}
 
 -- six words, stored one by one
 pub six : (l : List ℕ) (a u v w x y z : ℕ)
@@ -42,22 +37,3 @@ module _ (i : ℕ) (l : Line) (lines : List ℕ) (few : i < most-rounds) (long :
       ∙ ap (λ (n : ℕ). drop n lines) e
       ∙ sym (drop-drop 6 (6 * i) lines)
       ∙ ap (drop 6) (z ∙ ap (λ (n : ℕ). replicate n 0) f)
-
--- ---- one round on, by what its move came to
-
-pub small-line : {m : At} {r : Step} {l : Line} → r ≡ Goes l → Advancing m r → (m .rounds < most-rounds) × (length (m .lines) ≡ 48)
-small-line {m} e h = (subst (small (m .rounds)) e (h .line), h .long)
-
-pub advanced-goes : (m : At) {r : Step} {l : Line} {lines : List ℕ} → r ≡ Goes l → lines ≡ with-line (m .rounds) l (m .lines) → gone m l lines ≡ advanced m r
-advanced-goes m {r} {l} e h = ap (gone m l) h ∙ ap (advanced m) (sym e)
-
-pub advanced-short : (m : At) {r : Step} → r ≡ Short → halted m ≡ advanced m r
-advanced-short m e = ap (advanced m) (sym e)
-
--- ---- does another round open?
-
-pub opens-goes : (done : ℕ) {r : Step} {l : Line} {b : Bool} → r ≡ Goes l → b ≡ ltb done most-rounds → b ≡ opens-after done r
-opens-goes done e h = h ∙ ap (opens-after done) (sym e)
-
-pub opens-short : (done : ℕ) {r : Step} → r ≡ Short → false ≡ opens-after done r
-opens-short done e = ap (opens-after done) (sym e)

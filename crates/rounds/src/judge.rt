@@ -1,8 +1,8 @@
 // Before anything is tried (01, "The call"): refusals, then gates. Nothing is changed.
-use model::Answer;
-use model::Used;
 use acceptance::gates::gated;
 use acceptance::refusal;
+use model::Answer;
+use model::Used;
 use sizes::InUse;
 use sizes::Room;
 ghost use mathlib.Core.Path.{_≡_};

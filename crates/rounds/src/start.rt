@@ -52,7 +52,19 @@ pub fn start<'a>(
         w32: work32.len(),
         records: records,
     };
-    let v = judge(t, bounds, recs, locs, vias, types, ops, pairs, targets, used, room);
+    let v = judge(
+        t,
+        bounds,
+        recs,
+        locs,
+        vias,
+        types,
+        ops,
+        pairs,
+        targets,
+        used,
+        room,
+    );
     if let Verdict::Ends(a) = v {
         let none = Sizes {
             blocks: 0,
