@@ -2,8 +2,7 @@
 use mathlib.Core.Path.{_≡_, refl, sym, ap, _∙_, subst}
 use mathlib.Core.List.{List, _++_}
 use mathlib.Core.Logic.{⊎-elim}
-use Prim.Native.Nat.{ℕ, zero, suc, _*_, _-_, _≤_}
-use native.Mathlib.Omega.{arith}
+use Prim.Native.Nat.{ℕ, zero, suc, _*_, _-_}
 use lib.ListN.{length, replicate}
 use Rattle.words.specs.Lists.{concat}
 use Rattle.words.proofs.Bools.{bool?}
@@ -14,25 +13,19 @@ use Rattle.model.specs.Refusal.{refusal}
 use Rattle.model.specs.Analyse.{Facts, facts}
 use Rattle.model.specs.Move.{Plan, apply}
 use Rattle.model.specs.Pass.{Outcome, used, values, number, rounds, ends-in, gated, sink, sink-all, most-rounds}
-use Rattle.laws.proofs.Accepted.{work-room}
 use Rattle.laws.proofs.Rounds.{Next as NextRound, no-move, no-room, goes-on, sink-done, sink-short, sink-more, sink-gated, sink-through}
 use Rattle.laws.proofs.Rounds as Rounds
 use Rattle.checks.specs.Causes.{picture-of}
 use Rattle.kept.specs.Walk as Walk
 use Rattle.kept.proofs.Answer.{left-after}
 use Rattle.facts.specs.declared.Fact.{Fact}
-use Rattle.trial.specs.declared.block.MaybeMove.{MaybeMove}
-use Rattle.trial.specs.Trial.{Followed}
-use Rattle.search.specs.declared.find.Look.{Look}
-use Rattle.search.specs.declared.find.MaybeLook.the-variants.{Is, Not}
 use Rattle.rounds.specs.declared.state.At.{At}
 use Rattle.rounds.specs.declared.state.Ran.{Ran}
 use Rattle.sink.specs.Sink.{Lent, Coming, Finished, registers, operands}
 use Rattle.rounds.specs.Ended.{Did, Work}
-use Rattle.rounds.specs.Going.{Next, stands, Going, GoneOn, Started}
+use Rattle.rounds.specs.Going.{Going, Started}
 use Rattle.oneround.specs.Kept.{Kept}
-use Rattle.oneround.proofs.Step.{holds-is, kept-of}
-use Rattle.rounds.proofs.Going.{Sized, next-still, was-tried}
+use Rattle.oneround.proofs.Kept.{holds-is, kept-of}
 
 -- ---- the answer's counts are those of the picture left, and what a round does not touch is as it was
 
@@ -64,79 +57,6 @@ all-fair G (suc k) n P = go (λ a. all-fair G k (suc n) (apply P a)) (Rounds.nex
 fair : (P : Picture) (w64 w32 nf : ℕ) → refusal P w64 w32 nf ≡ 0 → Fair P (sink P w64 w32 nf)
 fair P w64 w32 nf ok =
     ⊎-elim (λ e. subst (Fair P) (sym (sink-gated P w64 w32 nf ok e)) (fair-done P 0)) (λ e. subst (Fair P) (sym (sink-through P w64 w32 nf ok e)) (all-fair (facts P) most-rounds 0 P)) (bool? (gated P))
-
--- the chain that is to be tried
-next-of : {P : Picture} {w64 w32 nf : ℕ} {Q : Picture} {m : At} {k : Look} {work64 work32 : List ℕ} → Going P w64 w32 nf Q m work64 work32 → m .next ≡ Is k → Next P w64 w32 nf Q m k work64 work32
-next-of {P} {w64} {w32} {nf} {Q} {m} {k} {work64} {work32} g e = subst (stands P w64 w32 nf Q m work64 work32) e (g .is)
-
--- from Q and m, with these work slices and these records, the loop has come to Z and q
-pub record Running (Q : Picture) (m : At) (work64 work32 : List ℕ) (fs : List Fact) (Z : Picture) (q : At) (work64′ work32′ : List ℕ) (fs′ : List Fact) : Type 0 where
-  pub still : (P : Picture) (w64 w32 : ℕ) → Going P w64 w32 (length fs) Q m work64 work32 → Going P w64 w32 (length fs) Z q work64′ work32′
-  pub sized : Sized Q Z
-  pub size64 : length work64′ ≡ length work64
-  pub size32 : length work32′ ≡ length work32
-  pub size : length fs′ ≡ length fs
-  pub kept : (P : Picture) (w64 w32 : ℕ) → Going P w64 w32 (length fs) Q m work64 work32 → (refusal P w64 w32 (length fs) ≡ 0 → ⊥) → (work64′ ≡ work64) × (work32′ ≡ work32) × (fs′ ≡ fs)
-
-pub running-start : (Q : Picture) (m : At) (work64 work32 : List ℕ) (fs : List Fact) → Running Q m work64 work32 fs Q m work64 work32 fs
-running-start Q m work64 work32 fs = record {
-  still = λ P w64 w32 g. g;
-  sized = record { bounds = refl; recs = refl; locs = refl; vias = refl; types = refl; ops = refl };
-  size64 = refl;
-  size32 = refl;
-  size = refl;
-  kept = λ P w64 w32 g h. (refl, refl, refl);
-}
-
-module _ {Q : Picture} {m : At} {work64 work32 : List ℕ} {fs : List Fact} {Z : Picture} {q : At} {work64′ work32′ : List ℕ} {fs′ : List Fact} (r : Running Q m work64 work32 fs Z q work64′ work32′ fs′) where
-  -- a chain is to be tried
-  pub running-next : {k : Look} (c : Coming Q m work64 work32 (length fs)) → q .next ≡ Is k → Next (c .P) (c .w64) (c .w32) (length fs) Z q k work64′ work32′
-  running-next c on = next-of (r .still (c .P) (c .w64) (c .w32) (c .going)) on
-
-  pub running-many : {k : Look} → Coming Q m work64 work32 (length fs) → q .next ≡ Is k → 800 ≤ length fs′
-  running-many c on =
-      let a = work-room (c .P) (c .w64) (c .w32) (length fs) (running-next c on .between .lent) .2 in
-      let e = r .size in
-      omega arith
-
-  -- a chain was tried, and the search went on
-  pub running-more : {k : Look} {a : MaybeMove} {work64₁ work32₁ : List ℕ} {Y : Picture} {p : At} {work64₂ work32₂ : List ℕ} {fs₂ : List Fact} → q .next ≡ Is k
-      → Followed (Z .bounds) (Z .recs) (Z .ops) (Z .pairs) (Z .targets) (Z .replay) (q .sizes) (k .x .0) (k .c) work64′ work32′ work64₁ work32₁ a
-      → GoneOn Z q k work64₁ work32₁ a Y p work64₂ work32₂ → Sized Z Y → length fs₂ ≡ length fs′ → Running Q m work64 work32 fs Y p work64₂ work32₂ fs₂
-  running-more on f g z e = record {
-    still = λ P w64 w32 y.
-        let n = next-of (r .still P w64 w32 y) on in
-        g .going P w64 w32 (length fs) (next-still n f) (was-tried n f);
-    sized = record {
-      bounds = z .bounds ∙ r .sized .bounds;
-      recs = z .recs ∙ r .sized .recs;
-      locs = z .locs ∙ r .sized .locs;
-      vias = z .vias ∙ r .sized .vias;
-      types = z .types ∙ r .sized .types;
-      ops = z .ops ∙ r .sized .ops;
-    };
-    size64 = g .size64 ∙ f .size64 ∙ r .size64;
-    size32 = g .size32 ∙ f .size32 ∙ r .size32;
-    size = e ∙ r .size;
-    kept = λ P w64 w32 y h. absurd (h (next-of (r .still P w64 w32 y) on .between .lent));
-  }
-
-  -- at the end
-  pub running-end : q .next ≡ Not → (a : Answer) (lines : List ℕ) → a ≡ q .answer → lines ≡ q .lines
-      → Finished Q m work64 work32 fs a lines (Z .bounds) (Z .recs) (Z .locs) (Z .vias) (Z .types) (Z .ops) work64′ work32′ fs′
-  running-end off a lines ea el = record {
-    did = λ P w64 w32 y.
-        subst (λ (x : Answer). Did (sink P w64 w32 (length fs)) x lines (Z .bounds) (Z .recs) (Z .locs) (Z .vias) (Z .types) (Z .ops)) (sym ea)
-        (subst (λ (x : List ℕ). Did (sink P w64 w32 (length fs)) (q .answer) x (Z .bounds) (Z .recs) (Z .locs) (Z .vias) (Z .types) (Z .ops)) (sym el) (subst (stands P w64 w32 (length fs) Z q work64′ work32′) off (r .still P w64 w32 y .is)));
-    work = λ P w64 w32 y. record {
-      size64 = r .size64;
-      size32 = r .size32;
-      kept = λ h.
-          let k = r .kept P w64 w32 y h in
-          (k .0, k .1);
-    };
-    lent = λ P w64 w32 y. record { size = r .size; kept = λ h. r .kept P w64 w32 y h .2 };
-  }
 
 -- ---- the whole call: P is lent, with these work slices and this list
 
@@ -201,7 +121,7 @@ module _ (P : Picture) (work64 work32 : List ℕ) (fs : List Fact) where
   -- what the start gives to the loop, and what the call then gives
   module _ {q : At} {bits words : List ℕ} (s : Started P work64 work32 (length fs) q bits words) where
     abbrev Q : Picture
-    Q = picture-of (P .bounds) (P .recs) (P .locs) (P .vias) (P .types) (q .sizes .regs) (P .ops) (q .operands) (P .pairs) (P .targets) (P .replay)
+    Q = picture-of (P .bounds) (P .recs) (P .locs) (P .vias) (P .types) (q .sizes .regs) (P .ops) (q .sizes .opers) (P .pairs) (P .targets) (P .replay)
 
     where-it-is : P ≡ Q
     where-it-is = λ i. picture-of (P .bounds) (P .recs) (P .locs) (P .vias) (P .types) (sym (s .regs-are) i) (P .ops) (sym (s .opers-are) i) (P .pairs) (P .targets) (P .replay)

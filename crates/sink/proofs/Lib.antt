@@ -1,2 +1,3 @@
+pub mod Looping
 pub mod Call
 pub mod Turn

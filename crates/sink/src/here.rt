@@ -1,8 +1,8 @@
 // The call for a caller that lends no list of facts: the list is its own, of as many records as are asked for.
 use crate::sink_all;
-use rounds::state::Ran;
 use facts::Fact;
 use model::RECORDS;
+use rounds::state::Ran;
 ghost use mathlib.Core.Path.{_≡_};
 ghost use mathlib.Core.List.{_++_};
 ghost use Prim.Native.Nat.{_*_, _-_};

@@ -17,8 +17,8 @@ use contract.Lifetimes.{Lfts, Shares, lftAt}
 use contract.Monad.{Fun}
 use contract.Running.{givenOf, tables, tablesOf}
 use types.Kit.{Given, Item, ‵, raw, ⋆, atRet, cut, _$_, _∵_, !, qed, by, move, join, rewrite, suffices, frame, done}
-use types.Part.{whole, sub, look-in}
-use types.Run.{look, init, stop, fld, from, load, addr, of-opd, no-more, assigns, land, returns, exec}
+use types.Part.{agg, whole, sub, look-in}
+use types.Run.{look, init, stop, fld, from, load, addr, of-opd, and-then, no-more, assigns, land, returns, exec}
 use sound.WpLaws.{FmC, fmOf, WpFn-mono}
 use denote.RattleType.{RattleType}
 use denote.Laws.{Is, all-typed}
@@ -45,11 +45,14 @@ use Rattle.facts.proofs.Fact as T
 use Rattle.facts.proofs.Walks.{pick-at, others, pull-back}
 use Rattle.facts.proofs.Frame as F
 use Rattle.facts.proofs.Frame.{Kind, sees, lends, datum, Slice, Number, number, Values, at, value, shareAt, pars, entries, machs, fins, fit-all, ares, lawfuls, uncurried}
-use Rattle.facts.proofs.Passing.{pass-slice, pass-mut, pass-as, pass-data, pass-number, pass-struct, last-of, fit-of}
+use Rattle.facts.proofs.Passing.{pass-slice, pass-mut, pass-as, pass-number, pass-struct, last-of, fit-of}
 use Rattle.facts.proofs.Statements.{loads, lends-on}
 use Rattle.inst.specs.Table.{rows}
 use Rattle.checks.specs.Causes.{picture-of}
 use Rattle.model.specs.Picture.{Picture}
+use Rattle.sizes.proofs.InUse as U
+use Rattle.sizes.proofs.InUse.Laws as U′
+use Rattle.sizes.specs.declared.InUse.{InUse}
 use Rattle.rounds.proofs.state.At as B
 use Rattle.rounds.proofs.state.At.Laws as B′
 use Rattle.rounds.proofs.state.Ran as R
@@ -59,14 +62,15 @@ use Rattle.rounds.specs.declared.state.Ran.{Ran}
 use Rattle.rounds.specs.Going.{Started}
 use Rattle.sink.specs.Sink.{Finished}
 use Rattle.sink.proofs.Call.{Promised, coming, promised}
+use Rattle.sink.proofs.Turn.{Tab, twice, stands}
 use Rattle.inst.proofs.table.table as table
 use Rattle.inst.proofs.table.table.Symbol as table-def
 use Rattle.inst.proofs.table.table.Symbol.{name as #table}
 use Rattle.inst.proofs.table.table.Met as table-thm
-use Rattle.rounds.proofs.steps.start as start
-use Rattle.rounds.proofs.steps.start.Symbol as start-def
-use Rattle.rounds.proofs.steps.start.Symbol.{name as #start}
-use Rattle.rounds.proofs.steps.start.Met as start-thm
+use Rattle.rounds.proofs.start.start as start
+use Rattle.rounds.proofs.start.start.Symbol as start-def
+use Rattle.rounds.proofs.start.start.Symbol.{name as #start}
+use Rattle.rounds.proofs.start.start.Met as start-thm
 use Rattle.sink.proofs.run as run-fn
 use Rattle.sink.proofs.run.Symbol as run-fn-def
 use Rattle.sink.proofs.run.Symbol.{name as #run-fn}
@@ -76,10 +80,6 @@ use Rattle.sink.proofs.sink_all as f
 use Rattle.sink.proofs.sink_all.Statement as stated
 use Rattle.sink.proofs.sink_all.Code as code
 use Rattle.sink.proofs.sink_all.Code.Mir as m
-
--- the table's type
-abbrev Tab : RattleType
-Tab = Array u32 202
 
 -- the parameters
 abbrev kinds : List (Kind 12)
@@ -98,14 +98,6 @@ module _ {M : Type 1} (𝓤 : URA M) (H : Heap 𝓤) (A : Atoms 𝓤) (mem : Mem
 
   abbrev Runs : Contract 𝓤
   Runs = tripleOf 𝓤 H A run-fn.signature (run-fn.spec 𝓤 H A mem run)
-
--- where the search stands, by its own machine value
-stands : (q : Stand) (u : Val) → Is B.the-row q (u ∷ []) → Is B.the-row q (B′.lowered q ∷ [])
-stands q u is = subst (Is B.the-row q) (B′.lowers .val-is q (u ∷ []) is) is
-
--- the two locals of a slice that is lent again
-abbrev twice : {R : RattleType} → Slice R → List Cell → List Cell
-twice p cs = has (vptr (p .b) (p .o)) ∷ has (value p) ∷ cs
 
 module _ {M : Type 1} (𝓤 : URA M) (H : Heap 𝓤) (A : Atoms 𝓤) (W : Given 𝓤 H A) (mem : Memory → SProp 𝓤) (run : Routine → Fun 𝓤)
     (𝓣 : Tables 𝓤 H) (known-table : Triple 𝓤 (𝓣 .C #table) (Makes 𝓤 H A mem run)) (known-start : Triple 𝓤 (𝓣 .C #start) (Starts 𝓤 H A mem run)) (known-run : Triple 𝓤 (𝓣 .C #run-fn) (Runs 𝓤 H A mem run)) where
@@ -147,9 +139,19 @@ module _ {M : Type 1} (𝓤 : URA M) (H : Heap 𝓤) (A : Atoms 𝓤) (W : Given
     Post : Val → SProp 𝓤
     Post = Ends κs qs vs
 
-    -- the picture that is lent
+    -- the picture that is lent; `start` does not read replay
+    abbrev lends-with : List ℕ → Picture
+    lends-with replay = picture-of (bounds .list) (recs .list) (locs .list) (vias .list) (types .list) (regs .it) (ops .list) (opers .it) (pairs .list) (targets .list) replay
+
     abbrev Lends : Picture
-    Lends = picture-of (bounds .list) (recs .list) (locs .list) (vias .list) (types .list) (regs .it) (ops .list) (opers .it) (pairs .list) (targets .list) (replay .list)
+    Lends = lends-with (replay .list)
+
+    -- the registers and operands in use
+    abbrev used : InUse
+    used = record { regs = regs .it; opers = opers .it }
+
+    used-is : Is U.the-row used (U′.lowered used ∷ [])
+    used-is = LL.owes U.the-type U′.the-laws used (regs .is, (opers .is, tt))
 
     abbrev Said : F.Lasts kinds → Ran → Type 0
     Said z r = Promised Lends (work64 .list) (work32 .list) (facts .list) r (z .0) (z .1 .0) (z .1 .1 .0) (z .1 .1 .1 .0) (z .1 .1 .1 .1 .0) (z .1 .1 .1 .1 .1 .0) (z .1 .1 .1 .1 .1 .1 .0) (z .1 .1 .1 .1 .1 .1 .1 .0) (z .1 .1 .1 .1 .1 .1 .1 .1 .0)
@@ -190,15 +192,13 @@ module _ {M : Type 1} (𝓤 : URA M) (H : Heap 𝓤) (A : Atoms 𝓤) (W : Given
             ∷ pass-as 𝓤 H A W 12 κs qs 5 tt ops 6 (ops .list) refl
             ∷ pass-slice 𝓤 H A W 12 κs qs 6 tt pairs
             ∷ seen-too 𝓤 H A W (ShrSlice (named 2) (ν ∷ lftAt 12 7 tt κs) u32) (at targets (targets .list)) (value targets ∷ []) (shr-slice-copy 𝓤 H A W (named 2) (ν ∷ lftAt 12 7 tt κs) u32)
-            ∷ pass-slice 𝓤 H A W 12 κs qs 8 tt replay
-            ∷ pass-mut 𝓤 H A W 12 κs qs 9 tt work64 9 (work64 .list) refl
-            ∷ pass-mut 𝓤 H A W 12 κs qs 10 tt work32 10 (work32 .list) refl
-            ∷ pass-data 𝓤 H A W (number w32) regs
-            ∷ pass-data 𝓤 H A W (number w32) opers
+            ∷ pass-mut 𝓤 H A W 12 κs qs 9 tt work64 8 (work64 .list) refl
+            ∷ pass-mut 𝓤 H A W 12 κs qs 10 tt work32 9 (work32 .list) refl
+            ∷ pass-struct 𝓤 H A W U.the-type U′.the-plain used (U′.lowered used) used-is
             ∷ pass-number 𝓤 H A W w64 (length (facts .list)) (facts .wide .0) ∷ []
 
         abbrev Start-says : Stand → Lasts 𝓤 H A start-args → Type 0
-        Start-says r z = Started Lends (work64 .list) (work32 .list) (length (facts .list)) r (last-of 𝓤 H A start-args 10 z) (last-of 𝓤 H A start-args 11 z)
+        Start-says r z = (replay : List ℕ) → Started (lends-with replay) (work64 .list) (work32 .list) (length (facts .list)) r (last-of 𝓤 H A start-args 9 z) (last-of 𝓤 H A start-args 10 z)
 
         start-call : ent 𝓤 (⋆ 𝓤 H A (G.hads 𝓤 H A start-args)) (H .⇛ (C #start (G.flat 𝓤 H A start-args) (G.Then 𝓤 H A W start-args B.the-row Start-says)))
         start-call = calls-of 𝓤 H A W C fm #start (Starts 𝓤 H A mem run) known-start start-args (λ g. ((G.lfts 𝓤 H A start-args g, G.shares 𝓤 H A start-args, tt, G.values 𝓤 H A start-args g, G.machs 𝓤 H A start-args), tt)) (λ g. refl)
@@ -231,7 +231,7 @@ module _ {M : Type 1} (𝓤 : URA M) (H : Heap 𝓤) (A : Atoms 𝓤) (W : Given
         left-same z e = (fit-of 𝓤 H A run-args 1 z e, (fit-of 𝓤 H A run-args 2 z e, (fit-of 𝓤 H A run-args 3 z e, (fit-of 𝓤 H A run-args 4 z e, (fit-of 𝓤 H A run-args 5 z e, (fit-of 𝓤 H A run-args 6 z e, (fit-of 𝓤 H A run-args 10 z e ∙ e-bits, (fit-of 𝓤 H A run-args 11 z e ∙ e-words, (fit-of 𝓤 H A run-args 12 z e, tt)))))))))
 
         abbrev Run-says : Ran → Lasts 𝓤 H A run-args → Type 0
-        Run-says r z = Finished (picture-of (bounds .list) (recs .list) (locs .list) (vias .list) (types .list) (q .sizes .regs) (ops .list) (q .operands) (pairs .list) (targets .list) (replay .list)) q bits words (facts .list) (r .answer) (r .lines)
+        Run-says r z = Finished (picture-of (bounds .list) (recs .list) (locs .list) (vias .list) (types .list) (q .sizes .regs) (ops .list) (q .sizes .opers) (pairs .list) (targets .list) (replay .list)) q bits words (facts .list) (r .answer) (r .lines)
             (last-of 𝓤 H A run-args 1 z) (last-of 𝓤 H A run-args 2 z) (last-of 𝓤 H A run-args 3 z) (last-of 𝓤 H A run-args 4 z) (last-of 𝓤 H A run-args 5 z) (last-of 𝓤 H A run-args 6 z) (last-of 𝓤 H A run-args 10 z) (last-of 𝓤 H A run-args 11 z) (last-of 𝓤 H A run-args 12 z)
 
         run-call : ent 𝓤 (⋆ 𝓤 H A (G.hads 𝓤 H A run-args)) (H .⇛ (C #run-fn (G.flat 𝓤 H A run-args) (G.Then 𝓤 H A W run-args R.the-row Run-says)))
@@ -246,11 +246,14 @@ module _ {M : Type 1} (𝓤 : URA M) (H : Heap 𝓤) (A : Atoms 𝓤) (W : Given
       abbrev l : ℕ → ℕ
       l = home (code.function .locals) homes
 
-      -- local i stands at 120 − 2 · i, behind the 12 items
+      -- local i stands at 122 − 2 · i, behind the 12 items
       module _ (tv : Val) (tv-is : Is Tab rows (tv ∷ [])) where
-        -- the locals: the result, where the search stands, and those that stand behind the table's own
-        abbrev places : Cell → Cell → List Cell → List Cell
-        places w k cs = (w ∷ filled given) ++ (has tv ∷ k ∷ has tv ∷ cs)
+        -- the locals: the result, what is in use, where the call stands, and those that stand behind the table's own
+        abbrev places : Cell → Cell → Cell → List Cell → List Cell
+        places w u k cs = (w ∷ filled given) ++ (has tv ∷ u ∷ k ∷ has tv ∷ cs)
+
+        abbrev in-use : Cell
+        in-use = has (U′.lowered used)
 
         -- those for a call: the table and the slices, and cs behind them
         abbrev for-call : List Cell → List Cell
@@ -265,61 +268,70 @@ module _ {M : Type 1} (𝓤 : URA M) (H : Heap 𝓤) (A : Atoms 𝓤) (W : Given
 
           -- the locals, where cs stand behind what is lent to `start`
           abbrev running : Cell → List Cell → List Cell
-          running w cs = places w (has (B′.lowered q)) (for-call (has (vint w64 (length (facts .list))) ∷ cs))
+          running w cs = places w in-use (has (B′.lowered q)) (for-call (has (vint w64 (length (facts .list))) ∷ cs))
 
           -- what is left when `run` has returned
           abbrev Left : Val → Lasts 𝓤 H A runs-on → List (Item 𝓤)
           Left u z = Held (lists z) ++ cells 𝓤 H En (running (has u) (for-call (twice facts [])))
 
           -- the call of `run`, and the return
-          runs : ent 𝓤 (⋆ 𝓤 H A (Held (at-first bits words) ++ cells 𝓤 H En (running room (for-call (twice facts []))))) (Wp 𝓤 H C Λ En m.t-41 (atReturn 𝓤 H En Post))
+          runs : ent 𝓤 (⋆ 𝓤 H A (Held (at-first bits words) ++ cells 𝓤 H En (running room (for-call (twice facts []))))) (Wp 𝓤 H C Λ En m.t-42 (atReturn 𝓤 H En Post))
           runs =
-              qed W (Held (at-first bits words) ++ cells 𝓤 H En (running room (for-call (twice facts [])))) ∵ exec ! C Λ En m.t-41 (atRet En Post) $ move ! (90 ∷ []) $
+              qed W (Held (at-first bits words) ++ cells 𝓤 H En (running room (for-call (twice facts [])))) ∵ exec ! C Λ En m.t-42 (atRet En Post) $ move ! (92 ∷ []) $
               calls-with runs-on R.the-row (Run-says (l 15) tv tv-is q q-is bits words e-bits e-words started) fm (run-call (l 15) tv tv-is q q-is bits words e-bits e-words started) !
-              (loads ! 109 (36 ∷ 38 ∷ 40 ∷ 42 ∷ 44 ∷ 46 ∷ 48 ∷ []) (vptr (l 15) 0 ∷ value bounds ∷ value recs ∷ value locs ∷ value vias ∷ value types ∷ value ops ∷ []) refl (loads ! 108 (9 ∷ 10 ∷ 11 ∷ []) (value pairs ∷ value targets ∷ value replay ∷ []) refl (loads ! 109 (50 ∷ 52 ∷ 54 ∷ 16 ∷ []) (value work64 ∷ value work32 ∷ value facts ∷ B′.lowered q ∷ []) refl (no-more !)))) (λ u r a.
-              land ! (from ! (stop !)) (init ! 120 refl (LL.lawful R.the-type R′.the-laws 𝓤 H A W .typed (r .0) (u ∷ []) (a .0) .0)) $ returns ! (look ! 120 refl) $
-              cut (pick-at 𝓤 H A W 90 (Left u (r .1)) ∷ others 𝓤 H A W 90 (Left u (r .1))) (Left u (r .1)) _ (pull-back 𝓤 H A W 90 (Left u (r .1))) $
+              (loads ! 111 (37 ∷ 39 ∷ 41 ∷ 43 ∷ 45 ∷ 47 ∷ 49 ∷ []) (vptr (l 15) 0 ∷ value bounds ∷ value recs ∷ value locs ∷ value vias ∷ value types ∷ value ops ∷ []) refl (loads ! 110 (9 ∷ 10 ∷ 11 ∷ []) (value pairs ∷ value targets ∷ value replay ∷ []) refl (loads ! 111 (51 ∷ 53 ∷ 55 ∷ 17 ∷ []) (value work64 ∷ value work32 ∷ value facts ∷ B′.lowered q ∷ []) refl (no-more !)))) (λ u r a.
+              land ! (from ! (stop !)) (init ! 122 refl (LL.lawful R.the-type R′.the-laws 𝓤 H A W .typed (r .0) (u ∷ []) (a .0) .0)) $ returns ! (look ! 122 refl) $
+              cut (pick-at 𝓤 H A W 92 (Left u (r .1)) ∷ others 𝓤 H A W 92 (Left u (r .1))) (Left u (r .1)) _ (pull-back 𝓤 H A W 92 (Left u (r .1))) $
               frees-all (Held (lists (r .1))) En (running (has u) (for-call (twice facts []))) !
               (by ! (exits (lists (r .1)) (r .0) u (left-same (l 15) tv tv-is q q-is bits words e-bits e-words started (r .1) (a .1 .1)) (a .0) (promised Lends (work64 .list) (work32 .list) (facts .list) started (a .1 .0)))))
 
           -- what is lent to it
-          lends-then : ent 𝓤 (⋆ 𝓤 H A (Held (at-first bits words) ++ cells 𝓤 H En (running room []))) (Wp 𝓤 H C Λ En m.t-22 (atReturn 𝓤 H En Post))
+          lends-then : ent 𝓤 (⋆ 𝓤 H A (Held (at-first bits words) ++ cells 𝓤 H En (running room []))) (Wp 𝓤 H C Λ En m.t-23 (atReturn 𝓤 H En Post))
           lends-then =
-              qed W (Held (at-first bits words) ++ cells 𝓤 H En (running room [])) ∵ exec ! C Λ En m.t-22 (atRet En Post) $
+              qed W (Held (at-first bits words) ++ cells 𝓤 H En (running room [])) ∵ exec ! C Λ En m.t-23 (atRet En Post) $
               assigns ! (addr ! (from ! (stop !))) (from ! (stop !)) (init ! 48 refl (tt, tt)) $
-              lends-on ! 120 bounds refl refl $ lends-on ! 120 recs refl refl $ lends-on ! 120 locs refl refl $ lends-on ! 120 vias refl refl $ lends-on ! 120 types refl refl $
-              lends-on ! 120 ops refl refl $ lends-on ! 120 work64 refl refl $ lends-on ! 120 work32 refl refl $ lends-on ! 120 facts refl refl $ by ! runs
+              lends-on ! 122 bounds refl refl $ lends-on ! 122 recs refl refl $ lends-on ! 122 locs refl refl $ lends-on ! 122 vias refl refl $ lends-on ! 122 types refl refl $
+              lends-on ! 122 ops refl refl $ lends-on ! 122 work64 refl refl $ lends-on ! 122 work32 refl refl $ lends-on ! 122 facts refl refl $ by ! runs
+
+        -- what is lent to `start`, from the table's own local on
+        abbrev for-start : List Cell
+        for-start = for-call (has (vint w64 (length (facts .list))) ∷ [])
 
         -- what is left when `start` has returned
-        abbrev Begun : (ν : ℕ) (δ : GName) → Stand × Lasts 𝓤 H A (start-args (l 15) tv tv-is ν δ) → List (Item 𝓤)
-        Begun ν δ r = Held (at-first (last-of 𝓤 H A (start-args (l 15) tv tv-is ν δ) 10 (r .1)) (last-of 𝓤 H A (start-args (l 15) tv tv-is ν δ) 11 (r .1))) ++ cells 𝓤 H En (places room (has (B′.lowered (r .0))) (for-call (has (vint w64 (length (facts .list))) ∷ [])))
+        module _ (ν : ℕ) (δ : GName) where
+          abbrev starting : List (Arg 𝓤 H A)
+          starting = start-args (l 15) tv tv-is ν δ
 
-        -- the call of `start`, whose answer lands in _16
-        starts : ent 𝓤 (⋆ 𝓤 H A (Held (at-first (work64 .list) (work32 .list)) ++ cells 𝓤 H En (places room room (for-call (has (vint w64 (length (facts .list))) ∷ []))))) (Wp 𝓤 H C Λ En m.t-21 (atReturn 𝓤 H En Post))
+          abbrev Begun : Stand × Lasts 𝓤 H A starting → List (Item 𝓤)
+          Begun r = Held (at-first (last-of 𝓤 H A starting 9 (r .1)) (last-of 𝓤 H A starting 10 (r .1))) ++ cells 𝓤 H En (places room in-use (has (B′.lowered (r .0))) for-start)
+
+        -- the call of `start`, whose answer lands in _17
+        starts : ent 𝓤 (⋆ 𝓤 H A (Held (at-first (work64 .list) (work32 .list)) ++ cells 𝓤 H En (places room in-use room for-start))) (Wp 𝓤 H C Λ En m.t-22 (atReturn 𝓤 H En Post))
         starts =
-            qed W (Held (at-first (work64 .list) (work32 .list)) ++ cells 𝓤 H En (places room room (for-call (has (vint w64 (length (facts .list))) ∷ [])))) ∵ exec ! C Λ En m.t-21 (atRet En Post) $
+            qed W (Held (at-first (work64 .list) (work32 .list)) ++ cells 𝓤 H En (places room in-use room for-start)) ∵ exec ! C Λ En m.t-22 (atRet En Post) $
             move ! (1 ∷ 7 ∷ []) $
             lends-both u32 (named 1) (lftAt 12 1 tt κs) (shareAt 12 1 tt qs) (recs .γ) (recs .b) (recs .o) (length (recs .list)) (recs .list) (recs .wide) refl u32 (named 7) (lftAt 12 7 tt κs) (shareAt 12 7 tt qs) (at targets (targets .list)) (value targets ∷ []) (named 2) (named 2) ! tt (λ ν δ.
-            move ! (91 ∷ 3 ∷ 0 ∷ 4 ∷ 5 ∷ 6 ∷ 7 ∷ 8 ∷ 1 ∷ 9 ∷ 10 ∷ 11 ∷ []) $
-            calls-with (start-args (l 15) tv tv-is ν δ) B.the-row (Start-says (l 15) tv tv-is ν δ) fm (start-call (l 15) tv tv-is ν δ) !
-            (loads ! 111 (18 ∷ 20 ∷ 22 ∷ 24 ∷ 26 ∷ 28 ∷ 30 ∷ []) (vptr (l 15) 0 ∷ value bounds ∷ value recs ∷ value locs ∷ value vias ∷ value types ∷ value ops ∷ []) refl (loads ! 110 (9 ∷ 10 ∷ 11 ∷ []) (value pairs ∷ value targets ∷ value replay ∷ []) refl (loads ! 111 (32 ∷ 34 ∷ []) (value work64 ∷ value work32 ∷ []) refl
-            (loads ! 110 (6 ∷ 8 ∷ []) (vint w32 (regs .it) ∷ vint w32 (opers .it) ∷ []) refl (loads ! 111 (35 ∷ []) (vint w64 (length (facts .list)) ∷ []) refl (no-more !)))))) (λ u r a.
-            land ! (from ! (stop !)) (init ! 90 refl (LL.lawful B.the-type B′.the-laws 𝓤 H A W .typed (r .0) (u ∷ []) (a .0) .0)) $ rewrite ! 90 (λ (y : Val). ‵ (fat fullShare B′.mir (l 16) 0 y)) (ap only (B′.lowers .val-is (r .0) (u ∷ []) (a .0))) refl $
-            move ! (2 ∷ 8 ∷ 12 ∷ []) $
+            move ! (93 ∷ 3 ∷ 0 ∷ 4 ∷ 5 ∷ 6 ∷ 7 ∷ 8 ∷ 1 ∷ 10 ∷ 11 ∷ []) $
+            calls-with (starting ν δ) B.the-row (Start-says (l 15) tv tv-is ν δ) fm (start-call (l 15) tv tv-is ν δ) !
+            (loads ! 114 (19 ∷ 21 ∷ 23 ∷ 25 ∷ 27 ∷ 29 ∷ 31 ∷ []) (vptr (l 15) 0 ∷ value bounds ∷ value recs ∷ value locs ∷ value vias ∷ value types ∷ value ops ∷ []) refl (loads ! 113 (9 ∷ 10 ∷ []) (value pairs ∷ value targets ∷ []) refl
+            (loads ! 114 (33 ∷ 35 ∷ 16 ∷ 36 ∷ []) (value work64 ∷ value work32 ∷ U′.lowered used ∷ vint w64 (length (facts .list)) ∷ []) refl (no-more !)))) (λ u r a.
+            land ! (from ! (stop !)) (init ! 90 refl (LL.lawful B.the-type B′.the-laws 𝓤 H A W .typed (r .0) (u ∷ []) (a .0) .0)) $ rewrite ! 90 (λ (y : Val). ‵ (fat fullShare B′.mir (l 17) 0 y)) (ap only (B′.lowers .val-is (r .0) (u ∷ []) (a .0))) refl $
+            move ! (2 ∷ 8 ∷ 11 ∷ []) $
             backs-both u32 (named 1) (lftAt 12 1 tt κs) (shareAt 12 1 tt qs) (recs .γ) (recs .b) (recs .o) (length (recs .list)) (recs .list) (recs .wide) refl u32 (named 7) (lftAt 12 7 tt κs) (shareAt 12 7 tt qs) (at targets (targets .list)) (value targets ∷ []) (named 2) (named 2) ! tt ν δ (
-            move ! (2 ∷ 3 ∷ 0 ∷ 4 ∷ 5 ∷ 6 ∷ 7 ∷ 8 ∷ 1 ∷ 9 ∷ 10 ∷ 11 ∷ 12 ∷ []) $
-            cut (pick-at 𝓤 H A W 90 (Begun ν δ r) ∷ others 𝓤 H A W 90 (Begun ν δ r)) (Begun ν δ r) [] (pull-back 𝓤 H A W 90 (Begun ν δ r)) $
-            by ! (lends-then (r .0) (stands (r .0) u (a .0)) (last-of 𝓤 H A (start-args (l 15) tv tv-is ν δ) 10 (r .1)) (last-of 𝓤 H A (start-args (l 15) tv tv-is ν δ) 11 (r .1)) (fit-of 𝓤 H A (start-args (l 15) tv tv-is ν δ) 10 (r .1) (a .1 .1)) (fit-of 𝓤 H A (start-args (l 15) tv tv-is ν δ) 11 (r .1) (a .1 .1)) (a .1 .0)))))
+            move ! (2 ∷ 3 ∷ 0 ∷ 4 ∷ 5 ∷ 6 ∷ 7 ∷ 8 ∷ 1 ∷ 11 ∷ 9 ∷ 10 ∷ 12 ∷ []) $
+            cut (pick-at 𝓤 H A W 92 (Begun ν δ r) ∷ others 𝓤 H A W 92 (Begun ν δ r)) (Begun ν δ r) [] (pull-back 𝓤 H A W 92 (Begun ν δ r)) $
+            by ! (lends-then (r .0) (stands (r .0) u (a .0)) (last-of 𝓤 H A (starting ν δ) 9 (r .1)) (last-of 𝓤 H A (starting ν δ) 10 (r .1)) (fit-of 𝓤 H A (starting ν δ) 9 (r .1) (a .1 .1)) (fit-of 𝓤 H A (starting ν δ) 10 (r .1) (a .1 .1)) (a .1 .0 (replay .list))))))
 
-        -- what is lent to it
-        lends-first : ent 𝓤 (⋆ 𝓤 H A (cells 𝓤 H En (places room room []) ++ Held (at-first (work64 .list) (work32 .list)))) (Wp 𝓤 H C Λ En m.t-3 (atReturn 𝓤 H En Post))
+        -- what is in use, and what is lent to it
+        lends-first : ent 𝓤 (⋆ 𝓤 H A (cells 𝓤 H En (places room room room []) ++ Held (at-first (work64 .list) (work32 .list)))) (Wp 𝓤 H C Λ En m.t-3 (atReturn 𝓤 H En Post))
         lends-first =
-            qed W (cells 𝓤 H En (places room room []) ++ Held (at-first (work64 .list) (work32 .list))) ∵ exec ! C Λ En m.t-3 (atRet En Post) $
-            move ! (110 ∷ 111 ∷ 112 ∷ 113 ∷ 114 ∷ 115 ∷ 116 ∷ 117 ∷ 118 ∷ 119 ∷ 120 ∷ 121 ∷ []) $
+            qed W (cells 𝓤 H En (places room room room []) ++ Held (at-first (work64 .list) (work32 .list))) ∵ exec ! C Λ En m.t-3 (atRet En Post) $
+            move ! (112 ∷ 113 ∷ 114 ∷ 115 ∷ 116 ∷ 117 ∷ 118 ∷ 119 ∷ 120 ∷ 121 ∷ 122 ∷ 123 ∷ []) $
+            assigns ! (agg ! (and-then ! (load ! (from ! (stop !)) (look ! 110 refl)) (and-then ! (load ! (from ! (stop !)) (look ! 106 refl)) (no-more !)))) (from ! (stop !)) (init ! 90 refl (LL.lawful U.the-type U′.the-laws 𝓤 H A W .typed used _ used-is .0)) $
             assigns ! (addr ! (from ! (stop !))) (from ! (stop !)) (init ! 84 refl (tt, tt)) $
-            lends-on ! 120 bounds refl refl $ lends-on ! 120 recs refl refl $ lends-on ! 120 locs refl refl $ lends-on ! 120 vias refl refl $ lends-on ! 120 types refl refl $
-            lends-on ! 120 ops refl refl $ lends-on ! 120 work64 refl refl $ lends-on ! 120 work32 refl refl $
-            assigns ! (of-opd ! (load ! (from ! (fld ! refl (stop !))) (look-in ! 92 (sub ! 1 refl (whole !))))) (from ! (stop !)) (init ! 50 refl (tt, record { fits = facts .wide .0 })) $
+            lends-on ! 122 bounds refl refl $ lends-on ! 122 recs refl refl $ lends-on ! 122 locs refl refl $ lends-on ! 122 vias refl refl $ lends-on ! 122 types refl refl $
+            lends-on ! 122 ops refl refl $ lends-on ! 122 work64 refl refl $ lends-on ! 122 work32 refl refl $
+            assigns ! (of-opd ! (load ! (from ! (fld ! refl (stop !))) (look-in ! 94 (sub ! 1 refl (whole !))))) (from ! (stop !)) (init ! 50 refl (tt, record { fits = facts .wide .0 })) $
             by ! starts
 
       -- the MIR, once the parameters are in their locals: the table
@@ -327,7 +339,7 @@ module _ {M : Type 1} (𝓤 : URA M) (H : Heap 𝓤) (A : Atoms 𝓤) (W : Given
       begins =
           qed W (cells 𝓤 H En (room ∷ filled given) ++ Held (at-first (work64 .list) (work32 .list))) ∵ exec ! C Λ En m.t-1 (atRet En Post) $
           calls-with table-args Tab Table-says fm table-call ! (no-more !) (λ w r a.
-          land ! (from ! (stop !)) (init ! 74 refl (array-lawful 𝓤 H A W u32 (uint-lawful 𝓤 H A W w32) 202 .typed (r .0) (w ∷ []) (a .0) .0)) $ assigns ! (of-opd ! (load ! (from ! (stop !)) (look ! 74 refl))) (from ! (stop !)) (init ! 78 refl (array-lawful 𝓤 H A W u32 (uint-lawful 𝓤 H A W w32) 202 .typed (r .0) (w ∷ []) (a .0) .0)) $
+          land ! (from ! (stop !)) (init ! 74 refl (array-lawful 𝓤 H A W u32 (uint-lawful 𝓤 H A W w32) 202 .typed (r .0) (w ∷ []) (a .0) .0)) $ assigns ! (of-opd ! (load ! (from ! (stop !)) (look ! 74 refl))) (from ! (stop !)) (init ! 80 refl (array-lawful 𝓤 H A W u32 (uint-lawful 𝓤 H A W w32) 202 .typed (r .0) (w ∷ []) (a .0) .0)) $
           by ! (lends-first w (subst (λ (ts : List ℕ). Is Tab ts (w ∷ [])) (a .1 .0) (a .0))))
 
     from-entry : ent 𝓤 (onEntry 𝓤 H A f.signature κs qs (entries κs kinds vs) (machs κs kinds vs)) (WpFn 𝓤 H C Λ code.function given (Ends κs qs vs))
@@ -349,5 +361,5 @@ sink-all-spec 𝓤 H 𝓜 𝓖 𝓡 =
     (tables 𝓤 H 𝓜 𝓡 code.env .C) (tables 𝓤 H 𝓜 𝓡 code.env .Λ) #self code.function (code.unfolded 𝓤 H 𝓜 𝓡)
     (sink-all-meets 𝓤 H (𝓖 .A) (givenOf 𝓤 H 𝓜 𝓖) (𝓜 .mem) (𝓡 .run) (tablesOf 𝓤 H 𝓜 (tables 𝓤 H 𝓜 𝓡 code.env))
     (cited 𝓤 H (Makes 𝓤 H (𝓖 .A) (𝓜 .mem) (𝓡 .run)) 𝓜 𝓡 code.env #table table-def.routine code.calls-inst·table·table (table-thm.met 𝓤 H 𝓜 𝓖 𝓡))
-    (cited 𝓤 H (Starts 𝓤 H (𝓖 .A) (𝓜 .mem) (𝓡 .run)) 𝓜 𝓡 code.env #start start-def.routine code.calls-rounds·steps·start (start-thm.met 𝓤 H 𝓜 𝓖 𝓡))
+    (cited 𝓤 H (Starts 𝓤 H (𝓖 .A) (𝓜 .mem) (𝓡 .run)) 𝓜 𝓡 code.env #start start-def.routine code.calls-rounds·start·start (start-thm.met 𝓤 H 𝓜 𝓖 𝓡))
     (cited 𝓤 H (Runs 𝓤 H (𝓖 .A) (𝓜 .mem) (𝓡 .run)) 𝓜 𝓡 code.env #run-fn run-fn-def.routine code.calls-sink·run (run-fn-thm.met 𝓤 H 𝓜 𝓖 𝓡)))
