@@ -11,9 +11,8 @@ use Rattle.checks.specs.Causes.{picture-of}
 use Rattle.apply.specs.Apply.{Rest}
 use Rattle.sizes.specs.declared.Sizes.{Sizes}
 use Rattle.chainwords.specs.Work.{Shown, Begun, chain-words}
-use Rattle.search.specs.Search.{Looking}
 use Rattle.trial.specs.declared.block.MaybeMove.{MaybeMove}
-use Rattle.find.specs.Find.{Searched}
+use Rattle.find.specs.Find.{Finding, Searched}
 use Rattle.oneround.specs.declared.weigh.Step.{Step}
 use Rattle.oneround.specs.Weigh.{Beside, Ready, Weighed, prepared}
 use Rattle.oneround.specs.Make.{Making, Made}
@@ -49,8 +48,8 @@ module _ {bounds recs locs vias types ops pairs targets replay : List ℕ} {s : 
     replay-are = refl;
   }
 
-  pub looking : Looking bounds recs pairs targets replay s work64 work32
-  looking = record { P = P; G = o .G; shown = shown; begun = o .begun }
+  pub finding : Finding bounds recs ops pairs targets replay s work64 work32
+  finding = record { P = P; G = o .G; shown = shown; begun = o .begun }
 
   -- P is accepted with slices of these lengths still
   still : {m n : ℕ} → m ≡ length work64 → n ≡ length work32 → refusal P m n records ≡ 0

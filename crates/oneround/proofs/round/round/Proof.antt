@@ -194,7 +194,7 @@ module _ {M : Type 1} (𝓤 : URA M) (H : Heap 𝓤) (A : Atoms 𝓤) (W : Given
 
         find-call : ent 𝓤 (⋆ 𝓤 H A (G.hads 𝓤 H A find-args)) (H .⇛ (C #find (G.flat 𝓤 H A find-args) (G.Then 𝓤 H A W find-args Y.the-row Find-says)))
         find-call = calls-of 𝓤 H A W C fm #find (Finds 𝓤 H A mem run) known-find find-args (λ g. ((G.lfts 𝓤 H A find-args g, G.shares 𝓤 H A find-args, tt, G.values 𝓤 H A find-args g, G.machs 𝓤 H A find-args), tt)) (λ g. refl)
-            (λ g. qed W (raw (G.tokens 𝓤 H A find-args g) ∷ ‵ (G.owns 𝓤 H A find-args g) ∷ []) ∵ says ! (ready .0, law.looking (ready .1), ready .2) $ done !) Y.the-row Find-says (λ g w. id⊢ 𝓤 _)
+            (λ g. qed W (raw (G.tokens 𝓤 H A find-args g) ∷ ‵ (G.owns 𝓤 H A find-args g) ∷ []) ∵ says ! (ready .0, law.finding (ready .1), ready .2) $ done !) Y.the-row Find-says (λ g w. id⊢ 𝓤 _)
 
       -- ---- weighed: r was found
       module _ (bits words : List ℕ) (fs : List Fact) (e-bits : length bits ≡ length (work64 .list)) (e-words : length words ≡ length (work32 .list)) (e-fs : length fs ≡ length (facts .list)) (r : MaybeMove) (u : Val) (r-is : Is Y.the-row r (u ∷ []))
