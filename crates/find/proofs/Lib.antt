@@ -1,2 +1,3 @@
 pub mod Onward
 pub mod Turn
+pub mod Calls

@@ -27,8 +27,8 @@ use Rattle.search.specs.Search.{Looking, Sees, Seeking, sought, Sought}
 use Rattle.search.proofs.Looked.{first-at, none-more, shown-at, rooms}
 use Rattle.search.proofs.Anew.{sees-of}
 use Rattle.find.specs.declared.stand.Stand.{Stand}
-use Rattle.find.specs.declared.stand.Stand.the-variants.{Looks, Moves, Ends}
-use Rattle.find.specs.Find.{Sure, Over, Next, stands, answered, Finding, Searched, stand-of, outcome, to-come, Opened, GoneOn}
+use Rattle.find.specs.declared.stand.Stand.the-variants.{Looks, Moves}
+use Rattle.find.specs.Find.{Sure, Next, stands, answered, Finding, Searched, stand-of, outcome, to-come, Opened, GoneOn}
 
 -- ---- a chain is found, or none
 
