@@ -7,7 +7,7 @@ use Prim.Native.Nat.{ℕ, suc, _+_, _*_, _-_, _/_, _<_}
 use native.Mathlib.Numerals.{add-one}
 use native.Mathlib.Omega.{arith}
 use lib.Dec.{ltb}
-use lib.ListN.{length, take, drop, replicate, take-append-drop}
+use lib.ListN.{length, take, replicate, take-append-drop}
 use borrow.Author.Tests.{ltb-true, ltb-false}
 use Rattle.words.specs.Lists.{concat}
 use Rattle.words.proofs.Bools.{clash}
@@ -17,7 +17,7 @@ use Rattle.model.specs.declared.Answer.the-variants as answer
 use Rattle.model.specs.Picture.{Picture}
 use Rattle.model.specs.Refusal.{refusal, records}
 use Rattle.model.specs.Analyse.{facts}
-use Rattle.model.specs.Move.{Plan, apply}
+use Rattle.model.specs.Move.{apply}
 use Rattle.model.specs.Pass.{Outcome, used, rounds, ends-in, after-line, sink-all, sink, most-rounds}
 use Rattle.laws.proofs.Keeps.{round-not-refused}
 use Rattle.laws.proofs.Rounds.{line-of, sink-done, sink-short, sink-more}
@@ -29,13 +29,12 @@ use Rattle.chainwords.specs.Work.{Begun}
 use Rattle.oneround.specs.declared.weigh.Line.{Line}
 use Rattle.oneround.specs.declared.weigh.Step.{Step}
 use Rattle.oneround.specs.declared.weigh.Step.the-variants.{Ends, Goes, Short}
-use Rattle.oneround.specs.Weigh.{Says}
 use Rattle.oneround.specs.Make.{next}
 use Rattle.oneround.specs.Round.{Open, Stepped}
 use Rattle.oneround.proofs.Kept.{holds-is}
 use Rattle.rounds.specs.declared.state.At.{At}
 use Rattle.rounds.specs.Ended.{Did}
-use Rattle.rounds.specs.State.{line-words, with-line, Advancing, gone, ended, advanced}
+use Rattle.rounds.specs.State.{line-words, Advancing, gone, ended, advanced}
 use Rattle.rounds.specs.Going.{Leads, Between, Going, to-come}
 use Rattle.rounds.proofs.Lines.{long-still, one-more, zero-still}
 

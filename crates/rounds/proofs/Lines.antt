@@ -21,6 +21,10 @@ six l a u v w x y z =
     let k : a + 5 ≡ suc (suc (suc (suc (suc a)))) = omega arith in
     rw (e, f, g, h, k)
 
+-- six zeros fewer
+fewer-zeros : (n k : ℕ) → n ≡ suc (suc (suc (suc (suc (suc k))))) → drop {A = ℕ} 6 (replicate n 0) ≡ replicate k 0
+fewer-zeros n k e = ap (λ (m : ℕ). drop {A = ℕ} 6 (replicate m 0)) e
+
 -- the lines with one more: those so far, and zeros behind
 module _ (i : ℕ) (l : Line) (lines : List ℕ) (few : i < most-rounds) (long : length lines ≡ 48) where
   pub long-still : length (with-line i l lines) ≡ 48
@@ -32,8 +36,8 @@ module _ (i : ℕ) (l : Line) (lines : List ℕ) (few : i < most-rounds) (long :
   pub zero-still : drop (6 * i) lines ≡ replicate (48 - 6 * i) 0 → drop (6 * (i + 1)) (with-line i l lines) ≡ replicate (48 - 6 * (i + 1)) 0
   zero-still z =
       let e : 6 * (i + 1) ≡ 6 * i + 6 = omega arith in
-      let f : 48 - 6 * i ≡ suc (suc (suc (suc (suc (suc (48 - 6 * (i + 1))))))) = omega arith in
       drop-sets (6 * (i + 1)) lines (6 * i) (line-words (i + 1) l) (omega arith)
       ∙ ap (λ (n : ℕ). drop n lines) e
       ∙ sym (drop-drop 6 (6 * i) lines)
-      ∙ ap (drop 6) (z ∙ ap (λ (n : ℕ). replicate n 0) f)
+      ∙ ap (drop 6) z
+      ∙ fewer-zeros (48 - 6 * i) (48 - 6 * (i + 1)) (omega arith)

@@ -1,7 +1,7 @@
 -- `sink::run` meets its contract: a walk of its MIR, by hand. A turn lends all slices to `round`, and `advance` says where the call then
 -- stands. What is shown at a return, at the loop's end and at a turn's end is shut (`Post`, `Left`, `Under`) but where it is needed.
 -- Assumes nothing.
-use mathlib.Core.Path.{_≡_, refl, sym, _∙_, ap}
+use mathlib.Core.Path.{_≡_, refl, ap}
 use mathlib.Core.Bool.{Bool, true, false}
 use mathlib.Core.List.{List, [], _∷_, _++_}
 use Prim.Native.Nat.{ℕ, _<_}

@@ -20,11 +20,10 @@ use types.Kit.{Given, Item, ‵, raw, ⋆, atRet, cut, _$_, _∵_, !, qed, by, m
 use types.Part.{agg, whole, sub, look-in}
 use types.Run.{look, init, stop, fld, from, load, addr, of-opd, and-then, no-more, assigns, land, returns, exec}
 use sound.WpLaws.{FmC, fmOf, WpFn-mono}
-use denote.RattleType.{RattleType}
 use denote.Laws.{Is, all-typed}
 use denote.Plain.{uint-vals, uint-tells, uint-makes, uint-lawful}
 use denote.Builtin.{u32, u64}
-use denote.Array.{Array, array-lawful, array-makes, array-tells, array-vals}
+use denote.Array.{array-lawful, array-makes, array-tells, array-vals}
 use denote.Slice.{ShrSlice, shr-slice-copy}
 use denote.Signature.{typesAt}
 use denote.Steps.{only, owned}
