@@ -29,7 +29,7 @@ pub record Lent (n : ℕ) (facts facts′ : List Fact) : Type 0 where
   pub size : length facts′ ≡ length facts
   pub kept : (n ≡ 0 → ⊥) → facts′ ≡ facts
 
--- ---- from where the search stands to the end of the call, with the list fs of records: each slice, the work slices and the list at the end
+-- ---- from where the call stands to its end, with the list fs of records: each slice, the work slices and the list then
 
 pub record Coming (Q : Picture) (m : At) (work64 work32 : List ℕ) (nf : ℕ) : Type 0 where
   pub P : Picture
