@@ -6,6 +6,7 @@ use facts::Fact;
 use inst::index::MaybeReg;
 use inst::index::Reg;
 ghost use mathlib.Core.Path.{_≡_};
+ghost use mathlib.Core.Bool.{false};
 ghost use Prim.Native.Nat.{_+_, _%_, _<_};
 ghost use lib.ListN.{length};
 ghost use Rattle.model.specs.Picture.{inst, reads, writes};
@@ -69,13 +70,21 @@ pub fn put_slots(recs: &[u32], g: usize, uses: u32, st: &mut [u64], d: Stamp)
     }
 }
 
+// Stamps the register that the position of fact f writes; there are no more.
+pub fn put_def(recs: &[u32], f: Fact, st: &mut [u64], d: Stamp)
+    requires { ⌜ Written (now recs) (length (now st)) (f .rec) (f .def) (f .more) × (f .more ≡ false) × Beside (d .keep) (d .lo) (d .v) ⌝ }
+    ensures { λ _. ⌜ Stamped (writes (inst (now (recs .entry)) (f .rec))) (d .keep) (d .lo) (d .v) (now (st .entry)) (now (st .exit)) ⌝ }
+{
+    put(st, Reg::new(f.def, st.len()), d);
+}
+
 // Stamps what the position of fact f writes.
 pub fn put_writes(t: &[u32; 202], recs: &[u32], f: Fact, st: &mut [u64], d: Stamp)
     requires { ⌜ (now t ≡ rows) × Written (now recs) (length (now st)) (f .rec) (f .def) (f .more) × Beside (d .keep) (d .lo) (d .v) ⌝ }
     ensures { λ _. ⌜ Stamped (writes (inst (now (recs .entry)) (f .rec))) (d .keep) (d .lo) (d .v) (now (st .entry)) (now (st .exit)) ⌝ }
 {
     if !f.more {
-        put(st, Reg::new(f.def, st.len()), d);
+        put_def(recs, f, st, d);
         return;
     }
     let g = words::numbers::wide(f.rec);
@@ -95,14 +104,22 @@ fn put_places(ops: &[u32], recs: &[u32], g: usize, uses: u32, st: &mut [u64], d:
     }
 }
 
+// Stamps the registers that the position of fact f reads; there are no more.
+pub fn put_uses(ops: &[u32], recs: &[u32], f: Fact, st: &mut [u64], d: Stamp)
+    requires { ⌜ Readable (now recs) (now ops) (length (now st)) f × (f .more ≡ false) × Beside (d .keep) (d .lo) (d .v) ⌝ }
+    ensures { λ _. ⌜ Stamped (reads (now (ops .entry)) (inst (now (recs .entry)) (f .rec))) (d .keep) (d .lo) (d .v) (now (st .entry)) (now (st .exit)) ⌝ }
+{
+    put(st, Reg::new(f.use0, st.len()), d);
+    put(st, Reg::new(f.use1, st.len()), d);
+}
+
 // Stamps what the position of fact f reads.
 pub fn put_reads(t: &[u32; 202], ops: &[u32], recs: &[u32], f: Fact, st: &mut [u64], d: Stamp)
     requires { ⌜ (now t ≡ rows) × Readable (now recs) (now ops) (length (now st)) f × Beside (d .keep) (d .lo) (d .v) ⌝ }
     ensures { λ _. ⌜ Stamped (reads (now (ops .entry)) (inst (now (recs .entry)) (f .rec))) (d .keep) (d .lo) (d .v) (now (st .entry)) (now (st .exit)) ⌝ }
 {
     if !f.more {
-        put(st, Reg::new(f.use0, st.len()), d);
-        put(st, Reg::new(f.use1, st.len()), d);
+        put_uses(ops, recs, f, st, d);
         return;
     }
     let g = words::numbers::wide(f.rec);

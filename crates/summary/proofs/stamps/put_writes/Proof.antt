@@ -1,26 +1,19 @@
 -- `summary::stamps::put_writes` meets its contract. Assumes nothing.
-use mathlib.Core.Path.{refl}
-use Rattle.summary.proofs.Wording.{known-at, slots-at, slots-stamped, word-made, word-stamped}
+use Rattle.summary.proofs.Wording.{known-at, slots-at, slots-stamped}
+use borrow.Author.Tests.{not-true}
 use borrow.Author.Needs.{needs}
 use Rattle.summary.proofs.stamps.put_writes.Statement.{statement}
 use Rattle.summary.proofs.stamps.put_writes.Tie as tie
 
-new-requires : tie.Need-new-requires
-new-requires c κs = search needs
-
-put-requires : tie.Need-put-requires
-put-requires c κs =
-    let at-entry = c .before .before .before .before .before .before in
-    (word-made (at-entry .pre .1) (c .before .before .if1 .taken) refl (c .new .ensures) .among, at-entry .pre .2)
+put-def-requires : tie.Need-put-def-requires
+put-def-requires c κs =
+    let at-entry = c .before .before .before .before .before in (at-entry .pre .1, not-true _ (c .before .if1 .taken), at-entry .pre .2)
 
 same-length : tie.Need-same-length
 same-length c = search needs
 
 returns : tie.Need-returns
-returns c =
-    let at-if1 = c .before .before .before .before .before in
-    let at-entry = c .before .before .before .before .before .before .before .before .before in
-    word-stamped (at-entry .pre .1) (at-if1 .if1 .taken) (at-entry .args .st .now) (at-entry .pre .2) refl (c .before .before .before .new .ensures) (c .before .before .put .ensures)
+returns c = c .before .before .put-def .ensures
 
 wide-requires : tie.Need-wide-requires
 wide-requires c κs = search needs
@@ -47,8 +40,7 @@ pub put-writes-spec : {M : Type 1} → statement M
 put-writes-spec =
     tie.close
     (tie.spec
-    new-requires
-    put-requires
+    put-def-requires
     same-length
     returns
     wide-requires
