@@ -1,6 +1,7 @@
 // Rule 1, from behind (01, "The legal set": whoever reads a member's value in the chain is in the set): a register is awaited where a
 // kept position reads it further on with no write in between, and a member that writes such a one is dropped. What is kept is noted on
 // the way: whether a position is, is settled once the sweep has been there.
+use crate::known::back_known;
 use crate::rules::rule1;
 use facts::Fact;
 use summary::notes::note_at;
@@ -30,7 +31,7 @@ fn may_stay(t: &[u32; 202], recs: &[u32], f: Fact, st: &[u64]) -> bool
 }
 
 // q and 1, if q is kept.
-fn kept_at(member: bool, q: usize) -> u64
+pub fn kept_at(member: bool, q: usize) -> u64
     requires { ⌜ q < 800 ⌝ }
     ensures { λ r. ⌜ r ≡ kept-word member q ⌝ }
 {
@@ -56,8 +57,8 @@ fn await_reads(t: &[u32; 202], ops: &[u32], recs: &[u32], f: Fact, member: bool,
     put_reads(t, ops, recs, f, st, d);
 }
 
-// Position q, of fact f: dropped if it is a member that writes what is awaited. Says whether it is in the set.
-pub fn back(
+// The step at position q, of fact f, by its record.
+fn back_looked(
     t: &[u32; 202],
     recs: &[u32],
     ops: &[u32],
@@ -79,4 +80,24 @@ pub fn back(
     put_writes(t, recs, f, st, d);
     await_reads(t, ops, recs, f, stays, st);
     stays
+}
+
+// Position q, of fact f: dropped if it is a member that writes what is awaited. Says whether it is in the set. Whether the fact has all is
+// asked once: of most positions it has, and then the loop of a sweep holds nothing that only a record needs.
+pub fn back(
+    t: &[u32; 202],
+    recs: &[u32],
+    ops: &[u32],
+    f: Fact,
+    st: &mut [u64],
+    lasts: &mut [u32; 2008],
+    q: usize,
+) -> bool
+    requires { ⌜ (now t ≡ rows) × Written (now recs) (length (now st)) (f .rec) (f .def) (f .more) × Readable (now recs) (now ops) (length (now st)) f × Small f × (q < 800) ⌝ }
+    ensures { λ b. ⌜ Backed (now (recs .entry)) (now (ops .entry)) f q (now (st .entry)) (now (lasts .entry)) (now (st .exit)) (now (lasts .exit)) b ⌝ }
+{
+    if f.more {
+        return back_looked(t, recs, ops, f, st, lasts, q);
+    }
+    back_known(recs, ops, f, st, lasts, q)
 }

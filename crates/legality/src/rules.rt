@@ -16,7 +16,7 @@ use summary::stamps::ORIGIN;
 use summary::stamps::WRITER;
 ghost use mathlib.Core.Path.{_≡_};
 ghost use mathlib.Core.Logic.{_⊎_};
-ghost use mathlib.Core.Bool.{not, _||_};
+ghost use mathlib.Core.Bool.{false, not, _||_};
 ghost use Prim.Native.Nat.{ℕ, _+_, _/_, _%_, _<_, _≤_};
 ghost use lib.ListN.{length, getD};
 ghost use lib.Dec.{eqb, leb};
@@ -62,13 +62,21 @@ fn free_slots(recs: &[u32], g: usize, uses: u32, st: &[u64]) -> bool
     true
 }
 
+// Rule 1 by the register that the position of fact f writes; there are no more.
+pub fn def_free(recs: &[u32], f: Fact, st: &[u64]) -> bool
+    requires { ⌜ Written (now recs) (length (now st)) (f .rec) (f .def) (f .more) × (f .more ≡ false) ⌝ }
+    ensures { λ b. ⌜ b ≡ all (λ x. leb (getD (now (st .entry)) x 0) 1023) (writes (inst (now (recs .entry)) (f .rec))) ⌝ }
+{
+    free(st, Reg::new(f.def, st.len()))
+}
+
 // Rule 1: nothing that the position of fact f writes is awaited, that is, read further on by a kept position with no write in between.
 pub fn rule1(t: &[u32; 202], recs: &[u32], f: Fact, st: &[u64]) -> bool
     requires { ⌜ (now t ≡ rows) × Written (now recs) (length (now st)) (f .rec) (f .def) (f .more) ⌝ }
     ensures { λ b. ⌜ b ≡ all (λ x. leb (getD (now (st .entry)) x 0) 1023) (writes (inst (now (recs .entry)) (f .rec))) ⌝ }
 {
     if !f.more {
-        return free(st, Reg::new(f.def, st.len()));
+        return def_free(recs, f, st);
     }
     let g = words::numbers::wide(f.rec);
     free_slots(recs, g, inst::access::uses(t, recs, g), st)

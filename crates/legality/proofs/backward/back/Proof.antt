@@ -1,49 +1,25 @@
 -- `legality::backward::back` meets its contract. Assumes nothing.
-use mathlib.Core.Path.{_∙_, subst, sym}
-use Prim.Native.Nat.{ℕ}
-use Rattle.summary.proofs.Stamping.{kept-stamp}
-use Rattle.summary.proofs.Backing.{backed, kept-few}
-use Rattle.summary.specs.Passes.{Readable}
 use borrow.Author.Needs.{needs}
 use Rattle.legality.proofs.backward.back.Statement.{statement}
 use Rattle.legality.proofs.backward.back.Tie as tie
-use Rattle.legality.proofs.backward.back.Reads as reads
-use Rattle.legality.proofs.backward.back.Lts as lts
-use Rattle.legality.proofs.backward.await_reads.Reads as await-reads-reads
-use Rattle.legality.proofs.backward.kept_at.Reads as kept-at-reads
-use Rattle.legality.proofs.backward.may_stay.Reads as may-stay-reads
-use Rattle.summary.proofs.notes.note_at.Reads as note-at-reads
-use Rattle.summary.proofs.stamps.put_writes.Reads as put-writes-reads
 
-may-stay-requires : tie.Need-may-stay-requires
-may-stay-requires c κs = search needs
-
-note-at-requires : tie.Need-note-at-requires
-note-at-requires c κs = search needs
-
-kept-at-requires : tie.Need-kept-at-requires
-kept-at-requires c κs = search needs
-
-put-writes-requires : tie.Need-put-writes-requires
-put-writes-requires c κs = let p = c .before .before .before .before .before .before .before .before .before .pre in (p .0, p .1, kept-stamp _ (kept-few _ _ (p .4) (c .before .kept-at .ensures)))
-
-await-reads-requires : tie.Need-await-reads-requires
-await-reads-requires c κs = let p = c .before .before .before .before .before .before .before .before .before .before .before .before .before .pre in let a = c .before .before .before .before .before .before .before .before .before .before .before .before .before .args in (p .0, subst (λ (m : ℕ). Readable (a .recs .now) (a .ops .now) m (a .f)) (sym (c .before .before .before .put-writes .ensures .size)) (p .2))
+back-looked-requires : tie.Need-back-looked-requires
+back-looked-requires c κs = search needs
 
 same-length : tie.Need-same-length
 same-length c = search needs
 
 returns : tie.Need-returns
-returns c = backed (c .before .before .before .before .before .before .before .before .before .before .before .may-stay .ensures) (c .before .before .before .before .before .before .before .before .kept-at .ensures) (c .before .before .before .before .before .before .put-writes .ensures) (c .before .before .await-reads .ensures) (c .before .before .before .before .before .before .before .before .before .note-at .ensures)
+returns c = search needs
+
+back-known-requires : tie.Need-back-known-requires
+back-known-requires c κs = search needs
+
+same-length-2 : tie.Need-same-length-2
+same-length-2 c = search needs
+
+returns-2 : tie.Need-returns-2
+returns-2 c = search needs
 
 pub back-spec : {M : Type 1} → statement M
-back-spec =
-    tie.close
-    (tie.spec
-    may-stay-requires
-    note-at-requires
-    kept-at-requires
-    put-writes-requires
-    await-reads-requires
-    same-length
-    returns)
+back-spec = tie.close (tie.spec back-looked-requires same-length returns back-known-requires same-length-2 returns-2)

@@ -1,25 +1,18 @@
 -- `legality::rules::rule1` meets its contract. Assumes nothing.
-use mathlib.Core.Path.{refl}
 use Prim.Native.Nat.{ℕ}
 use lib.Dec.{leb}
 use lib.ListN.{getD}
-use Rattle.summary.proofs.Wording.{known-at, slots-at, slots-tested, word-made, word-tested}
+use Rattle.summary.proofs.Wording.{known-at, slots-at, slots-tested}
+use borrow.Author.Tests.{not-true}
 use borrow.Author.Needs.{needs}
 use Rattle.legality.proofs.rules.rule1.Statement.{statement}
 use Rattle.legality.proofs.rules.rule1.Tie as tie
 
-new-requires : tie.Need-new-requires
-new-requires c κs = search needs
-
-free-requires : tie.Need-free-requires
-free-requires c κs = word-made (c .before .before .before .before .before .pre .1) (c .before .if1 .taken) refl (c .new .ensures) .among
+def-free-requires : tie.Need-def-free-requires
+def-free-requires c κs = (c .before .before .before .before .pre .1, not-true _ (c .if1 .taken))
 
 returns : tie.Need-returns
-returns c =
-    let at-entry = c .before .before .before .before .before .before in
-    let brief = c .before .before .if1 .taken in
-    let made = word-made (at-entry .pre .1) brief refl (c .before .new .ensures) in
-    word-tested (at-entry .pre .1) brief (λ (x : ℕ). leb (getD (at-entry .args .st .now) x 0) 1023) made (c .free .ensures)
+returns c = c .def-free .ensures
 
 wide-requires : tie.Need-wide-requires
 wide-requires c κs = search needs
@@ -38,4 +31,4 @@ returns-2 c =
 pub rule1-spec : {M : Type 1} → statement M
 rule1-spec =
     tie.close
-    (tie.spec new-requires free-requires returns wide-requires uses-requires free-slots-requires returns-2)
+    (tie.spec def-free-requires returns wide-requires uses-requires free-slots-requires returns-2)
