@@ -12,8 +12,7 @@ use Rattle.model.specs.Picture.{absent}
 use Rattle.model.specs.Analyse.{Facts, Fact, Known, unknown, Org, Unknown, Ro, Frame, no-fact, last-writer, org-of, len-of, when-some, known-of, small, positive, Read}
 use Rattle.inst.specs.Index.{reg-of, word-of, Among}
 use Rattle.inst.specs.declared.index.MaybeReg.{MaybeReg}
-use Rattle.inst.specs.declared.index.MaybeReg.the-variants.{Is, Not}
-use Rattle.inst.proofs.Indices.{among-of, reg-made}
+use Rattle.inst.proofs.Indices.{reg-made, among-made}
 use Rattle.effects.specs.Origin.{org-at, num}
 use Rattle.effects.proofs.Origins.{num-le}
 use Rattle.analyse.specs.declared.look.Value.{Value}
@@ -65,10 +64,6 @@ module _ (k : Known) (f : ℕ) (e : f % 16 ≡ flags-of k) where
     flags-none t = ap (λ (y : Bool). points false y) (sym (ne-eqb (f / 2 % 2) 1 t) ∙ frame-bit) ∙ ap (λ (x : Bool). points x (k .frame)) not-ro
 
 -- ---- a register
-
-among-more : {R K : ℕ} → R ≤ K → (m : MaybeReg) → Among R m → Among K m
-among-more h (Is k) a = (omega (arith, h, a .0), a .1)
-among-more h Not a = tt
 
 abbrev read : List Fact → ℕ → Read
 read past r = record { reg = r; writer = last-writer 0 past r }
@@ -151,4 +146,4 @@ module _ {R n : ℕ} {regs : List ℕ} (g : Ranged R n regs) (r : ℕ) {m : Mayb
   made-reg h e = reg-made r R (omega (arith, g .in-use, g .lent)) h e
 
   pub read-reg : m ≡ reg-of r R → Among (length regs) m
-  read-reg e = among-more (g .in-use) m (subst (Among R) (sym e) (among-of r R (omega (arith, g .in-use, g .lent))))
+  read-reg e = among-made r R e refl (length regs) (omega (arith, g .in-use, g .lent)) (g .in-use)

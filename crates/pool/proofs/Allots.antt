@@ -17,7 +17,7 @@ use Rattle.model.specs.Picture.{absent}
 use Rattle.inst.specs.Index.{reg-of, word-of, Among}
 use Rattle.inst.specs.declared.index.MaybeReg.{MaybeReg}
 use Rattle.model.specs.Move.{Pool, release, gives}
-use Rattle.pool.proofs.Registers.{among-made, word-made}
+use Rattle.inst.proofs.Indices.{among-made, word-made}
 use Rattle.pool.specs.Pool.{Is, Turn, Ready, Positioned, Allotted, Allots, mark-at, last-at, wrote-at, new-at, after, typed, start, reg-or, regs-of, grow-if, piled}
 
 -- ---- one position

@@ -1,4 +1,3 @@
-pub mod Registers
 pub mod Releases
 pub mod Founds
 pub mod Lows

@@ -13,7 +13,7 @@ use lib.Seq.{drop-cons, set-append-seam, append-snoc, getD-take, length-take-le}
 use Rattle.model.specs.Picture.{absent}
 use Rattle.inst.specs.Index.{reg-of, word-of, Among}
 use Rattle.inst.specs.declared.index.MaybeReg.{MaybeReg}
-use Rattle.pool.proofs.Registers.{among-made, word-made}
+use Rattle.inst.proofs.Indices.{among-made, word-made}
 use Rattle.pool.specs.Pool.{grow-if, typed, width, one-if, new-at, wrote-at}
 use Rattle.pool.specs.Types.{over, TypeAdded, TypesFit}
 use Rattle.pool.proofs.Lows.{grown-length}

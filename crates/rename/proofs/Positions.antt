@@ -8,7 +8,7 @@ use Rattle.inst.specs.Index.{word-of, Among}
 use Rattle.inst.specs.declared.index.MaybeReg.{MaybeReg}
 use Rattle.inst.specs.declared.index.MaybeReg.the-variants as R
 use Rattle.pool.specs.Pool.{mark-at, wrote-at, new-at}
-use Rattle.pool.proofs.Registers.{among-made, word-made}
+use Rattle.inst.proofs.Indices.{among-made, word-made}
 use Rattle.rename.specs.Runs.{Parted, Pass, Passed}
 use Rattle.rename.specs.Counts.{Counted}
 

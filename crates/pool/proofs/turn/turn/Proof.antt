@@ -4,7 +4,7 @@ use mathlib.Core.Path.{sym, ap, subst, _∙_}
 use Prim.Native.Nat.{ℕ, _<_}
 use lib.ListN.{getD}
 use Rattle.inst.specs.Index.{word-of}
-use Rattle.pool.proofs.Registers.{below, there}
+use Rattle.inst.proofs.Indices.{below, a-reg}
 use Rattle.pool.proofs.Turns.{turn-none, turn-some}
 use borrow.Author.Needs.{needs}
 use Rattle.pool.proofs.turn.turn.Statement.{statement}
@@ -38,7 +38,7 @@ mul-give : tie.Need-mul-give
 mul-give c = search needs
 
 shared-slice-read-give : tie.Need-shared-slice-read-give
-shared-slice-read-give c = omega (arith, c .before .at .ensures, below _ (c .before .before .before .before .before .before .before .before .before .before .before .before .pre .1 .0) (c .before .before .before .before .d .given .1))
+shared-slice-read-give c = omega (arith, c .before .at .ensures, below (c .before .before .before .before .d .given .1) (c .before .before .before .before .before .before .before .before .before .before .before .before .pre .1 .0))
 
 give-requires : tie.Need-give-requires
 give-requires c κs =
@@ -46,7 +46,7 @@ give-requires c κs =
     let q = c .before .before .before .before .before .before .before .before .before .before .before .before .pre .0 in
     let told = c .before .before .before .before .before .before .before .before .before .before .before .before .pre .1 in
     let is = c .before .before .before .before .d .given .1 in
-    let ty = told .1 (there _ (told .0) is) in
+    let ty = told .1 (a-reg is (told .0) .1) in
     let at = ap word-of is ∙ sym (c .before .at .ensures) in
     (omega (arith, r .small), q .1, q .2, subst (λ (k : ℕ). getD (c .before .before .before .before .before .before .before .before .before .before .before .before .args .types .now) k 0 < 8) at ty, omega (arith, r .size))
 
@@ -58,7 +58,7 @@ returns-2 c =
     let told = c .before .before .before .before .before .before .before .before .before .before .before .before .before .before .before .pre .1 in
     let is = c .before .before .before .before .before .before .before .d .given .1 in
     let at = c .before .before .before .before .at .ensures ∙ sym (ap word-of is) in
-    turn-some (c .before .before .before .before .before .before .before .before .before .before .before .release .ensures) (there _ (told .0) is) (ap (λ (k : ℕ). getD (c .before .before .before .before .before .before .before .before .before .before .before .before .before .before .before .args .types .now) k 0) at) (c .before .before .give .ensures)
+    turn-some (c .before .before .before .before .before .before .before .before .before .before .before .release .ensures) (a-reg is (told .0) .1) (ap (λ (k : ℕ). getD (c .before .before .before .before .before .before .before .before .before .before .before .before .before .before .before .args .types .now) k 0) at) (c .before .before .give .ensures)
 
 pub turn-spec : {M : Type 1} → statement M
 turn-spec =

@@ -4,7 +4,7 @@ use mathlib.Core.Path.{sym, ap, _∙_}
 use Prim.Native.Nat.{ℕ}
 use lib.ListN.{getD, length-set}
 use Rattle.inst.specs.Index.{word-of}
-use Rattle.pool.proofs.Registers.{below}
+use Rattle.inst.proofs.Indices.{below}
 use Rattle.pool.proofs.Typing.{added-none, added-plain, added-signal, signal-fits}
 use borrow.Author.Needs.{needs}
 use Rattle.pool.proofs.types.add_type.Statement.{statement}
@@ -32,7 +32,7 @@ mul-ty : tie.Need-mul-ty
 mul-ty c = search needs
 
 slice-read-ty : tie.Need-slice-read-ty
-slice-read-ty c = omega (arith, c .before .at .ensures, below _ (c .before .before .before .before .before .before .before .before .pre .0) (c .before .before .before .d .given .1))
+slice-read-ty c = omega (arith, c .before .at .ensures, below (c .before .before .before .d .given .1) (c .before .before .before .before .before .before .before .before .pre .0))
 
 mul-types : tie.Need-mul-types
 mul-types c = search needs

@@ -5,7 +5,7 @@ use Prim.Native.Nat.{_≤_, _-_, _<_}
 use lib.ListN.{length}
 use Rattle.model.specs.Picture.{inst, absent}
 use Rattle.inst.specs.Record.{write-at}
-use Rattle.pool.proofs.Registers.{among-made, word-made}
+use Rattle.inst.proofs.Indices.{among-made, word-made}
 use Rattle.rename.specs.Names.{Forgot}
 use Rattle.rename.proofs.Naming.{forgot-none, forgot-more, forgot-end}
 use borrow.Author.Needs.{needs}

@@ -6,7 +6,7 @@ use Prim.Native.Nat.{ℕ}
 use lib.ListN.{set}
 use borrow.Author.Tests.{eq-eqb, ne-eqb}
 use Rattle.inst.specs.Index.{word-of}
-use Rattle.pool.proofs.Registers.{below, there}
+use Rattle.inst.proofs.Indices.{below, a-reg}
 use borrow.Author.Needs.{needs}
 use Rattle.rename.proofs.names.put.Statement.{statement}
 use Rattle.rename.proofs.names.put.Tie as tie
@@ -33,7 +33,7 @@ mul-names : tie.Need-mul-names
 mul-names c = search needs
 
 slice-write-names : tie.Need-slice-write-names
-slice-write-names c = omega (arith, c .at .ensures, below _ (c .before .before .before .before .before .before .pre) (c .before .before .before .r .given .1))
+slice-write-names c = omega (arith, c .at .ensures, below (c .before .before .before .r .given .1) (c .before .before .before .before .before .before .pre))
 
 same-length : tie.Need-same-length
 same-length c = search needs
@@ -42,7 +42,7 @@ returns-2 : tie.Need-returns-2
 returns-2 c =
     let a = c .before .before .before .before .before .before .args in
     let is = c .before .before .before .r .given .1 in
-    let some = ne-eqb _ _ (there _ (c .before .before .before .before .before .before .pre) is) in
+    let some = ne-eqb _ _ (a-reg is (c .before .before .before .before .before .before .pre) .1) in
     ap₂ (λ (k v : ℕ). set (a .names .now) k v) (c .at .ensures ∙ sym (ap word-of is)) (c .before .long .ensures)
     ∙ sym (ap (λ (t : Bool). cond t (a .names .now) (set (a .names .now) (word-of (a .r)) (a .nw))) some)
 

@@ -3,7 +3,7 @@ use native.Mathlib.Omega.{arith}
 use mathlib.Core.Path.{_≡_, refl, sym, ap, _∙_, subst}
 use Prim.Native.Nat.{ℕ, _+_, _*_, _≤_, _-_, _<_}
 use lib.ListN.{length}
-use Rattle.pool.proofs.Registers.{among-made, word-made}
+use Rattle.inst.proofs.Indices.{among-made, word-made}
 use Rattle.rename.specs.Names.{slotted, Slotted}
 use Rattle.rename.proofs.Slotting.{slotted-none, slotted-more, slotted-end}
 use borrow.Author.Needs.{needs}

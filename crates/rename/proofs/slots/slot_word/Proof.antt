@@ -1,7 +1,7 @@
 -- `rename::slots::slot_word` meets its contract. Assumes nothing.
 use mathlib.Core.Path.{sym, ap, _∙_}
 use Rattle.inst.specs.Index.{word-of}
-use Rattle.pool.proofs.Registers.{below, there}
+use Rattle.inst.proofs.Indices.{below, a-reg}
 use Rattle.rename.specs.Names.{named, reg-or}
 use Rattle.rename.proofs.Slotting.{slot-absent, slot-read, slot-write, slot-other}
 use borrow.Author.Needs.{needs}
@@ -18,12 +18,12 @@ returns : tie.Need-returns
 returns c = let e = ap word-of (c .enum-told .given .1) in sym e ∙ slot-absent _ _ _ _ e
 
 name-requires : tie.Need-name-requires
-name-requires c κs = below _ (c .before .before .before .before .before .pre) (c .before .before .r .given .1)
+name-requires c κs = below (c .before .before .r .given .1) (c .before .before .before .before .before .pre)
 
 returns-2 : tie.Need-returns-2
 returns-2 c =
     let is = c .before .before .before .r .given .1 in
-    let f = there _ (c .before .before .before .before .before .before .pre) is in
+    let f = a-reg is (c .before .before .before .before .before .before .pre) .1 in
     c .name .ensures ∙ ap (named (c .before .before .before .before .before .before .args .names .now)) (sym (ap word-of is)) ∙ sym (slot-read _ _ _ _ f (c .before .if1 .taken))
 
 number-requires : tie.Need-number-requires
@@ -35,7 +35,7 @@ or-requires c κs = search needs
 returns-3 : tie.Need-returns-3
 returns-3 c =
     let is = c .before .before .before .before .before .r .given .1 in
-    let f = there _ (c .before .before .before .before .before .before .before .before .pre) is in
+    let f = a-reg is (c .before .before .before .before .before .before .before .before .pre) .1 in
     let same = ap (reg-or (c .before .before .before .before .before .before .before .before .args .nw)) (c .before .number .ensures ∙ sym (ap word-of is)) in
     c .or .ensures ∙ same ∙ sym (slot-write _ _ _ _ f (c .before .before .before .if1 .left) (c .before .before .if2 .taken))
 
@@ -45,7 +45,7 @@ number-requires-2 c κs = search needs
 returns-4 : tie.Need-returns-4
 returns-4 c =
     let is = c .before .before .before .before .r .given .1 in
-    let f = there _ (c .before .before .before .before .before .before .before .pre) is in
+    let f = a-reg is (c .before .before .before .before .before .before .before .pre) .1 in
     c .number2 .ensures ∙ sym (ap word-of is) ∙ sym (slot-other _ _ _ _ f (c .before .before .if1 .left) (c .before .if2 .left))
 
 pub slot-word-spec : {M : Type 1} → statement M
