@@ -1,3 +1,4 @@
+pub mod Data
 pub mod Learning
 pub mod Aiming
 pub mod Wording

@@ -21,8 +21,6 @@ use types.Part.{whole, sub, look-in}
 use types.Run.{look, init, forget, stop, fld, from, load, and-then, no-more, land, returns, exec}
 use sound.WpLaws.{FmC, fmOf, WpFn-mono}
 use denote.Signature.{typesAt}
-use denote.Array.{Array}
-use denote.RattleType.{RattleType}
 use denote.Laws.{Is, all-typed}
 use denote.Plain.{uint-lawful}
 use denote.Builtin.{u32, u64, usize}
@@ -61,6 +59,7 @@ use Rattle.trial.specs.declared.block.MaybeMove.{MaybeMove}
 use Rattle.chainwords.specs.Along.{Learnt}
 use Rattle.trial.specs.Target.{Trying, TargetTried}
 use Rattle.trial.specs.Trial.{toward-t, toward-f, found, Following, Followed}
+use Rattle.trial.proofs.Data.{Tab, sizes-data, rooms}
 use Rattle.trial.proofs.Trials as law
 use Rattle.sizes.proofs.Sizes as S
 use Rattle.sizes.proofs.Sizes.Laws as S′
@@ -94,13 +93,7 @@ use Rattle.trial.proofs.block.try_chain.Statement as stated
 use Rattle.trial.proofs.block.try_chain.Code as code
 use Rattle.trial.proofs.block.try_chain.Code.Mir as body
 
--- the table and the structs by value
-abbrev Tab : RattleType
-Tab = Array u32 202
-
-abbrev sizes-data : F.Plain S.the-row
-sizes-data = struct S.the-type S′.the-laws S′.the-plain S′.lowered (S′.lowers .val-is) (λ x. tt) (λ x f. refl)
-
+-- a struct by value
 abbrev look-data : F.Plain N.the-row
 look-data = struct N.the-type N′.the-laws N′.the-plain N′.lowered (N′.lowers .val-is) (λ x. tt) (λ x f. refl)
 
@@ -301,7 +294,7 @@ module _ {M : Type 1} (𝓤 : URA M) (H : Heap 𝓤) (A : Atoms 𝓤) (W : Given
                 tries-f =
                     qed W (At xs₂ ws₂ fs₂ (vint w64 n ∷ O′.lowered to-t ∷ vint w32 k ∷ O′.lowered to-f ∷ [])) ∵ exec ! C Λ En body.t-17 (atRet En Post) $
                     lends-on ! 80 work64 refl refl $ lends-on ! 80 work32 refl refl $ lends-on ! 80 facts refl refl $ move ! (0 ∷ 1 ∷ 2 ∷ 3 ∷ 4 ∷ 5 ∷ 7 ∷ 8 ∷ 9 ∷ []) $
-                    calls-with {Γ = Rest (sees 5 tt u32 ∷ []) (replay, tt) tt (vint w64 n ∷ O′.lowered to-t ∷ vint w32 k ∷ O′.lowered to-f ∷ []) (room ∷ room ∷ room ∷ room ∷ room ∷ room ∷ room ∷ room ∷ room ∷ room ∷ room ∷ room ∷ room ∷ lent-locals)} f-args u32 (Try-says xs₂ ws₂ fs₂ e-x₂ e-w₂ (e-f₂ ∙ e-f) to-f to-f-is) fm
+                    calls-with {Γ = Rest (sees 5 tt u32 ∷ []) (replay, tt) tt (vint w64 n ∷ O′.lowered to-t ∷ vint w32 k ∷ O′.lowered to-f ∷ []) (rooms 13 ++ lent-locals)} f-args u32 (Try-says xs₂ ws₂ fs₂ e-x₂ e-w₂ (e-f₂ ∙ e-f) to-f to-f-is) fm
                     (try-call xs₂ ws₂ fs₂ e-x₂ e-w₂ (e-f₂ ∙ e-f) to-f to-f-is (law.trying-f at (ready .1) (facts .list) (ready .2) learnt e-f from-here fs₂ into-t e-f₂ from-t)) !
                     (loads ! 72 (1 ∷ 2 ∷ 3 ∷ 4 ∷ 5 ∷ 6 ∷ 31 ∷ 33 ∷ 35 ∷ 11 ∷ []) (take 10 (G.flat 𝓤 H A f-args)) refl (and-then ! (load ! (from ! (fld ! refl (stop !))) (look-in ! 48 (sub ! 1 refl (whole !)))) (and-then ! (load ! (from ! (stop !)) (look ! 40 refl)) (no-more !)))) (λ w r y.
                     land ! (from ! (stop !)) (init ! 46 refl (uint-lawful 𝓤 H A W w32 .typed (r .0) (w ∷ []) (y .0) .0)) $ rewrite ! 46 (λ (u : Val). ‵ (fat fullShare (tyInt w32) (l 17) 0 u)) (ap only (y .0 .0)) refl $ move ! (0 ∷ 1 ∷ 2 ∷ 3 ∷ 4 ∷ 5 ∷ 9 ∷ []) $
@@ -321,7 +314,7 @@ module _ {M : Type 1} (𝓤 : URA M) (H : Heap 𝓤) (A : Atoms 𝓤) (W : Given
             tries-t =
                 qed W (At xs₁ ws₁ fs₁ (vint w64 n ∷ O′.lowered to-t ∷ [])) ∵ exec ! C Λ En body.t-9 (atRet En Post) $
                 lends-on ! 80 work64 refl refl $ lends-on ! 80 work32 refl refl $ lends-on ! 80 facts refl refl $ move ! (0 ∷ 1 ∷ 2 ∷ 3 ∷ 4 ∷ 5 ∷ 7 ∷ 8 ∷ 9 ∷ []) $
-                calls-with {Γ = Rest (sees 5 tt u32 ∷ []) (replay, tt) tt (vint w64 n ∷ O′.lowered to-t ∷ []) (room ∷ room ∷ room ∷ room ∷ room ∷ room ∷ room ∷ room ∷ room ∷ lent-locals)} t-args u32 (Try-says xs₁ ws₁ fs₁ e-x e-w e-f to-t to-t-is) fm
+                calls-with {Γ = Rest (sees 5 tt u32 ∷ []) (replay, tt) tt (vint w64 n ∷ O′.lowered to-t ∷ []) (rooms 9 ++ lent-locals)} t-args u32 (Try-says xs₁ ws₁ fs₁ e-x e-w e-f to-t to-t-is) fm
                 (try-call xs₁ ws₁ fs₁ e-x e-w e-f to-t to-t-is (law.trying-t at (ready .1) (facts .list) (ready .2) learnt e-f from-here)) !
                 (loads ! 72 (1 ∷ 2 ∷ 3 ∷ 4 ∷ 5 ∷ 6 ∷ 25 ∷ 27 ∷ 29 ∷ 11 ∷ []) (take 10 (G.flat 𝓤 H A t-args)) refl (and-then ! (load ! (from ! (fld ! refl (stop !))) (look-in ! 48 (sub ! 1 refl (whole !)))) (and-then ! (load ! (from ! (stop !)) (look ! 44 refl)) (no-more !)))) (λ w r y.
                 land ! (from ! (stop !)) (init ! 50 refl (uint-lawful 𝓤 H A W w32 .typed (r .0) (w ∷ []) (y .0) .0)) $ rewrite ! 50 (λ (u : Val). ‵ (fat fullShare (tyInt w32) (l 15) 0 u)) (ap only (y .0 .0)) refl $ move ! (0 ∷ 1 ∷ 2 ∷ 3 ∷ 4 ∷ 5 ∷ 9 ∷ []) $
@@ -352,7 +345,7 @@ module _ {M : Type 1} (𝓤 : URA M) (H : Heap 𝓤) (A : Atoms 𝓤) (W : Given
         begins =
             qed W (cells 𝓤 H En (room ∷ filled given) ++ Held (work64 .list) (work32 .list) (facts .list)) ∵ exec ! C Λ En body.t-1 (atRet En Post) $ move ! (72 ∷ 73 ∷ 74 ∷ 75 ∷ 76 ∷ 77 ∷ 78 ∷ 79 ∷ 80 ∷ 81 ∷ []) $
             lends-on ! 80 work64 refl refl $ lends-on ! 80 work32 refl refl $ lends-on ! 80 facts refl refl $ move ! (0 ∷ 1 ∷ 2 ∷ 3 ∷ 7 ∷ 8 ∷ 9 ∷ []) $
-            calls-with {Γ = Rest (sees 4 tt u32 ∷ too 2 tt u32 ∷ sees 5 tt u32 ∷ []) (pairs, (targets, (replay, tt))) tt [] (room ∷ room ∷ room ∷ room ∷ room ∷ lent-locals)} learn-args usize Learn-says fm learn-call ! (loads ! 74 (1 ∷ 2 ∷ 3 ∷ 4 ∷ 19 ∷ 21 ∷ 23 ∷ 11 ∷ []) (take 8 (G.flat 𝓤 H A learn-args)) refl (and-then ! (load ! (from ! (fld ! refl (stop !))) (look-in ! 50 (sub ! 1 refl (whole !)))) (no-more !))) (λ w r y.
+            calls-with {Γ = Rest (sees 4 tt u32 ∷ too 2 tt u32 ∷ sees 5 tt u32 ∷ []) (pairs, (targets, (replay, tt))) tt [] (rooms 5 ++ lent-locals)} learn-args usize Learn-says fm learn-call ! (loads ! 74 (1 ∷ 2 ∷ 3 ∷ 4 ∷ 19 ∷ 21 ∷ 23 ∷ 11 ∷ []) (take 8 (G.flat 𝓤 H A learn-args)) refl (and-then ! (load ! (from ! (fld ! refl (stop !))) (look-in ! 50 (sub ! 1 refl (whole !)))) (no-more !))) (λ w r y.
             land ! (from ! (stop !)) (init ! 54 refl (uint-lawful 𝓤 H A W w64 .typed (r .0) (w ∷ []) (y .0) .0)) $ rewrite ! 54 (λ (u : Val). ‵ (fat fullShare (tyInt w64) (l 13) 0 u)) (ap only (y .0 .0)) refl $ move ! (0 ∷ 1 ∷ 2 ∷ 3 ∷ 7 ∷ 8 ∷ 9 ∷ []) $
             forget ! 44 refl $ forget ! 42 refl $ forget ! 40 refl $ forget ! 38 refl $ forget ! 36 refl $ forget ! 34 refl $
             by ! (aims (r .0) (y .0 .1) (last-of 𝓤 H A learn-args 4 (r .1)) (last-of 𝓤 H A learn-args 5 (r .1)) (last-of 𝓤 H A learn-args 6 (r .1)) (fit-of 𝓤 H A learn-args 4 (r .1) (y .1 .1)) (fit-of 𝓤 H A learn-args 5 (r .1) (y .1 .1)) (fit-of 𝓤 H A learn-args 6 (r .1) (y .1 .1)) (y .1 .0)))

@@ -23,11 +23,9 @@ use types.Part.{agg, whole, sub, look-in}
 use types.Run.{look, init, stop, hop, fld, from, load, addr, lit, un, bin, and-then, no-more, assigns, land, returns, exec}
 use sound.WpLaws.{FmC, fmOf, WpFn-mono}
 use denote.Signature.{typesAt}
-use denote.RattleType.{RattleType}
 use denote.Laws.{Is, all-typed}
 use denote.Plain.{uint-makes, uint-lawful, nothing-lawful}
 use denote.Builtin.{u32, u64, usize, unit}
-use denote.Array.{Array}
 use denote.Slice.{sliceVal}
 use denote.Steps.{only, owned}
 use denote.Triple.Entry.{onEntry}
@@ -44,7 +42,7 @@ use Rattle.facts.proofs.Params.{Par, opened, closed}
 use Rattle.facts.proofs.Cells.{room, has, filled, cells, Homes, home, envOf, enters-all, frees-all}
 use Rattle.facts.proofs.Fact as T
 use Rattle.facts.proofs.Frame as F
-use Rattle.facts.proofs.Frame.{Kind, one, sees, lends, datum, Slice, One, Datum, struct, Values, value, pars, entries, machs, fins, fit-all, ares, lawfuls, uncurried}
+use Rattle.facts.proofs.Frame.{Kind, one, sees, lends, datum, Slice, One, Datum, Values, value, pars, entries, machs, fins, fit-all, ares, lawfuls, uncurried}
 use Rattle.facts.proofs.Passing.{pass-one, pass-slice, pass-mut, pass-as, pass-part, pass-data, pass-number}
 use Rattle.facts.proofs.Statements.{loads, lends-on}
 use Rattle.chains.proofs.chain.Chain as K
@@ -55,6 +53,7 @@ use Rattle.analyse.specs.Cells.{cells as numbers}
 use Rattle.words.specs.Bits.{width}
 use Rattle.chainwords.specs.Puts.{Copied}
 use Rattle.chainwords.specs.Along.{Learning, Learnt}
+use Rattle.trial.proofs.Data.{Tab, sizes-data, chain-data}
 use Rattle.trial.proofs.Learning as law
 use Rattle.sizes.proofs.Sizes as S
 use Rattle.sizes.proofs.Sizes.Laws as S′
@@ -75,17 +74,6 @@ use Rattle.trial.proofs.learn.learn as f
 use Rattle.trial.proofs.learn.learn.Statement as stated
 use Rattle.trial.proofs.learn.learn.Code as code
 use Rattle.trial.proofs.learn.learn.Code.Mir as m
-
--- the table's type
-abbrev Tab : RattleType
-Tab = Array u32 202
-
--- structs by value
-abbrev sizes-data : F.Plain S.the-row
-sizes-data = struct S.the-type S′.the-laws S′.the-plain S′.lowered (S′.lowers .val-is) (λ x. tt) (λ x f. refl)
-
-abbrev chain-data : F.Plain K.the-row
-chain-data = struct K.the-type K′.the-laws K′.the-plain K′.lowered (K′.lowers .val-is) (λ x. tt) (λ x f. refl)
 
 -- the parameters
 abbrev kinds : List (Kind 7)

@@ -23,8 +23,6 @@ use types.Part.{agg, whole, sub, look-in}
 use types.Run.{look, init, forget, stop, hop, fld, from, load, addr, of-opd, bin, and-then, no-more, assigns, land, returns, exec}
 use sound.WpLaws.{FmC, fmOf, WpFn-mono}
 use denote.Signature.{typesAt}
-use denote.Array.{Array}
-use denote.RattleType.{RattleType}
 use denote.Laws.{Is, all-typed}
 use denote.Plain.{uint-makes, uint-lawful, nothing-lawful}
 use denote.Builtin.{u32, u64, unit}
@@ -47,7 +45,7 @@ use Rattle.facts.proofs.Cells.{Cell, room, has, filled, cells, Homes, home, env
 use Rattle.facts.proofs.Fact as T
 use Rattle.facts.proofs.Frame as F
 use Rattle.facts.proofs.Frame.{Kind, one, sees, too, lends, datum, Slice, One, Datum, struct, Values, value, shareAt, pars, entries, machs, fins, fit-all, ares, lawfuls, uncurried}
-use Rattle.facts.proofs.Passing.{pass-one, pass-slice, pass-too, pass-mut, pass-as, pass-data, pass-number, pass-struct}
+use Rattle.facts.proofs.Passing.{pass-one, pass-slice, pass-too, pass-mut, pass-as, pass-data, pass-number, pass-struct, last-of, fit-of}
 use Rattle.facts.proofs.Statements.{loads, lends-on, big}
 use Rattle.inst.specs.Table.{rows}
 use Rattle.inst.proofs.index.BlockId as B
@@ -64,6 +62,7 @@ use Rattle.trial.specs.declared.target.Sunk.{Sunk}
 use Rattle.chainwords.specs.Puts.{Facts}
 use Rattle.chainwords.specs.Along.{Used}
 use Rattle.trial.specs.Target.{taken, Aimed, Trying, TargetTried}
+use Rattle.trial.proofs.Data.{Tab, sizes-data, chain-data, rooms}
 use Rattle.trial.proofs.Planned as law
 use Rattle.sizes.proofs.Sizes as S
 use Rattle.sizes.proofs.Sizes.Laws as S′
@@ -99,16 +98,7 @@ use Rattle.trial.proofs.target.try_target.Statement as stated
 use Rattle.trial.proofs.target.try_target.Code as code
 use Rattle.trial.proofs.target.try_target.Code.Mir as body
 
--- the table and the structs by value
-abbrev Tab : RattleType
-Tab = Array u32 202
-
-abbrev sizes-data : F.Plain S.the-row
-sizes-data = struct S.the-type S′.the-laws S′.the-plain S′.lowered (S′.lowers .val-is) (λ x. tt) (λ x f. refl)
-
-abbrev chain-data : F.Plain K.the-row
-chain-data = struct K.the-type K′.the-laws K′.the-plain K′.lowered (K′.lowers .val-is) (λ x. tt) (λ x f. refl)
-
+-- a struct by value
 abbrev goal-data : F.Plain O.the-row
 goal-data = struct O.the-type O′.the-laws O′.the-plain O′.lowered (O′.lowers .val-is) (λ x. tt) (λ x f. refl)
 
@@ -250,7 +240,7 @@ module _ {M : Type 1} (𝓤 : URA M) (H : Heap 𝓤) (A : Atoms 𝓤) (W : Given
               ∷ pass-mut 𝓤 H A W 8 κs qs 5 tt work64 4 xs₁ e₁ ∷ pass-mut 𝓤 H A W 8 κs qs 7 tt facts 5 (facts .list) refl ∷ pass-struct 𝓤 H A W Y.the-type Y′.the-plain (a .sweeps) (Y′.lowered (a .sweeps)) sweeps-is ∷ []
 
           abbrev Choose-says : ℕ → Lasts 𝓤 H A choose-args → Type 0
-          Choose-says r y = Chose (recs .list) (ops .list) (midOf 8000 e (work32 .list)) (a .sweeps) xs₁ (facts .list) (y .1 .1 .1 .1 .0) (y .1 .1 .1 .1 .1 .0) r
+          Choose-says r y = Chose (recs .list) (ops .list) (midOf 8000 e (work32 .list)) (a .sweeps) xs₁ (facts .list) (last-of 𝓤 H A choose-args 4 y) (last-of 𝓤 H A choose-args 5 y) r
 
           choose-call : ent 𝓤 (⋆ 𝓤 H A (G.hads 𝓤 H A choose-args)) (H .⇛ (C #plan·set·legal-set (G.flat 𝓤 H A choose-args) (G.Then 𝓤 H A W choose-args u32 Choose-says)))
           choose-call = calls-of 𝓤 H A W C fm #plan·set·legal-set (LegalSet 𝓤 H A mem run) known-choose choose-args (λ g. ((G.lfts 𝓤 H A choose-args g, G.shares 𝓤 H A choose-args, tt, G.values 𝓤 H A choose-args g, G.machs 𝓤 H A choose-args), tt)) (λ g. refl)
@@ -270,6 +260,10 @@ module _ {M : Type 1} (𝓤 : URA M) (H : Heap 𝓤) (A : Atoms 𝓤) (W : Given
 
             -- ---- how many of them move, b
             module _ (b : Sunk) (b-is : Is D.the-row b (D′.lowered b ∷ [])) (sunk : b ≡ taken k (a .least) (g .places)) where
+              -- the locals of the function's own then
+              abbrev locals : List Val
+              locals = E′.lowered a ∷ vint w64 (a .end) ∷ vint w32 k ∷ D′.lowered b ∷ []
+
               moved-fits : b .moved < 2 ^ 32
               moved-fits = LL.owed D.the-type D′.the-laws b _ b-is .0 .1
 
@@ -280,7 +274,7 @@ module _ {M : Type 1} (𝓤 : URA M) (H : Heap 𝓤) (A : Atoms 𝓤) (W : Given
               put-args = pass-as 𝓤 H A W 8 κs qs 7 tt facts 0 hs e-hs ∷ pass-mut 𝓤 H A W 8 κs qs 6 tt work32 1 (work32 .list) refl ∷ pass-number 𝓤 H A W w64 (b .places) places-fits ∷ []
 
               abbrev Put-says : Unit {0} → Lasts 𝓤 H A put-args → Type 0
-              Put-says r y = Facts hs (work32 .list) (y .1 .0) (b .places)
+              Put-says r y = Facts hs (work32 .list) (last-of 𝓤 H A put-args 1 y) (b .places)
 
               put-call : ent 𝓤 (⋆ 𝓤 H A (G.hads 𝓤 H A put-args)) (H .⇛ (C #chainwords·marks·put-facts (G.flat 𝓤 H A put-args) (G.Then 𝓤 H A W put-args unit Put-says)))
               put-call = calls-of 𝓤 H A W C fm #chainwords·marks·put-facts (PutFacts 𝓤 H A mem run) known-put put-args (λ g. ((G.lfts 𝓤 H A put-args g, G.shares 𝓤 H A put-args, tt, G.values 𝓤 H A put-args g, G.machs 𝓤 H A put-args), tt)) (λ g. refl)
@@ -293,32 +287,33 @@ module _ {M : Type 1} (𝓤 : URA M) (H : Heap 𝓤) (A : Atoms 𝓤) (W : Given
                     ∷ pass-data 𝓤 H A W sizes-data sizes ∷ pass-data 𝓤 H A W chain-data chain ∷ pass-number 𝓤 H A W w32 (b .moved) moved-fits ∷ pass-struct 𝓤 H A W B.the-type B′.the-plain (g .into) (B′.lowered (g .into)) into-is ∷ pass-number 𝓤 H A W w64 (g .inside) inner-fits ∷ pass-number 𝓤 H A W w64 (g .places) count-fits ∷ []
 
                 abbrev Use-says : Unit {0} → Lasts 𝓤 H A use-args → Type 0
-                Use-says r y = Used (bounds .list) (recs .list) (ops .list) (sizes .it) (chain .it) xs₂ ws₁ (b .moved) (g .into .0) (g .inside) (g .places) (y .1 .1 .1 .1 .0) (y .1 .1 .1 .1 .1 .0)
+                Use-says r y = Used (bounds .list) (recs .list) (ops .list) (sizes .it) (chain .it) xs₂ ws₁ (b .moved) (g .into .0) (g .inside) (g .places) (last-of 𝓤 H A use-args 4 y) (last-of 𝓤 H A use-args 5 y)
 
                 use-call : ent 𝓤 (⋆ 𝓤 H A (G.hads 𝓤 H A use-args)) (H .⇛ (C #chainwords·marks·put-uses (G.flat 𝓤 H A use-args) (G.Then 𝓤 H A W use-args unit Use-says)))
                 use-call = calls-of 𝓤 H A W C fm #chainwords·marks·put-uses (PutUses 𝓤 H A mem run) known-use use-args (λ g. ((G.lfts 𝓤 H A use-args g, G.shares 𝓤 H A use-args, tt, G.values 𝓤 H A use-args g, G.machs 𝓤 H A use-args), tt)) (λ g. refl)
                     (λ g. qed W (raw (G.tokens 𝓤 H A use-args g) ∷ ‵ (G.owns 𝓤 H A use-args g) ∷ []) ∵ says ! (ready .0, law.uses-asked (ready .1) (ready .2) aimed chose sunk wrote) $ done !) unit Use-says (λ g w. id⊢ 𝓤 _)
 
-                -- the last uses, and the answer
-                uses : ent 𝓤 (⋆ 𝓤 H A (At xs₂ ws₁ hs (E′.lowered a ∷ vint w64 (a .end) ∷ vint w32 k ∷ D′.lowered b ∷ []))) (Wp 𝓤 H C Λ En body.t-22 (atReturn 𝓤 H En Post))
+                -- the last uses, and the answer; six items are handed over, so an operand's local stands five places lower
+                uses : ent 𝓤 (⋆ 𝓤 H A (At xs₂ ws₁ hs locals)) (Wp 𝓤 H C Λ En body.t-22 (atReturn 𝓤 H En Post))
                 uses =
-                    qed W (At xs₂ ws₁ hs (E′.lowered a ∷ vint w64 (a .end) ∷ vint w32 k ∷ D′.lowered b ∷ [])) ∵ exec ! C Λ En body.t-22 (atRet En Post) $
-                    lends-on ! 83 work64 refl refl $ lends-on ! 83 work32 refl refl $  -- six items are handed over, so an operand's local stands five places lower
-                    move ! (0 ∷ 1 ∷ 2 ∷ 3 ∷ 6 ∷ 7 ∷ []) $
-                    calls-with {Γ = Rest (sees 4 tt u32 ∷ too 2 tt u32 ∷ lends 7 tt T.the-row ∷ []) (pairs, (targets, (facts, tt))) (hs, tt) (E′.lowered a ∷ vint w64 (a .end) ∷ vint w32 k ∷ D′.lowered b ∷ []) (room ∷ room ∷ room ∷ room ∷ room ∷ room ∷ room ∷ room ∷ room ∷ room ∷ room ∷ room ∷ room ∷ room ∷ room ∷ room ∷ room ∷ filled (vptr (work64 .b) (work64 .o) ∷ value work64 ∷ vptr (work32 .b) (work32 .o) ∷ value work32 ∷ []))} use-args unit Use-says fm use-call ! (loads ! 78 (1 ∷ 2 ∷ 3 ∷ 4 ∷ 35 ∷ 37 ∷ 10 ∷ 11 ∷ []) (take 8 (G.flat 𝓤 H A use-args)) refl (and-then ! (load ! (from ! (fld ! refl (stop !))) (look-in ! 46 (sub ! 0 refl (whole !)))) (and-then ! (load ! (from ! (fld ! refl (stop !))) (look-in ! 54 (sub ! 0 refl (whole !)))) (and-then ! (load ! (from ! (fld ! refl (stop !))) (look-in ! 54 (sub ! 3 refl (whole !)))) (and-then ! (load ! (from ! (fld ! refl (stop !))) (look-in ! 54 (sub ! 4 refl (whole !)))) (no-more !)))))) (λ w r y.
+                    qed W (At xs₂ ws₁ hs locals) ∵ exec ! C Λ En body.t-22 (atRet En Post) $
+                    lends-on ! 83 work64 refl refl $ lends-on ! 83 work32 refl refl $ move ! (0 ∷ 1 ∷ 2 ∷ 3 ∷ 6 ∷ 7 ∷ []) $
+                    calls-with {Γ = Rest (sees 4 tt u32 ∷ too 2 tt u32 ∷ lends 7 tt T.the-row ∷ []) (pairs, (targets, (facts, tt))) (hs, tt) locals (rooms 17 ++ filled (vptr (work64 .b) (work64 .o) ∷ value work64 ∷ vptr (work32 .b) (work32 .o) ∷ value work32 ∷ []))} use-args unit Use-says fm use-call !
+                    (loads ! 78 (1 ∷ 2 ∷ 3 ∷ 4 ∷ 35 ∷ 37 ∷ 10 ∷ 11 ∷ []) (take 8 (G.flat 𝓤 H A use-args)) refl (and-then ! (load ! (from ! (fld ! refl (stop !))) (look-in ! 46 (sub ! 0 refl (whole !)))) (and-then ! (load ! (from ! (fld ! refl (stop !))) (look-in ! 54 (sub ! 0 refl (whole !)))) (and-then ! (load ! (from ! (fld ! refl (stop !))) (look-in ! 54 (sub ! 3 refl (whole !)))) (and-then ! (load ! (from ! (fld ! refl (stop !))) (look-in ! 54 (sub ! 4 refl (whole !)))) (no-more !)))))) (λ w r y.
                     land ! (from ! (stop !)) (init ! 25 refl (nothing-lawful 𝓤 H A W .typed tt (w ∷ []) (y .0) .0)) $ move ! (0 ∷ 1 ∷ 2 ∷ 3 ∷ 6 ∷ 7 ∷ 4 ∷ 5 ∷ []) $
                     assigns ! (of-opd ! (load ! (from ! (fld ! refl (stop !))) (look-in ! 51 (sub ! 0 refl (whole !))))) (from ! (stop !)) (init ! 83 refl (tt, record { fits = moved-fits })) $ returns ! (look ! 83 refl) $
-                    frees-all (Held (r .1 .1 .1 .1 .1 .0) (r .1 .1 .1 .1 .1 .1 .0) hs) En (has (vint w32 (b .moved)) ∷ (filled (given ++ (E′.lowered a ∷ vint w64 (a .end) ∷ vint w32 k ∷ D′.lowered b ∷ [])) ++ (room ∷ room ∷ room ∷ room ∷ room ∷ room ∷ room ∷ room ∷ room ∷ room ∷ room ∷ room ∷ has w ∷ room ∷ room ∷ room ∷ room ∷ filled (vptr (work64 .b) (work64 .o) ∷ value work64 ∷ vptr (work32 .b) (work32 .o) ∷ value work32 ∷ [])))) !
-                    (by ! (exits (r .1 .1 .1 .1 .1 .0) (r .1 .1 .1 .1 .1 .1 .0) hs (b .moved) moved-fits (y .1 .1 .1 .1 .1 .1 .0 ∙ e₂) (y .1 .1 .1 .1 .1 .1 .1 .0 ∙ e-ws) e-hs (law.planned (ready .1) (ready .2) aimed chose sunk wrote (y .1 .0)))))
+                    frees-all (Held (last-of 𝓤 H A use-args 4 (r .1)) (last-of 𝓤 H A use-args 5 (r .1)) hs) En (has (vint w32 (b .moved)) ∷ (filled (given ++ locals) ++ (rooms 12 ++ (has w ∷ (rooms 4 ++ filled (vptr (work64 .b) (work64 .o) ∷ value work64 ∷ vptr (work32 .b) (work32 .o) ∷ value work32 ∷ [])))))) !
+                    (by ! (exits (last-of 𝓤 H A use-args 4 (r .1)) (last-of 𝓤 H A use-args 5 (r .1)) hs (b .moved) moved-fits (fit-of 𝓤 H A use-args 4 (r .1) (y .1 .1) ∙ e₂) (fit-of 𝓤 H A use-args 5 (r .1) (y .1 .1) ∙ e-ws) e-hs (law.planned (ready .1) (ready .2) aimed chose sunk wrote (y .1 .0)))))
 
               -- the words of the facts
-              puts : ent 𝓤 (⋆ 𝓤 H A (At xs₂ (work32 .list) hs (E′.lowered a ∷ vint w64 (a .end) ∷ vint w32 k ∷ D′.lowered b ∷ []))) (Wp 𝓤 H C Λ En body.t-17 (atReturn 𝓤 H En Post))
+              puts : ent 𝓤 (⋆ 𝓤 H A (At xs₂ (work32 .list) hs locals)) (Wp 𝓤 H C Λ En body.t-17 (atReturn 𝓤 H En Post))
               puts =
-                  qed W (At xs₂ (work32 .list) hs (E′.lowered a ∷ vint w64 (a .end) ∷ vint w32 k ∷ D′.lowered b ∷ [])) ∵ exec ! C Λ En body.t-17 (atRet En Post) $
+                  qed W (At xs₂ (work32 .list) hs locals) ∵ exec ! C Λ En body.t-17 (atRet En Post) $
                   lends-on ! 83 facts refl refl $ lends-on ! 83 work32 refl refl $ move ! (8 ∷ 7 ∷ []) $
-                  calls-with {Γ = Rest (one 0 tt Tab ∷ sees 1 tt u32 ∷ sees 2 tt u32 ∷ sees 3 tt u32 ∷ sees 4 tt u32 ∷ too 2 tt u32 ∷ lends 5 tt u64 ∷ []) (tab, (bounds, (recs, (ops, (pairs, (targets, (work64, tt))))))) (xs₂, tt) (E′.lowered a ∷ vint w64 (a .end) ∷ vint w32 k ∷ D′.lowered b ∷ []) (room ∷ room ∷ room ∷ room ∷ room ∷ room ∷ room ∷ room ∷ room ∷ room ∷ room ∷ room ∷ room ∷ filled (vptr (facts .b) (facts .o) ∷ value facts ∷ vptr (work32 .b) (work32 .o) ∷ value work32 ∷ []))} put-args unit Put-says fm put-call ! (loads ! 82 (31 ∷ 33 ∷ []) (take 2 (G.flat 𝓤 H A put-args)) refl (and-then ! (load ! (from ! (fld ! refl (stop !))) (look-in ! 50 (sub ! 1 refl (whole !)))) (no-more !))) (λ w r y.
+                  calls-with {Γ = Rest (one 0 tt Tab ∷ sees 1 tt u32 ∷ sees 2 tt u32 ∷ sees 3 tt u32 ∷ sees 4 tt u32 ∷ too 2 tt u32 ∷ lends 5 tt u64 ∷ []) (tab, (bounds, (recs, (ops, (pairs, (targets, (work64, tt))))))) (xs₂, tt) locals (rooms 13 ++ filled (vptr (facts .b) (facts .o) ∷ value facts ∷ vptr (work32 .b) (work32 .o) ∷ value work32 ∷ []))} put-args unit Put-says fm put-call !
+                  (loads ! 82 (31 ∷ 33 ∷ []) (take 2 (G.flat 𝓤 H A put-args)) refl (and-then ! (load ! (from ! (fld ! refl (stop !))) (look-in ! 50 (sub ! 1 refl (whole !)))) (no-more !))) (λ w r y.
                   land ! (from ! (stop !)) (init ! 25 refl (nothing-lawful 𝓤 H A W .typed tt (w ∷ []) (y .0) .0)) $ move ! (2 ∷ 3 ∷ 4 ∷ 5 ∷ 6 ∷ 7 ∷ 8 ∷ 1 ∷ 0 ∷ []) $
-                  forget ! 25 refl $ forget ! 23 refl $ forget ! 21 refl $ forget ! 19 refl $ forget ! 17 refl $ by ! (uses (r .1 .1 .0) (y .1 .1 .1 .0) (y .1 .0)))
+                  forget ! 25 refl $ forget ! 23 refl $ forget ! 21 refl $ forget ! 19 refl $ forget ! 17 refl $ by ! (uses (last-of 𝓤 H A put-args 1 (r .1)) (fit-of 𝓤 H A put-args 1 (r .1) (y .1 .1)) (y .1 .0)))
 
             -- how many move; nothing is handed over, so an operand's local stands one place higher
             takes : ent 𝓤 (⋆ 𝓤 H A (At xs₂ (work32 .list) hs (E′.lowered a ∷ vint w64 (a .end) ∷ vint w32 k ∷ []))) (Wp 𝓤 H C Λ En body.t-16 (atReturn 𝓤 H En Post))
@@ -338,16 +333,17 @@ module _ {M : Type 1} (𝓤 : URA M) (H : Heap 𝓤) (A : Atoms 𝓤) (W : Given
               assigns ! (addr ! (from ! (hop ! (look ! 41 refl) (stop !)))) (from ! (stop !)) (init ! 37 refl (tt, tt)) $
               assigns ! (agg ! (and-then ! (load ! (from ! (stop !)) (look ! 37 refl)) (and-then ! (load ! (from ! (stop !)) (look ! 39 refl)) (no-more !)))) (from ! (stop !)) (init ! 35 refl (tt, (tt, (record { fits = e-fits }, tt)))) $
               lends-on ! 83 work64 refl refl $ lends-on ! 83 facts refl refl $ move ! (0 ∷ 2 ∷ 3 ∷ 7 ∷ 6 ∷ 8 ∷ []) $
-              calls-with {Γ = Rest (sees 1 tt u32 ∷ sees 4 tt u32 ∷ too 2 tt u32 ∷ []) (bounds, (pairs, (targets, tt))) tt (E′.lowered a ∷ vint w64 (a .end) ∷ []) (room ∷ room ∷ room ∷ room ∷ room ∷ room ∷ filled (vptr (work32 .b) (32000 + work32 .o) ∷ vint w64 e ∷ vptr (work32 .b) (32000 + work32 .o) ∷ sliceVal (work32 .b, 32000 + work32 .o) e ∷ vptr (work64 .b) (work64 .o) ∷ value work64 ∷ vptr (facts .b) (facts .o) ∷ value facts ∷ []))} choose-args u32 Choose-says fm choose-call ! (loads ! 78 (1 ∷ 3 ∷ 4 ∷ 24 ∷ 26 ∷ 28 ∷ []) (take 6 (G.flat 𝓤 H A choose-args)) refl (and-then ! (load ! (from ! (fld ! refl (stop !))) (look-in ! 52 (sub ! 2 refl (whole !)))) (no-more !))) (λ w r y.
+              calls-with {Γ = Rest (sees 1 tt u32 ∷ sees 4 tt u32 ∷ too 2 tt u32 ∷ []) (bounds, (pairs, (targets, tt))) tt (E′.lowered a ∷ vint w64 (a .end) ∷ []) (rooms 6 ++ filled (vptr (work32 .b) (32000 + work32 .o) ∷ vint w64 e ∷ vptr (work32 .b) (32000 + work32 .o) ∷ sliceVal (work32 .b, 32000 + work32 .o) e ∷ vptr (work64 .b) (work64 .o) ∷ value work64 ∷ vptr (facts .b) (facts .o) ∷ value facts ∷ []))} choose-args u32 Choose-says fm choose-call !
+              (loads ! 78 (1 ∷ 3 ∷ 4 ∷ 24 ∷ 26 ∷ 28 ∷ []) (take 6 (G.flat 𝓤 H A choose-args)) refl (and-then ! (load ! (from ! (fld ! refl (stop !))) (look-in ! 52 (sub ! 2 refl (whole !)))) (no-more !))) (λ w r y.
               land ! (from ! (stop !)) (init ! 53 refl (uint-lawful 𝓤 H A W w32 .typed (r .0) (w ∷ []) (y .0) .0)) $ rewrite ! 53 (λ (u : Val). ‵ (fat fullShare (tyInt w32) (l 15) 0 u)) (ap only (y .0 .0)) refl $ move ! (0 ∷ 6 ∷ 1 ∷ 2 ∷ 7 ∷ 8 ∷ 4 ∷ 3 ∷ 5 ∷ []) $
-              forget ! 41 refl $ forget ! 39 refl $ forget ! 37 refl $ forget ! 35 refl $ forget ! 33 refl $ forget ! 31 refl $ forget ! 29 refl $ forget ! 27 refl $ by ! (takes (r .0) (y .0 .1) (r .1 .1 .1 .1 .1 .0) (r .1 .1 .1 .1 .1 .1 .0) (y .1 .1 .1 .1 .1 .1 .0 ∙ e₁) (y .1 .1 .1 .1 .1 .1 .1 .0) (y .1 .0)))
+              forget ! 41 refl $ forget ! 39 refl $ forget ! 37 refl $ forget ! 35 refl $ forget ! 33 refl $ forget ! 31 refl $ forget ! 29 refl $ forget ! 27 refl $ by ! (takes (r .0) (y .0 .1) (last-of 𝓤 H A choose-args 4 (r .1)) (last-of 𝓤 H A choose-args 5 (r .1)) (fit-of 𝓤 H A choose-args 4 (r .1) (y .1 .1) ∙ e₁) (fit-of 𝓤 H A choose-args 5 (r .1) (y .1 .1)) (y .1 .0)))
 
         abbrev aim-args : List (Arg 𝓤 H A)
         aim-args = pass-one 𝓤 H A W 8 κs qs 0 tt tab ∷ pass-slice 𝓤 H A W 8 κs qs 1 tt bounds ∷ pass-slice 𝓤 H A W 8 κs qs 2 tt recs ∷ pass-slice 𝓤 H A W 8 κs qs 4 tt pairs ∷ pass-too 𝓤 H A W 8 κs qs 2 tt targets ∷ pass-mut 𝓤 H A W 8 κs qs 5 tt work64 4 (work64 .list) refl ∷ pass-as 𝓤 H A W 8 κs qs 6 tt work32 5 (work32 .list) refl
             ∷ pass-data 𝓤 H A W sizes-data sizes ∷ pass-data 𝓤 H A W chain-data chain ∷ pass-data 𝓤 H A W goal-data goal ∷ []
 
         abbrev Aim-says : Aim → Lasts 𝓤 H A aim-args → Type 0
-        Aim-says r y = Aimed (bounds .list) (recs .list) (pairs .list) (targets .list) (sizes .it) (chain .it) (work64 .list) (work32 .list) g (y .1 .1 .1 .1 .1 .0) r
+        Aim-says r y = Aimed (bounds .list) (recs .list) (pairs .list) (targets .list) (sizes .it) (chain .it) (work64 .list) (work32 .list) g (last-of 𝓤 H A aim-args 5 y) r
 
         aim-call : ent 𝓤 (⋆ 𝓤 H A (G.hads 𝓤 H A aim-args)) (H .⇛ (C #trial·target·take-aim (G.flat 𝓤 H A aim-args) (G.Then 𝓤 H A W aim-args E.the-row Aim-says)))
         aim-call = calls-of 𝓤 H A W C fm #trial·target·take-aim (TakeAim 𝓤 H A mem run) known-aim aim-args (λ g. ((G.lfts 𝓤 H A aim-args g, G.shares 𝓤 H A aim-args, tt, G.values 𝓤 H A aim-args g, G.machs 𝓤 H A aim-args), tt)) (λ g. refl)
@@ -358,9 +354,10 @@ module _ {M : Type 1} (𝓤 : URA M) (H : Heap 𝓤) (A : Atoms 𝓤) (W : Given
         begins =
             qed W (cells 𝓤 H En (room ∷ filled given) ++ Held (work64 .list) (work32 .list) (facts .list)) ∵ exec ! C Λ En body.t-1 (atRet En Post) $ move ! (76 ∷ 77 ∷ 78 ∷ 79 ∷ 80 ∷ 81 ∷ 82 ∷ 83 ∷ 84 ∷ []) $
             lends-on ! 83 work64 refl refl $ lends-on ! 83 work32 refl refl $ move ! (0 ∷ 1 ∷ 2 ∷ 4 ∷ 5 ∷ 6 ∷ 7 ∷ []) $
-            calls-with {Γ = Rest (sees 3 tt u32 ∷ lends 7 tt T.the-row ∷ []) (ops, (facts, tt)) ((facts .list), tt) [] (room ∷ room ∷ room ∷ room ∷ filled (vptr (work64 .b) (work64 .o) ∷ value work64 ∷ vptr (work32 .b) (work32 .o) ∷ value work32 ∷ []))} aim-args E.the-row Aim-says fm aim-call ! (loads ! 77 (1 ∷ 2 ∷ 3 ∷ 5 ∷ 6 ∷ 18 ∷ 20 ∷ 10 ∷ 11 ∷ 12 ∷ []) (G.flat 𝓤 H A aim-args) refl (no-more !)) (λ w r y.
+            calls-with {Γ = Rest (sees 3 tt u32 ∷ lends 7 tt T.the-row ∷ []) (ops, (facts, tt)) ((facts .list), tt) [] (rooms 4 ++ filled (vptr (work64 .b) (work64 .o) ∷ value work64 ∷ vptr (work32 .b) (work32 .o) ∷ value work32 ∷ []))} aim-args E.the-row Aim-says fm aim-call !
+            (loads ! 77 (1 ∷ 2 ∷ 3 ∷ 5 ∷ 6 ∷ 18 ∷ 20 ∷ 10 ∷ 11 ∷ 12 ∷ []) (G.flat 𝓤 H A aim-args) refl (no-more !)) (λ w r y.
             land ! (from ! (stop !)) (init ! 57 refl (LL.lawful E.the-type E′.the-laws 𝓤 H A W .typed (r .0) (w ∷ []) (y .0) .0)) $ rewrite ! 57 (λ (u : Val). ‵ (fat fullShare E′.mir (l 13) 0 u)) (ap only (E′.lowers .val-is (r .0) (w ∷ []) (y .0))) refl $ move ! (0 ∷ 1 ∷ 2 ∷ 7 ∷ []) $
-            forget ! 49 refl $ forget ! 47 refl $ forget ! 45 refl $ forget ! 43 refl $ cut (At (r .1 .1 .1 .1 .1 .1 .0) (work32 .list) (facts .list) (E′.lowered (r .0) ∷ [])) (At (r .1 .1 .1 .1 .1 .1 .0) (work32 .list) (facts .list) (E′.lowered (r .0) ∷ [])) [] (id⊢ 𝓤 _) $ by ! (chooses (r .0) (aim-is (r .0) w (y .0)) (r .1 .1 .1 .1 .1 .1 .0) (y .1 .1 .1 .1 .1 .1 .1 .0) (y .1 .0)))
+            forget ! 49 refl $ forget ! 47 refl $ forget ! 45 refl $ forget ! 43 refl $ cut (At (last-of 𝓤 H A aim-args 5 (r .1)) (work32 .list) (facts .list) (E′.lowered (r .0) ∷ [])) (At (last-of 𝓤 H A aim-args 5 (r .1)) (work32 .list) (facts .list) (E′.lowered (r .0) ∷ [])) [] (id⊢ 𝓤 _) $ by ! (chooses (r .0) (aim-is (r .0) w (y .0)) (last-of 𝓤 H A aim-args 5 (r .1)) (fit-of 𝓤 H A aim-args 5 (r .1) (y .1 .1)) (y .1 .0)))
 
       from-entry : ent 𝓤 (onEntry 𝓤 H A f.signature κs qs (entries κs kinds vs) (machs κs kinds vs)) (WpFn 𝓤 H C Λ code.function given Post)
       from-entry = via 𝓤 (⋆ 𝓤 H A (Held (work64 .list) (work32 .list) (facts .list))) (opened 𝓤 H A W (params (work64 .list) (work32 .list) (facts .list)))
