@@ -1,7 +1,7 @@
 // The registers needed elsewhere than in the target (01, "The legal set", rule 2: "live into the other branch, nor live out of the
 // target unless written there"), as a row of bits behind the rows of live-in and of what each block writes.
-use cfg::graph::succs;
 use crate::live::gather;
+use cfg::graph::succs;
 use inst::index::BlockId;
 use words::numbers::wide;
 ghost use mathlib.Core.Path.{_≡_};
