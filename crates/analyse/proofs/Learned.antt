@@ -26,8 +26,8 @@ use Rattle.effects.specs.declared.arms.Input.{Input}
 use Rattle.analyse.specs.declared.look.Value.{Value}
 use Rattle.regfacts.specs.Written.{Fits, Written, settle}
 use Rattle.regfacts.specs.Flags.{Seen}
-use Rattle.analyse.specs.State.{place-at, left-in, Left, Marked, Ranges, Ranged, Asked, Low, Judged}
-use Rattle.analyse.specs.Step.{stamp, marked, more, fact-of, Good, Stands, Sized, Learned}
+use Rattle.analyse.specs.State.{Stands, place-at, left-in, Left, Marked, Ranges, Ranged, Asked, Low, Judged}
+use Rattle.analyse.specs.Step.{stamp, marked, more, fact-of, Good, Sized, Learned}
 use Rattle.analyse.proofs.Layouts.{lay-keep}
 use Rattle.analyse.proofs.Marking.{last-more, settle-flags, writer-new, left-new, ranges-settle, opt-settle}
 use Rattle.analyse.proofs.Verdict.{led}

@@ -9,4 +9,3 @@ pub mod Puts
 pub mod Run
 pub mod Chained
 pub mod Accepted
-pub mod Cells

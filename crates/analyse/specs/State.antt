@@ -1,5 +1,5 @@
--- What the words stand for at a position of a chain: the facts of before round 1, the last writers, and the facts of the
--- positions so far. Assumes nothing.
+-- What the words and the structs stand for at a position of a chain: the facts of before round 1, the last writers, and the facts of
+-- the positions so far. Assumes nothing.
 use mathlib.Core.Path.{_≡_}
 use mathlib.Core.Logic.{_⊎_}
 use mathlib.Core.Bool.{Bool, false, cond}
@@ -15,27 +15,29 @@ use Rattle.inst.specs.Record as I
 use Rattle.inst.specs.Record.{Listed}
 use Rattle.inst.specs.Constant.{constant-of}
 use Rattle.inst.specs.declared.access.Firsts.{Firsts}
-use Rattle.effects.specs.Origin.{org-at, class-at, wrote-at, from-at, num}
-unfoldable pub use Rattle.effects.specs.Origin.{cell, place-at}
+use Rattle.effects.specs.Origin.{org-at, class-at, wrote-at, from-at}
+unfoldable pub use Rattle.effects.specs.Origin.{place-at}
+use Rattle.facts.specs.declared.Fact as F
+use Rattle.facts.specs.Marks.{fact-in}
 use Rattle.effects.specs.declared.arms.Input.{Input}
 use Rattle.effects.specs.declared.arms.Effect.{Effect}
 use Rattle.regfacts.specs.Flags.{Seen, is-length}
 use Rattle.analyse.specs.declared.look.Value.{Value}
 
--- ---- a position's words
+-- ---- a position's fact
 
--- length 1, layout 2, creates 4, barrier 8, suspends 16
-unfoldable pub pack : Bool → Bool → Bool → Bool → Bool → ℕ
-pack l y m b s = num l + 2 * num y + 4 * num m + 8 * num b + 16 * num s
-
--- the words of position p stand for the fact f
-pub record Words (w : List ℕ) (p : ℕ) (f : Fact) : Type 0 where
-  pub class : class-at (cell w p 1) ≡ f .does .class
-  pub org : org-at (cell w p 2) ≡ f .does .org
-  pub flags : cell w p 3 ≡ pack (f .does .len) (f .does .layout) (f .does .creates) (f .does .barrier) (f .suspends)
-  pub wrote : wrote-at (cell w p 4) ≡ f .does .wrote
-  pub from : from-at (cell w p 5) (f .does .from) ≡ f .does .from
-  pub written : cell w p 6 ≡ getD (f .defs) 0 absent
+-- the struct x stands for the fact f
+pub record Stands (x : F.Fact) (f : Fact) : Type 0 where
+  pub class : class-at (x .class) ≡ f .does .class
+  pub org : org-at (x .org) ≡ f .does .org
+  pub len : x .len ≡ f .does .len
+  pub layout : x .layout ≡ f .does .layout
+  pub creates : x .creates ≡ f .does .creates
+  pub barrier : x .barrier ≡ f .does .barrier
+  pub suspends : x .suspends ≡ f .suspends
+  pub wrote : wrote-at (x .wrote) ≡ f .does .wrote
+  pub from : from-at (x .from) (f .does .from) ≡ f .does .from
+  pub def : x .def ≡ getD (f .defs) 0 absent
 
 -- ---- a register's word
 
@@ -59,10 +61,10 @@ pub record Marked (G : Facts) (past : List Fact) (R : ℕ) (regs : List ℕ) : T
   pub writer : (r : ℕ) → r < R → place-at (getD regs r 0 / 16 % 1024) ≡ last-writer 0 past r
   pub left : (r : ℕ) → r < R → (d : ℕ) → getD regs r 0 / 16 % 1024 ≡ suc d → Left past (left-in (getD regs r 0)) (getD past d no-fact)
 
--- so do they, and the words of the positions so far for the facts of the past
-pub record State (G : Facts) (past : List Fact) (R : ℕ) (regs w : List ℕ) : Type 0 where
+-- so do they, and the structs of the positions so far for the facts of the past
+pub record State (G : Facts) (past : List Fact) (R : ℕ) (regs : List ℕ) (w : List F.Fact) : Type 0 where
   pub marked : Marked G past R regs
-  pub each : (p : ℕ) → p < length past → Words w p (getD past p no-fact)
+  pub each : (p : ℕ) → p < length past → Stands (fact-in w p) (getD past p no-fact)
 
 -- a word says no more than n positions can have left
 pub record Ranges (n v : ℕ) : Type 0 where
@@ -77,17 +79,16 @@ pub record Ranged (R n : ℕ) (regs : List ℕ) : Type 0 where
   pub few : n < 1000
   pub each : (r : ℕ) → r < R → Ranges n (getD regs r 0)
 
--- the numbers of position p are small, but for the code of a Cat
-pub record Near (w : List ℕ) (p : ℕ) : Type 0 where
-  pub org : cell w p 2 < 2004
-  pub wrote : cell w p 4 ≤ 2004
-  pub from : (cell w p 5 ≤ 2004) ⊎ (cell w p 5 ≡ 4294967295)
+-- the numbers of x are small, but for the code of a Cat
+pub record Near (x : F.Fact) : Type 0 where
+  pub org : x .org < 2004
+  pub wrote : x .wrote ≤ 2004
+  pub from : (x .from ≤ 2004) ⊎ (x .from ≡ 4294967295)
 
--- so are all of the n positions so far
-pub record Safe (R n : ℕ) (regs w : List ℕ) : Type 0 where
+-- so are those of all of the n positions so far
+pub record Safe (R n : ℕ) (regs : List ℕ) (w : List F.Fact) : Type 0 where
   pub ranged : Ranged R n regs
-  pub room : 10 * n ≤ length w
-  pub near : (p : ℕ) → p < n → Near w p
+  pub near : (p : ℕ) → p < n → Near (fact-in w p)
 
 -- ---- a register that is read
 

@@ -1,4 +1,4 @@
--- Going along a chain: last writers marked, the fact of a position and its words. Assumes nothing.
+-- Going along a chain: last writers marked, and the fact of a position. Assumes nothing.
 use mathlib.Core.Path.{_≡_}
 use mathlib.Core.Bool.{Bool, false, not, _||_}
 use mathlib.Core.Logic.{_⊎_}
@@ -13,8 +13,9 @@ use Rattle.model.specs.Move.{chain-places}
 use Rattle.inst.specs.Table.{rows}
 use Rattle.inst.specs.Record.{present}
 use Rattle.inst.specs.declared.access.Firsts.{Firsts}
-use Rattle.effects.specs.Origin.{org-at, class-at, wrote-at, from-at, num}
+use Rattle.effects.specs.Origin.{num}
 use Rattle.facts.specs.declared.Fact as F
+use Rattle.facts.specs.Marks.{fact-in}
 use Rattle.effects.specs.declared.arms.Effect.{Effect}
 use Rattle.chains.specs.declared.chain.Chain.{Chain}
 use Rattle.chains.specs.declared.cursor.Cursor.{Cursor}
@@ -23,7 +24,7 @@ use Rattle.chains.specs.Cursor.{left-of, Standing}
 use Rattle.chains.specs.Places.{Laid, end-past}
 use Rattle.regfacts.specs.Written.{Fits}
 use Rattle.regfacts.specs.Flags.{Seen}
-use Rattle.analyse.specs.State.{cell, pack, Marked, Ranged, State, Safe, Readable}
+use Rattle.analyse.specs.State.{Stands, Marked, Ranged, State, Safe, Readable}
 
 -- ---- last writers
 
@@ -41,7 +42,7 @@ pub record Forgot (R : ℕ) (before after : List ℕ) : Type 0 where
   pub low : (r : ℕ) → r < R → getD after r 0 ≡ getD before r 0 % 16
   pub high : (r : ℕ) → R ≤ r → getD after r 0 ≡ getD before r 0
 
--- ---- a position's fact and words
+-- ---- a position's fact
 
 -- are there more registers than one written and two read?
 unfoldable pub more : Firsts → Bool
@@ -67,16 +68,6 @@ fact-of g e s x = record {
   member = false;
 }
 
-unfoldable pub words-of : F.Fact → List ℕ
-words-of f =
-    f .rec ∷ f .class ∷ f .org ∷ pack (f .len) (f .layout) (f .creates) (f .barrier) (f .suspends) ∷ f .wrote ∷ f .from ∷ f .def ∷ f .use0 ∷ f .use1 ∷ num (f .more) ∷ []
-
--- these were written at position p, and nothing else
-pub record Put (before after : List ℕ) (p : ℕ) (f : F.Fact) : Type 0 where
-  pub size : length after ≡ length before
-  pub inside : (j : ℕ) → j < 10 → cell after p j ≡ getD (words-of f) j 0
-  pub others : (q j : ℕ) → (q ≡ p → ⊥) → j < 10 → cell after q j ≡ cell before q j
-
 -- ---- positions one after the other
 
 -- record g can be analysed
@@ -84,19 +75,6 @@ pub record Good (recs ops : List ℕ) (R g : ℕ) : Type 0 where
   pub readable : Readable recs ops R g
   pub fits : Fits recs R g
   pub small : g < 32768
-
--- the struct x stands for the fact f
-pub record Stands (x : F.Fact) (f : Fact) : Type 0 where
-  pub class : class-at (x .class) ≡ f .does .class
-  pub org : org-at (x .org) ≡ f .does .org
-  pub len : x .len ≡ f .does .len
-  pub layout : x .layout ≡ f .does .layout
-  pub creates : x .creates ≡ f .does .creates
-  pub barrier : x .barrier ≡ f .does .barrier
-  pub suspends : x .suspends ≡ f .suspends
-  pub wrote : wrote-at (x .wrote) ≡ f .does .wrote
-  pub from : from-at (x .from) (f .does .from) ≡ f .does .from
-  pub def : x .def ≡ getD (f .defs) 0 absent
 
 -- x is of record g and not in the set; its numbers are small, but for the code of a Cat; where there is no more, it has all that the
 -- record writes and reads
@@ -118,22 +96,22 @@ pub record Learned (recs ops regs regs′ : List ℕ) (p R g : ℕ) (x : F.Fact)
   pub stands : (G : Facts) (past : List Fact) → length past ≡ p → Marked G past R regs → Stands x (fact G ops past (inst recs g))
   pub marked : (G : Facts) (past : List Fact) → length past ≡ p → Marked G past R regs → Marked G (past ++ fact G ops past (inst recs g) ∷ []) R regs′
 
--- position p holds such a record, and the code of a Cat only if that is one; where word 9 is 0, words 6 to 8 are all that it writes and reads
-pub record Holds (recs ops : List ℕ) (R : ℕ) (w : List ℕ) (p : ℕ) : Type 0 where
-  pub good : Good recs ops R (cell w p 0)
-  pub cat : cell w p 5 ≡ 4294967295 → row (kind (inst recs (cell w p 0))) .arm ≡ cat
-  pub defs : cell w p 9 ≡ 0 → writes (inst recs (cell w p 0)) ≡ present (cell w p 6)
-  pub reads : cell w p 9 ≡ 0 → reads ops (inst recs (cell w p 0)) ≡ present (cell w p 7) ++ present (cell w p 8)
+-- x is of such a record, and has the code of a Cat only if that is one; where there is no more, it has all that the record writes and reads
+pub record Holds (recs ops : List ℕ) (R : ℕ) (x : F.Fact) : Type 0 where
+  pub good : Good recs ops R (x .rec)
+  pub cat : x .from ≡ 4294967295 → row (kind (inst recs (x .rec))) .arm ≡ cat
+  pub defs : x .more ≡ false → writes (inst recs (x .rec)) ≡ present (x .def)
+  pub reads : x .more ≡ false → reads ops (inst recs (x .rec)) ≡ present (x .use0) ++ present (x .use1)
 
 -- from position p on these records were analysed: what stood for a past stands for it and them
-pub record Ran (recs ops regs w regs′ w′ : List ℕ) (p R : ℕ) (places : List ℕ) : Type 0 where
+pub record Ran (recs ops regs : List ℕ) (w : List F.Fact) (regs′ : List ℕ) (w′ : List F.Fact) (p R : ℕ) (places : List ℕ) : Type 0 where
   pub regs-size : length regs′ ≡ length regs
   pub size : length w′ ≡ length w
   pub kept : (r : ℕ) → getD regs′ r 0 % 16 ≡ getD regs r 0 % 16
   pub safe : Safe R (p + length places) regs′ w′
-  pub numbers : (k : ℕ) → k < length places → cell w′ (p + k) 0 ≡ getD places k 0
-  pub holds : (k : ℕ) → k < length places → Holds recs ops R w′ (p + k)
-  pub others : (q j : ℕ) → q < p → j < 10 → cell w′ q j ≡ cell w q j
+  pub numbers : (k : ℕ) → k < length places → fact-in w′ (p + k) .rec ≡ getD places k 0
+  pub holds : (k : ℕ) → k < length places → Holds recs ops R (fact-in w′ (p + k))
+  pub others : (q : ℕ) → q < p → fact-in w′ q ≡ fact-in w q
   pub state : (G : Facts) (past : List Fact) → length past ≡ p → State G past R regs w → State G (analyse G ops past (map (inst recs) places)) R regs′ w′
 
 -- before the first position: no register has a writer, and x stands at the start of chain c
@@ -152,14 +130,14 @@ pub record Ready (t recs ops regs : List ℕ) (facts : List F.Fact) (bounds : Li
   pub good : (k g : ℕ) → k < c .count → g < end-past bounds (getD (blocks-of c) k 0) → Good recs ops R g
   pub short : (P : Picture) → P .bounds ≡ bounds → length (chain-places P (blocks-of c)) ≤ 800
 
--- the words stand for the facts of the whole chain
-pub record Analysed (recs ops regs w bounds : List ℕ) (c : Chain) (R p : ℕ) (regs′ w′ : List ℕ) : Type 0 where
+-- words and structs stand for the facts of the whole chain
+pub record Analysed (recs ops regs : List ℕ) (w : List F.Fact) (bounds : List ℕ) (c : Chain) (R p : ℕ) (regs′ : List ℕ) (w′ : List F.Fact) : Type 0 where
   pub regs-size : length regs′ ≡ length regs
   pub size : length w′ ≡ length w
   pub kept : (r : ℕ) → getD regs′ r 0 % 16 ≡ getD regs r 0 % 16
   pub safe : Safe R p regs′ w′
   pub short : p ≤ 800
-  pub holds : (k : ℕ) → k < p → Holds recs ops R w′ k
+  pub holds : (k : ℕ) → k < p → Holds recs ops R (fact-in w′ k)
   pub positions : (P : Picture) → P .bounds ≡ bounds → p ≡ length (chain-places P (blocks-of c))
-  pub numbers : (P : Picture) → P .bounds ≡ bounds → (k : ℕ) → k < p → cell w′ k 0 ≡ getD (chain-places P (blocks-of c)) k 0
+  pub numbers : (P : Picture) → P .bounds ≡ bounds → (k : ℕ) → k < p → fact-in w′ k .rec ≡ getD (chain-places P (blocks-of c)) k 0
   pub state : (P : Picture) → P .bounds ≡ bounds → (G : Facts) → Seen G R regs → State G (analyse G ops [] (map (inst recs) (chain-places P (blocks-of c)))) R regs′ w′

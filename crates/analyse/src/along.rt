@@ -10,8 +10,8 @@ use facts::put;
 ghost use Prim.Native.Nat.{_≤_};
 ghost use lib.ListN.{length};
 ghost use Rattle.chains.specs.Places.{Laid};
+ghost use Rattle.facts.specs.Marks.{bare};
 ghost use Rattle.analyse.specs.Step.{Begun, Ready, Analysed};
-ghost use Rattle.analyse.specs.Cells.{cells};
 
 // No register has a writer yet, and the cursor stands at the first position.
 fn begin(regs: &mut [u64], bounds: &[u32], c: Chain, count: usize) -> Cursor
@@ -34,7 +34,7 @@ pub fn analyse(
     count: usize,
 ) -> u32
     requires { ⌜ Ready (now t) (now recs) (now ops) (now regs) (now facts) (now bounds) c count ⌝ }
-    ensures { λ p. ⌜ Analysed (now (recs .entry)) (now (ops .entry)) (now (regs .entry)) (cells (now (facts .entry))) (now (bounds .entry)) c count p (now (regs .exit)) (cells (now (facts .exit))) ⌝ }
+    ensures { λ p. ⌜ Analysed (now (recs .entry)) (now (ops .entry)) (now (regs .entry)) (bare (now (facts .entry))) (now (bounds .entry)) c count p (now (regs .exit)) (bare (now (facts .exit))) ⌝ }
 {
     let mut at = begin(regs, bounds, c, count);
     let mut p = 0u32;

@@ -14,7 +14,7 @@ use Rattle.words.proofs.Lasts.{last-passes}
 use Rattle.words.proofs.Lists.{getD-made, take-less, drop-more}
 use Rattle.words.proofs.Parts.{part-first}
 use Rattle.words.proofs.Rows.{in-front}
-use Rattle.model.specs.Picture.{Picture, nblocks, places, size}
+use Rattle.model.specs.Picture.{Picture, inst, nblocks, places, size, reads, writes}
 use Rattle.model.specs.Live.{live-in}
 use Rattle.model.specs.Analyse.{Facts}
 use Rattle.model.specs.Move.{Plan, chain-places, run-of, last-use}
@@ -23,11 +23,13 @@ use Rattle.chains.specs.Chain.{blocks-of}
 use Rattle.chains.specs.Places.{Laid}
 use Rattle.chains.proofs.Laid.{laid-in}
 use Rattle.analyse.proofs.Accepted.{pair-given}
-use Rattle.legalset.specs.Chain.{cell, view, defs-of, reads-of, Good, Told}
+use Rattle.facts.specs.declared.Fact.{Fact}
+use Rattle.facts.specs.Marks.{fact-in}
+use Rattle.legalset.specs.Chain.{view, defs-of, reads-of, Good, Told}
 use Rattle.summary.specs.Passes.{result-test, Around}
 use Rattle.lastuse.specs.Uses.{or-own, reads-value, last-reader, Readers, defs-at, reads-at, Legible, ReadersAlong}
 use Rattle.summary.proofs.Backing.{writes-low}
-use Rattle.lastuse.proofs.Going.{readers-of}
+use Rattle.lastuse.proofs.Using.{readers-same}
 use Rattle.lastuse.proofs.LastUse.{last-use-is}
 use Rattle.pool.specs.Plan.{read-there}
 use Rattle.sizes.specs.declared.Sizes.{Sizes}
@@ -70,7 +72,7 @@ used-none e = record { size64 = refl; size32 = refl; behind = refl; still = λ z
 
 -- ---- what is asked on the way
 
-module _ {bounds recs ops : List ℕ} {s : Sizes} {c : Chain} {w work64 work32 : List ℕ} {into m n : ℕ} (g : Planning bounds recs ops s c w work64 work32 into m n) where
+module _ {bounds recs ops : List ℕ} {s : Sizes} {c : Chain} {w : List Fact} {work64 work32 : List ℕ} {into m n : ℕ} (g : Planning bounds recs ops s c w work64 work32 into m n) where
   pub plan-room : Room (s .blocks) (s .regs) (s .lent) (length work64) (length work32)
   plan-room = room (g .lists)
 
@@ -81,7 +83,7 @@ module _ {bounds recs ops : List ℕ} {s : Sizes} {c : Chain} {w work64 work32 :
   m-few = let z = g .in-x in let y = g .along .few in omega arith
 
   module _ {st r : ℕ} (es : st ≡ stamps-at s) (er : r ≡ s .regs) where
-    good-at : (p : ℕ) → p < n → Good recs ops r (cell w p 0)
+    good-at : (p : ℕ) → p < n → Good recs ops r (fact-in w p .rec)
     good-at p h = let l = g .lists in rw (l .recs-are, l .ops-are, er, l .regs-are) (g .along .safe .good p h)
 
     pub legible : Legible recs ops bounds c r
@@ -136,7 +138,7 @@ module _ {bounds recs ops : List ℕ} {s : Sizes} {c : Chain} {w work64 work32 :
                 held-kept l h work64′ work32′ rows-same (λ r i. ap (λ (xs : List ℕ). getD xs r 0 % 16) regs-same)
                 (drop-more 8000 (8000 + length (P .types)) work32′ work32 (omega arith) (lasting-behind pt m-few))
 
-            module _ (G : Facts) (w′ : List ℕ) (a : Plan) (h : Held P G work64 work32) (al : Along P G c w′ work32 n) (nu : Numbered w′ work32 n) (ei : a .into ≡ into) (ea : a .run ≡ run-of P G (chain-in c)) where
+            module _ (G : Facts) (w′ : List Fact) (a : Plan) (h : Held P G work64 work32) (al : Along P G c w′ work32 n) (nu : Numbered w′ work32 n) (ei : a .into ≡ into) (ea : a .run ≡ run-of P G (chain-in c)) where
               abbrev regs : List ℕ
               regs = copied-words P work32
 
@@ -148,7 +150,7 @@ module _ {bounds recs ops : List ℕ} {s : Sizes} {c : Chain} {w work64 work32 :
 
               readers-P : Readers (defs-of (P .recs) w′) (reads-of (P .recs) (P .ops) w′) n lasts
               readers-P =
-                  readers-of (P .recs) (P .ops) w′ (chain-places P (blocks-of c)) (al .numbers)
+                  readers-same (λ q h. ap (λ (g : ℕ). writes (inst (P .recs) g)) (sym (al .numbers q h))) (λ q h. ap (λ (g : ℕ). reads (P .ops) (inst (P .recs) g)) (sym (al .numbers q h)))
                   (subst (λ (k : ℕ). Readers (defs-at (P .recs) (chain-places P (blocks-of c))) (reads-at (P .recs) (P .ops) (chain-places P (blocks-of c))) k lasts) (sym (al .long)) (rw (l .recs-are, l .ops-are) at (rd .each P (sym (l .bounds-are)))))
 
               told : Told (P .recs) (P .ops) w′ regs n (a .run)
@@ -171,7 +173,7 @@ module _ {bounds recs ops : List ℕ} {s : Sizes} {c : Chain} {w work64 work32 :
                   ∙ h .live .row into r (omega arith) (omega arith)
                   ∙ sym (getD-made (live-in P (a .into)) false 0 (P .regs) r i ∙ ap₂ (live-in P) ei (zero-add r))
 
-              word-is : (p : ℕ) → p < m → getD work32′ (10 * p + 7) 0 ≡ use-of (P .recs) regs work64′ o lasts n (cell w′ p 0) p
+              word-is : (p : ℕ) → p < m → getD work32′ (10 * p + 7) 0 ≡ use-of (P .recs) regs work64′ o lasts n (fact-in w′ p .rec) p
               word-is p i = lasting-P .last p i ∙ ap (λ (k : ℕ). use-of (P .recs) regs work64′ o lasts n k p) (nu .each p (in-chain p i))
 
               last-is : (p : ℕ) → p < m → getD work32′ (10 * p + 7) 0 ≡ last-use (a .run) (read-there P a) p
@@ -179,7 +181,7 @@ module _ {bounds recs ops : List ℕ} {s : Sizes} {c : Chain} {w work64 work32 :
                   word-is p i
                   ∙ ap (λ (x : ℕ). cond (all (result-test regs work64′ o p) (defs-of (P .recs) w′ p)) x n) (readers-P .each p (let z = m-few in omega arith))
                   ∙ sym (last-use-is (view (P .recs) (P .ops) w′ regs) n (a .run) (told .stands) p (in-chain p i) regs work64′ o (read-there P a)
-                  (λ r j. let k = writes-low (P .recs) (P .regs) (cell w′ p 0) (al .safe .good p (in-chain p i) .fits) r j in (al .ended .each r (omega (arith, regs-long)), row-is r k)))
+                  (λ r j. let k = writes-low (P .recs) (P .regs) (fact-in w′ p .rec) (al .safe .good p (in-chain p i) .fits) r j in (al .ended .each r (omega (arith, regs-long)), row-is r k)))
 
               lasts-after : Lasts P a m work32′
               lasts-after = record {
@@ -187,7 +189,7 @@ module _ {bounds recs ops : List ℕ} {s : Sizes} {c : Chain} {w work64 work32 :
                 low = λ p i.
                     let z = m-few in
                     let y = al .few in
-                    let u : use-of (P .recs) regs work64′ o lasts n (cell w′ p 0) p < 4096 =
+                    let u : use-of (P .recs) regs work64′ o lasts n (fact-in w′ p .rec) p < 4096 =
                     cond-low (all (result-test regs work64′ o p) (defs-of (P .recs) w′ p))
                     (let x = readers-P .each p (omega arith) in let v = reader-low (defs-of (P .recs) w′) (reads-of (P .recs) (P .ops) w′) n p (omega arith) y in omega arith) (omega arith) in
                     subst (λ (x : ℕ). x < 4096) (sym (word-is p i)) u;

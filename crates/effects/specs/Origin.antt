@@ -2,9 +2,8 @@
 use mathlib.Core.Bool.{Bool, true, false, cond}
 use mathlib.Core.List.{List, [], _∷_}
 use mathlib.Core.Option.{Option, none, some}
-use Prim.Native.Nat.{ℕ, zero, suc, _+_, _*_, _/_, _%_}
+use Prim.Native.Nat.{ℕ, zero, suc, _/_, _%_}
 use lib.Dec.{eqb}
-use lib.ListN.{getD}
 use Rattle.words.specs.Lists.{hit}
 use Rattle.model.specs.Analyse.{Org, Unknown, Ro, Heap, Frame, Temp, Img, Class, No, Movable, Free}
 
@@ -34,12 +33,6 @@ from-at (suc n) cat = cond (eqb (suc n) 4294967295) cat (org-at n ∷ [])
 -- a flag: `hit`, kept shut
 unfoldable pub num : Bool → ℕ
 num b = hit b
-
--- ---- the words of a chain, ten a position
-
--- word j of position p
-unfoldable pub cell : List ℕ → ℕ → ℕ → ℕ
-cell w p j = getD w (10 * p + j) 0
 
 -- a position and 1, or 0 for none
 unfoldable pub place-at : ℕ → Option ℕ

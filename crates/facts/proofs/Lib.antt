@@ -1,5 +1,6 @@
 pub mod Again
 pub mod Args
+pub mod Bare
 pub mod Both
 pub mod Cells
 pub mod Element

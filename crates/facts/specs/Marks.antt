@@ -1,5 +1,8 @@
--- The fact that stands for what lies past a list's end, and a fact with another mark (01, "What changes shape"). Assumes nothing.
+-- The fact that stands for what lies past a list's end, and facts with other marks or none (01, "What changes shape"). Assumes nothing.
 use mathlib.Core.Bool.{Bool, false}
+use mathlib.Core.List.{List, map}
+use Prim.Native.Nat.{ℕ}
+use lib.ListN.{getD}
 use Rattle.facts.specs.declared.Fact.{Fact}
 
 -- what lies past a list's end
@@ -47,3 +50,13 @@ marked f b =
 -- a fact with its mark cleared
 abbrev pub cleared : Fact → Fact
 cleared f = marked f false
+
+-- ---- a list of facts
+
+-- the fact of position p
+abbrev pub fact-in : List Fact → ℕ → Fact
+fact-in fs p = getD fs p no-fact
+
+-- the facts without their marks
+unfoldable pub bare : List Fact → List Fact
+bare fs = map cleared fs

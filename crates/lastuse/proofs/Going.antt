@@ -12,10 +12,10 @@ use Rattle.chains.specs.declared.cursor.Cursor.{Cursor}
 use Rattle.chains.specs.Chain.{blocks-of}
 use Rattle.chains.specs.Cursor.{left-of, Standing}
 use Rattle.chains.proofs.Seeking.{next-left, nothing-left}
-use Rattle.legalset.specs.Chain.{cell, defs-of, reads-of, Good}
+use Rattle.legalset.specs.Chain.{Good}
 use Rattle.lastuse.specs.Uses.{ReadOn, Readers, defs-at, reads-at, Legible, ReadersAlong}
 use Rattle.summary.proofs.Forwarding.{reads-low}
-use Rattle.lastuse.proofs.Using.{Reading, reading-none, reading-low, reading-more, readers-same}
+use Rattle.lastuse.proofs.Using.{Reading, reading-none, reading-low, reading-more}
 
 pub cleared : (st : List ℕ) {st′ : List ℕ} → st′ ≡ replicate (length st) 0 → (length st′ ≡ length st) × (st′ ≡ replicate (length st′) 0)
 cleared st e = let l = ap length e ∙ length-replicate (length st) 0 in (l, e ∙ ap (λ (n : ℕ). replicate n 0) (sym l))
@@ -96,7 +96,3 @@ module _ {recs ops bounds : List ℕ} {c : Chain} (st₀ : List ℕ) (y : Legibl
       where
         all : (P : Picture) → P .bounds ≡ bounds → length (h .places) ≡ length (chain-places P bs)
         all P e = ap length (sym (append-nil (h .places)) ∙ ap (λ (m : List ℕ). h .places ++ m) (sym (nothing-left P (y .laid) (h .standing) l)) ∙ h .rest P e)
-
--- by the numbers of the positions' records
-pub readers-of : (recs ops w places : List ℕ) {ls : List ℕ} {n : ℕ} → ((q : ℕ) → q < n → cell w q 0 ≡ getD places q 0) → Readers (defs-at recs places) (reads-at recs ops places) n ls → Readers (defs-of recs w) (reads-of recs ops w) n ls
-readers-of recs ops w places e i = readers-same (λ q h. ap (λ (g : ℕ). writes (inst recs g)) (sym (e q h))) (λ q h. ap (λ (g : ℕ). reads ops (inst recs g)) (sym (e q h))) i

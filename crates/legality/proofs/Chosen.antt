@@ -15,7 +15,9 @@ use Rattle.words.proofs.Members.{all-on}
 use Rattle.model.specs.Analyse.{Fact, movable}
 use Rattle.model.specs.Legal.{fact-at, greatest}
 use Rattle.effects.proofs.Origins.{movable-is}
-use Rattle.legalset.specs.Chain.{cell, view, defs-of, writer, Safe, Told}
+use Rattle.facts.specs.declared.Fact as F
+use Rattle.facts.specs.Marks.{fact-in}
+use Rattle.legalset.specs.Chain.{view, defs-of, writer, Safe, Told}
 use Rattle.legalset.specs.Marks.{in-set, members, Settled, _⊑_}
 use Rattle.legalset.specs.Rules.{result-ok, cycle-ok, begins}
 use Rattle.legalset.proofs.Settling.{greatest-left, settled-greatest}
@@ -46,33 +48,33 @@ at-most (x ∷ S) (true ∷ G) h = let a = ap hit (T-true (not (eqb x 0)) (h 0 t
 at-most (x ∷ S) (false ∷ G) h = let b = at-most S G (λ p. h (suc p)) in omega arith
 
 -- the row in place of the needs
-pub results-row : (regs : List ℕ) {recs ops w bits : List ℕ} {o n p : ℕ} {needed : ℕ → Bool} → Safe recs ops w n (length regs) → p < n → Row bits o (length regs) needed
+pub results-row : (regs : List ℕ) {recs ops : List ℕ} {w : List F.Fact} {bits : List ℕ} {o n p : ℕ} {needed : ℕ → Bool} → Safe recs ops w n (length regs) → p < n → Row bits o (length regs) needed
     → result-ok (view recs ops w regs) n (λ r. is-in bits (64 * o + r)) p ≡ result-ok (view recs ops w regs) n needed p
 unfolding result-ok
 results-row regs {recs} {ops} {w} {bits} {o} {n} {p} {needed} s h k =
     all-on (λ r. not (is-in bits (64 * o + r) && eqb (writer (defs-of recs w) r n) (p + 1))) (λ r. not (needed r && eqb (writer (defs-of recs w) r n) (p + 1))) (defs-of recs w p)
-    (λ r i. ap (λ (y : Bool). not (y && eqb (writer (defs-of recs w) r n) (p + 1))) (k .each r (writes-low recs (length regs) (cell w p 0) (s .good p h .fits) r i)))
+    (λ r i. ap (λ (y : Bool). not (y && eqb (writer (defs-of recs w) r n) (p + 1))) (k .each r (writes-low recs (length regs) (fact-in w p .rec) (s .good p h .fits) r i)))
 
-begins-row : (regs : List ℕ) {recs ops w bits : List ℕ} {o m n : ℕ} {needed : ℕ → Bool} → Safe recs ops w n (length regs) → m ≤ n → Row bits o (length regs) needed → (p : ℕ)
-    → begins (view recs ops w regs) n (λ q. eqb (cell w q 1) 1) m (λ r. is-in bits (64 * o + r)) p ≡ begins (view recs ops w regs) n (λ q. eqb (cell w q 1) 1) m needed p
+begins-row : (regs : List ℕ) {recs ops : List ℕ} {w : List F.Fact} {bits : List ℕ} {o m n : ℕ} {needed : ℕ → Bool} → Safe recs ops w n (length regs) → m ≤ n → Row bits o (length regs) needed → (p : ℕ)
+    → begins (view recs ops w regs) n (λ q. eqb (fact-in w q .class) 1) m (λ r. is-in bits (64 * o + r)) p ≡ begins (view recs ops w regs) n (λ q. eqb (fact-in w q .class) 1) m needed p
 unfolding begins
 begins-row regs {recs} {ops} {w} {bits} {o} {m} {n} {needed} s h k p = ⊎-elim
-    (λ (l : p < m). ap (λ (b : Bool). ltb p m && eqb (cell w p 1) 1 && b) (results-row regs s (omega arith) k))
-    (λ (l : m ≤ p). ap (λ (b : Bool). b && eqb (cell w p 1) 1 && result-ok (view recs ops w regs) n (λ r. is-in bits (64 * o + r)) p) (le-ltb p m l)
-    ∙ sym (ap (λ (b : Bool). b && eqb (cell w p 1) 1 && result-ok (view recs ops w regs) n needed p) (le-ltb p m l))) (lt? p m)
+    (λ (l : p < m). ap (λ (b : Bool). ltb p m && eqb (fact-in w p .class) 1 && b) (results-row regs s (omega arith) k))
+    (λ (l : m ≤ p). ap (λ (b : Bool). b && eqb (fact-in w p .class) 1 && result-ok (view recs ops w regs) n (λ r. is-in bits (64 * o + r)) p) (le-ltb p m l)
+    ∙ sym (ap (λ (b : Bool). b && eqb (fact-in w p .class) 1 && result-ok (view recs ops w regs) n needed p) (le-ltb p m l))) (lt? p m)
 
-module _ {recs ops w : List ℕ} (regs bits : List ℕ) (o : ℕ) {m n least r : ℕ} {S U : List ℕ} (s : Safe recs ops w n (length regs)) (h : m ≤ n)
-    (b : (p : ℕ) → in-set S p ≡ begins (view recs ops w regs) n (λ q. eqb (cell w q 1) 1) m (λ r. is-in bits (64 * o + r)) p)
+module _ {recs ops : List ℕ} {w : List F.Fact} (regs bits : List ℕ) (o : ℕ) {m n least r : ℕ} {S U : List ℕ} (s : Safe recs ops w n (length regs)) (h : m ≤ n)
+    (b : (p : ℕ) → in-set S p ≡ begins (view recs ops w regs) n (λ q. eqb (fact-in w q .class) 1) m (λ r. is-in bits (64 * o + r)) p)
     (d : Settled (cycle-ok (view recs ops w regs) n) m least S U r) (e : length S ≡ n) where
   module _ (run : List Fact) (needed : ℕ → Bool) (t : Told recs ops w regs n run) (k : Row bits o (length regs) needed) where
-    chosen-class : (p : ℕ) → p < n → movable (fact-at run p .does .class) ≡ eqb (cell w p 1) 1
-    chosen-class p l = ap movable (t .class p l) ∙ movable-is (cell w p 1)
+    chosen-class : (p : ℕ) → p < n → movable (fact-at run p .does .class) ≡ eqb (fact-in w p .class) 1
+    chosen-class p l = ap movable (t .class p l) ∙ movable-is (fact-in w p .class)
 
     chosen-left : member (greatest run needed m) ⊑ in-set U
-    chosen-left = greatest-left (view recs ops w regs) n run (t .stands) needed (λ q. eqb (cell w q 1) 1) m h chosen-class (λ p. b p ∙ begins-row regs s h k p) d
+    chosen-left = greatest-left (view recs ops w regs) n run (t .stands) needed (λ q. eqb (fact-in w q .class) 1) m h chosen-class (λ p. b p ∙ begins-row regs s h k p) d
 
     chosen-set : least ≤ r → (p : ℕ) → in-set U p ≡ member (greatest run needed m) p
-    chosen-set = settled-greatest (view recs ops w regs) n run (t .stands) needed (λ q. eqb (cell w q 1) 1) m h chosen-class (λ p. b p ∙ begins-row regs s h k p) d
+    chosen-set = settled-greatest (view recs ops w regs) n run (t .stands) needed (λ q. eqb (fact-in w q .class) 1) m h chosen-class (λ p. b p ∙ begins-row regs s h k p) d
 
   pub chosen : Greatest recs ops w regs bits o U m n least r
   chosen = record {

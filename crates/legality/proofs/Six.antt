@@ -10,7 +10,8 @@ use Rattle.words.specs.Lists.{all}
 use Rattle.model.specs.Analyse.{Fact}
 use Rattle.model.specs.Legal.{tests}
 use Rattle.facts.specs.declared.Fact as F
-use Rattle.legalset.specs.Chain.{cell, view, defs-of, reads-of, Safe, Told}
+use Rattle.facts.specs.Marks.{fact-in}
+use Rattle.legalset.specs.Chain.{view, defs-of, reads-of, Safe, Told}
 use Rattle.legalset.specs.Marks.{in-set}
 use Rattle.legalset.specs.Rules.{own-ok}
 use Rattle.legalset.proofs.Lawful.{rule1-is, rule2-is, rule3-is, rule4-is, rule5-is, rule6-is}
@@ -20,7 +21,7 @@ use Rattle.legality.proofs.Starting.{results-are}
 use Rattle.legality.proofs.Chosen.{results-row}
 use Rattle.summary.proofs.Forwarding.{reads-are, suspends-are, memory-are, own-is}
 
-module _ {recs ops w regs : List ℕ} {n p : ℕ} (s : Safe recs ops w n (length regs)) (h : p < n) {run : List Fact} (t : Told recs ops w regs n run) (needed : ℕ → Bool) (marks : List ℕ) where
+module _ {recs ops : List ℕ} {w : List F.Fact} {regs : List ℕ} {n p : ℕ} (s : Safe recs ops w n (length regs)) (h : p < n) {run : List Fact} (t : Told recs ops w regs n run) (needed : ℕ → Bool) (marks : List ℕ) where
   -- rule 1: st says what is awaited behind p
   pub rule1-tests : {st : List ℕ} → length st ≡ length regs → Awaits (defs-of recs w) (reads-of recs ops w) (in-set marks) n (p + 1) st
       → all (λ x. leb (getD st x 0) 1023) (defs-of recs w p) ≡ getD (tests run needed (in-set marks) p) 0 true
@@ -41,6 +42,6 @@ module _ {recs ops w regs : List ℕ} {n p : ℕ} (s : Safe recs ops w n (length
     pub rule5-tests : {f : F.Fact} → Shows w p f → memory-test recs ops regs st lasts f (getD lasts 2006 0 % 1024) p ≡ getD (tests run needed (in-set marks) p) 4 true
     rule5-tests d = memory-are regs marks s h e (z .stamps) (z .writes) (z .barrier) (z .suspension) (z .flags) d ∙ rule5-is (view recs ops w regs) n run (t .stands) needed (in-set marks) p h
 
-    pub rule6-tests : own-test lasts (cell w p 4) ≡ getD (tests run needed (in-set marks) p) 5 true
+    pub rule6-tests : own-test lasts (fact-in w p .wrote) ≡ getD (tests run needed (in-set marks) p) 5 true
     unfolding own-ok
     rule6-tests = own-is regs marks s h e (z .stamps) (z .writes) (z .barrier) (z .suspension) (z .flags) ∙ rule6-is (view recs ops w regs) n run (t .stands) needed (in-set marks) p h

@@ -1,5 +1,5 @@
 -- The positions to begin with, and rule 2. Assumes nothing.
-use mathlib.Core.Path.{_≡_, sym, ap, ap₂, _∙_}
+use mathlib.Core.Path.{_≡_, sym, ap, _∙_}
 use mathlib.Core.Bool.{Bool, true, false, not, _&&_, _||_, and-assoc}
 use mathlib.Core.List.{List}
 use Prim.Native.Nat.{ℕ, _+_, _*_, _/_, _<_}
@@ -12,8 +12,9 @@ use Rattle.words.proofs.Members.{all-on}
 use Rattle.model.specs.Picture.{inst, absent, writes}
 use Rattle.inst.specs.Record.{write-at}
 use Rattle.facts.specs.declared.Fact.{Fact}
+use Rattle.facts.specs.Marks.{fact-in}
 use Rattle.regfacts.specs.Written.{Fits}
-use Rattle.legalset.specs.Chain.{cell, view, defs-of, writer, Safe}
+use Rattle.legalset.specs.Chain.{view, defs-of, writer, Safe}
 use Rattle.legalset.specs.Rules.{result-ok, begins}
 use Rattle.summary.specs.Passes.{result-test, begin-test, Ended, Shows}
 use Rattle.summary.proofs.Places.{all-placed, writes-placed}
@@ -41,16 +42,16 @@ module _ (recs regs bits : List ℕ) (f : Fact) (o p : ℕ) where
   unfolding begin-test
   begin-may n t = t ∙ sym (ap (λ (b : Bool). b && all (result-test regs bits o p) (writes (inst recs (f .rec)))) (eq-eqb (f .class) 1 n))
 
-pub results-are : (bits : List ℕ) (o : ℕ) {recs ops w regs : List ℕ} {n p : ℕ} → Safe recs ops w n (length regs) → p < n → Ended recs w n regs
+pub results-are : (bits : List ℕ) (o : ℕ) {recs ops : List ℕ} {w : List Fact} {regs : List ℕ} {n p : ℕ} → Safe recs ops w n (length regs) → p < n → Ended recs w n regs
     → all (result-test regs bits o p) (defs-of recs w p) ≡ result-ok (view recs ops w regs) n (λ r. is-in bits (64 * o + r)) p
 unfolding result-ok result-test
 results-are bits o {recs} {ops} {w} {regs} {n} {p} s h d =
     all-on (result-test regs bits o p) (λ r. not (is-in bits (64 * o + r) && eqb (writer (defs-of recs w) r n) (p + 1))) (defs-of recs w p)
-    (λ r i. ap (λ (y : ℕ). not (is-in bits (64 * o + r) && eqb y (p + 1))) (d .each r (writes-low recs (length regs) (cell w p 0) (s .good p h .fits) r i)))
+    (λ r i. ap (λ (y : ℕ). not (is-in bits (64 * o + r) && eqb y (p + 1))) (d .each r (writes-low recs (length regs) (fact-in w p .rec) (s .good p h .fits) r i)))
 
-module _ (bits : List ℕ) (o : ℕ) {recs ops w regs : List ℕ} {n : ℕ} (s : Safe recs ops w n (length regs)) (d : Ended recs w n regs) (m p : ℕ) (h : p < n) {f : Fact} (t : Shows w p f) where
-  pub begins-in : (ltb p m && begin-test recs regs bits f o p) ≡ begins (view recs ops w regs) n (λ q. eqb (cell w q 1) 1) m (λ r. is-in bits (64 * o + r)) p
+module _ (bits : List ℕ) (o : ℕ) {recs ops : List ℕ} {w : List Fact} {regs : List ℕ} {n : ℕ} (s : Safe recs ops w n (length regs)) (d : Ended recs w n regs) (m p : ℕ) (h : p < n) {f : Fact} (t : Shows w p f) where
+  pub begins-in : (ltb p m && begin-test recs regs bits f o p) ≡ begins (view recs ops w regs) n (λ q. eqb (fact-in w q .class) 1) m (λ r. is-in bits (64 * o + r)) p
   unfolding begin-test begins
   begins-in =
-      ap₂ (λ (c g : ℕ). ltb p m && (eqb c 1 && all (result-test regs bits o p) (writes (inst recs g)))) (sym (t .class)) (sym (t .rec))
-      ∙ ap (λ (b : Bool). ltb p m && (eqb (cell w p 1) 1 && b)) (results-are bits o s h d) ∙ sym (and-assoc (ltb p m) (eqb (cell w p 1) 1) (result-ok (view recs ops w regs) n (λ r. is-in bits (64 * o + r)) p))
+      ap (λ (y : Fact). ltb p m && (eqb (y .class) 1 && all (result-test regs bits o p) (writes (inst recs (y .rec))))) (sym (t .same))
+      ∙ ap (λ (b : Bool). ltb p m && (eqb (fact-in w p .class) 1 && b)) (results-are bits o s h d) ∙ sym (and-assoc (ltb p m) (eqb (fact-in w p .class) 1) (result-ok (view recs ops w regs) n (λ r. is-in bits (64 * o + r)) p))

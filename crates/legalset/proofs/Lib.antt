@@ -4,4 +4,3 @@ pub mod Pending
 pub mod Lawful
 pub mod Easier
 pub mod Settling
-pub mod Telling

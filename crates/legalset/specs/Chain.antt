@@ -1,34 +1,31 @@
--- A chain as `analyse` leaves it, ten words a position: what each position reads, writes and does, as numbers; and when that stands for
--- `model`'s facts. Assumes nothing.
+-- A chain as `analyse` leaves it, a fact a position: what each position reads, writes and does; and when that stands for `model`'s
+-- facts. Assumes nothing.
 use mathlib.Core.Path.{_≡_}
 use mathlib.Core.Logic.{_⊎_}
-use mathlib.Core.Bool.{Bool, cond}
+use mathlib.Core.Bool.{Bool, false, cond}
 use mathlib.Core.List.{List, [], _∷_, _++_, map}
-use Prim.Native.Nat.{ℕ, zero, suc, _+_, _*_, _/_, _%_, _≤_, _<_}
+use Prim.Native.Nat.{ℕ, zero, suc, _/_, _%_, _≤_, _<_}
 use lib.Dec.{eqb}
-use lib.ListN.{getD, length, take, drop}
+use lib.ListN.{getD, length, take}
 use Rattle.words.specs.Lists.{mem}
 use Rattle.words.specs.Last.{last-below}
-use Rattle.model.specs.Kinds.{row, cat}
-use Rattle.model.specs.Picture.{Inst, inst, absent, kind, reads, writes, list-of}
-use Rattle.model.specs.Analyse.{Facts, Known, Fact, last-writer, known-of, analyse}
+use Rattle.model.specs.Picture.{Inst, inst, absent, reads, writes, list-of}
+use Rattle.model.specs.Analyse.{Fact, last-writer}
 use Rattle.model.specs.Legal.{fact-at}
-use Rattle.effects.specs.Origin.{org-at, class-at, wrote-at, from-at, num}
-unfoldable pub use Rattle.effects.specs.Origin.{cell, place-at}
+use Rattle.facts.specs.declared.Fact as F
+use Rattle.facts.specs.Marks.{fact-in}
+use Rattle.effects.specs.Origin.{org-at, class-at, wrote-at}
+unfoldable pub use Rattle.effects.specs.Origin.{place-at}
 use Rattle.inst.specs.Record as I
 use Rattle.inst.specs.Record.{Listed, present, read-at}
 use Rattle.regfacts.specs.Written.{Fits}
 
--- ---- the words
-
--- a flag of position p: 4 creates, 8 barrier, 16 suspends
-unfoldable pub flag : List ℕ → ℕ → ℕ → Bool
-flag w k p = eqb (cell w p 3 / k % 2) 1
+-- ---- where values point
 
 -- where register r points, if its writer and 1 is d; before the chain, what was known before round 1
-unfoldable pub reg-org : List ℕ → List ℕ → ℕ → ℕ → ℕ
+unfoldable pub reg-org : List F.Fact → List ℕ → ℕ → ℕ → ℕ
 reg-org w regs r zero = cond (eqb (getD regs r 0 % 2) 1) 1 (cond (eqb (getD regs r 0 / 2 % 2) 1) 3 0)
-reg-org w regs r (suc d) = cell w d 2
+reg-org w regs r (suc d) = fact-in w d .org
 
 -- every second one, where the bit of `scalars` is 0
 unfoldable pub picked : ℕ → List ℕ → List ℕ
@@ -36,8 +33,8 @@ picked sc [] = []
 picked sc (a ∷ []) = []
 picked sc (a ∷ n ∷ rs) = cond (eqb (sc % 2) 0) (a ∷ picked (sc / 2) rs) (picked (sc / 2) rs)
 
--- the origins that p reads, by word 5: none, one, or those of a Cat's pieces, whose writers and 1 are d
-unfoldable pub origins : List ℕ → List ℕ → List ℕ → Inst → (ℕ → ℕ) → ℕ → List ℕ
+-- the origins that p reads, by the number in its fact: none, one, or those of a Cat's pieces, whose writers and 1 are d
+unfoldable pub origins : List F.Fact → List ℕ → List ℕ → Inst → (ℕ → ℕ) → ℕ → List ℕ
 origins w regs ops i d zero = []
 origins w regs ops i d (suc o) = cond (eqb (suc o) 4294967295) (map (λ r. reg-org w regs r (d r)) (picked (getD i 9 0) (list-of ops i))) (o ∷ [])
 
@@ -57,21 +54,21 @@ pub record View : Type 0 where
 unfoldable pub writer : (ℕ → List ℕ) → ℕ → ℕ → ℕ
 writer defs r p = last-below (λ q. mem r (defs q)) p
 
-abbrev pub defs-of : List ℕ → List ℕ → ℕ → List ℕ
-defs-of recs w q = writes (inst recs (cell w q 0))
+abbrev pub defs-of : List ℕ → List F.Fact → ℕ → List ℕ
+defs-of recs w q = writes (inst recs (fact-in w q .rec))
 
-abbrev pub reads-of : List ℕ → List ℕ → List ℕ → ℕ → List ℕ
-reads-of recs ops w q = reads ops (inst recs (cell w q 0))
+abbrev pub reads-of : List ℕ → List ℕ → List F.Fact → ℕ → List ℕ
+reads-of recs ops w q = reads ops (inst recs (fact-in w q .rec))
 
-abbrev pub view : List ℕ → List ℕ → List ℕ → List ℕ → View
+abbrev pub view : List ℕ → List ℕ → List F.Fact → List ℕ → View
 view recs ops w regs = record {
   defs = defs-of recs w;
   reads = reads-of recs ops w;
-  from = λ p. origins w regs ops (inst recs (cell w p 0)) (λ r. writer (defs-of recs w) r p) (cell w p 5);
-  wrote = λ p. cell w p 4;
-  creates = flag w 4;
-  barrier = flag w 8;
-  suspends = flag w 16;
+  from = λ p. origins w regs ops (inst recs (fact-in w p .rec)) (λ r. writer (defs-of recs w) r p) (fact-in w p .from);
+  wrote = λ p. fact-in w p .wrote;
+  creates = λ p. fact-in w p .creates;
+  barrier = λ p. fact-in w p .barrier;
+  suspends = λ p. fact-in w p .suspends;
 }
 
 -- the view stands for the facts of n positions
@@ -95,41 +92,20 @@ pub record Good (recs ops : List ℕ) (R g : ℕ) : Type 0 where
   pub slot : (s : ℕ) → s < 5 → (read-at (inst recs g) s ≡ absent) ⊎ (read-at (inst recs g) s < R)
   pub list : (k : ℕ) → k < length (list-of ops (inst recs g)) → getD (list-of ops (inst recs g)) k absent < R
 
--- the words of n positions over R registers
-pub record Safe (recs ops w : List ℕ) (n R : ℕ) : Type 0 where
+-- the facts of n positions over R registers
+pub record Safe (recs ops : List ℕ) (w : List F.Fact) (n R : ℕ) : Type 0 where
   pub few : n ≤ 800
-  pub room : 10 * n ≤ length w
-  pub good : (p : ℕ) → p < n → Good recs ops R (cell w p 0)
-  pub org : (p : ℕ) → p < n → cell w p 2 < 2004
-  pub wrote : (p : ℕ) → p < n → cell w p 4 ≤ 2004
-  pub from : (p : ℕ) → p < n → (cell w p 5 ≤ 2004) ⊎ (cell w p 5 ≡ 4294967295)
+  pub good : (p : ℕ) → p < n → Good recs ops R (fact-in w p .rec)
+  pub org : (p : ℕ) → p < n → fact-in w p .org < 2004
+  pub wrote : (p : ℕ) → p < n → fact-in w p .wrote ≤ 2004
+  pub from : (p : ℕ) → p < n → (fact-in w p .from ≤ 2004) ⊎ (fact-in w p .from ≡ 4294967295)
 
--- where word 9 of a position is 0, words 6 to 8 are all that it writes and reads
-pub record Brief (recs ops w : List ℕ) (n : ℕ) : Type 0 where
-  pub defs : (p : ℕ) → p < n → cell w p 9 ≡ 0 → defs-of recs w p ≡ present (cell w p 6)
-  pub reads : (p : ℕ) → p < n → cell w p 9 ≡ 0 → reads-of recs ops w p ≡ present (cell w p 7) ++ present (cell w p 8)
+-- where there is no more, a fact has all that its record writes and reads
+pub record Brief (recs ops : List ℕ) (w : List F.Fact) (n : ℕ) : Type 0 where
+  pub defs : (p : ℕ) → p < n → fact-in w p .more ≡ false → defs-of recs w p ≡ present (fact-in w p .def)
+  pub reads : (p : ℕ) → p < n → fact-in w p .more ≡ false → reads-of recs ops w p ≡ present (fact-in w p .use0) ++ present (fact-in w p .use1)
 
--- the words stand for the chain's facts
-pub record Told (recs ops w regs : List ℕ) (n : ℕ) (run : List Fact) : Type 0 where
+-- they stand for the chain's facts
+pub record Told (recs ops : List ℕ) (w : List F.Fact) (regs : List ℕ) (n : ℕ) (run : List Fact) : Type 0 where
   pub stands : Stands (view recs ops w regs) n run
-  pub class : (p : ℕ) → p < n → fact-at run p .does .class ≡ class-at (cell w p 1)
-
--- ---- what `analyse` says of the words, from which the above follows
-
--- the words of position p, record number g, stand for the fact f of instruction i; where word 5 is 4294967295, i is a Cat of three
--- registers and a list
-pub record Says (w ops : List ℕ) (i : Inst) (p : ℕ) (f : Fact) : Type 0 where
-  pub class : class-at (cell w p 1) ≡ f .does .class
-  pub org : org-at (cell w p 2) ≡ f .does .org
-  pub flags : cell w p 3 ≡ num (f .does .len) + 2 * num (f .does .layout) + 4 * num (f .does .creates) + 8 * num (f .does .barrier) + 16 * num (f .suspends)
-  pub wrote : wrote-at (cell w p 4) ≡ f .does .wrote
-  pub from : (cell w p 5 ≡ 4294967295 → ⊥) → from-at (cell w p 5) [] ≡ f .does .from
-  pub cat : cell w p 5 ≡ 4294967295 → (row (kind i) .arm ≡ cat) × (drop 3 (reads ops i) ≡ list-of ops i)
-
--- the chain's records, its facts, and the facts G of before round 1 in the registers' flags
-pub record Heard (G : Facts) (recs ops w regs places : List ℕ) (run : List Fact) : Type 0 where
-  pub is-run : run ≡ analyse G ops [] (map (inst recs) places)
-  pub numbers : (k : ℕ) → k < length places → cell w k 0 ≡ getD places k 0
-  pub says : (p : ℕ) → p < length places → Says w ops (inst recs (cell w p 0)) p (fact-at run p)
-  pub ro : (r : ℕ) → eqb (getD regs r 0 % 2) 1 ≡ known-of G r .ro
-  pub frame : (r : ℕ) → eqb (getD regs r 0 / 2 % 2) 1 ≡ known-of G r .frame
+  pub class : (p : ℕ) → p < n → fact-at run p .does .class ≡ class-at (fact-in w p .class)

@@ -1,40 +1,39 @@
--- The words that `analyse` leaves of a chain are what the plan asks: they stand for the chain's facts, and their numbers are small.
+-- The structs that `analyse` leaves of a chain are what the plan asks: they stand for the chain's facts, and their numbers are small.
 -- Assumes nothing.
 use mathlib.Core.Path.{_≡_, refl, sym, ap, _∙_, subst}
 use mathlib.Core.Logic.{inl, inr, ⊎-elim}
-use mathlib.Core.Bool.{Bool, cond}
-use mathlib.Core.List.{List, [], _∷_, map}
+use mathlib.Core.List.{List, [], map}
 use Prim.Native.Nat.{ℕ, zero, suc, _/_, _%_, _≤_, _<_}
 use native.Mathlib.Nat.{zero-add}
 use native.Mathlib.Omega.{arith}
-use borrow.Author.Tests.{ne-eqb}
 use lib.Dec.{eqb}
-use lib.ListN.{getD, length, take, drop, length-map, List·getD-eq-default}
+use lib.ListN.{getD, length, take, length-map, List·getD-eq-default}
 use lib.Seq.{getD-take, take-all, length-take-le}
 use Rattle.words.specs.Lists.{In, upto}
 use Rattle.words.proofs.Bools.{eq?, lt?}
 use Rattle.words.proofs.Lists.{getD-map}
 use Rattle.words.proofs.Members.{in-left, in-right, in-concat, map-in, in-range, in-getD, in-index}
-use Rattle.model.specs.Kinds.{row, cat, reading}
-use Rattle.model.specs.Picture.{Picture, Inst, inst, absent, kind, roles, slots, chosen, reads, list-of}
-use Rattle.model.specs.Analyse.{Facts, Known, unknown, Fact, Org, analyse, known-of, last-writer}
+use Rattle.model.specs.Kinds.{reading}
+use Rattle.model.specs.Picture.{Picture, Inst, inst, absent, roles, slots, chosen, reads, list-of}
+use Rattle.model.specs.Analyse.{Facts, Known, unknown, Fact, analyse, known-of, last-writer}
 use Rattle.model.specs.Move.{chain-places}
 use Rattle.laws.proofs.Analysed.{length-analyse}
 use Rattle.inst.specs.Record.{read-at, present}
 use Rattle.inst.proofs.Rest.{reads-by-place}
-use Rattle.effects.specs.Origin.{org-at, from-at}
+use Rattle.facts.specs.declared.Fact as F
 use Rattle.chains.specs.declared.chain.Chain.{Chain}
 use Rattle.chains.specs.Chain.{blocks-of}
 use Rattle.regfacts.specs.Flags.{Seen, flags-of}
-use Rattle.analyse.specs.State.{pack, plain, Words, State}
+use Rattle.analyse.specs.State.{plain, State}
 use Rattle.analyse.specs.Step as S
 use Rattle.analyse.specs.Step.{Analysed}
 use Rattle.analyse.proofs.Looked.{ro-bit, frame-bit}
-use Rattle.legalset.specs.Chain.{cell, place-at, writer, defs-of, view, Good, Safe, Brief, Told, Says, Heard}
+use Rattle.legalset.specs.Chain.{place-at, writer, defs-of, view, Good, Safe, Brief, Told}
 use Rattle.legalset.proofs.Lasting.{writer-is}
-use Rattle.legalset.proofs.Telling as telling
 use Rattle.summary.specs.Passes.{Ended}
 use Rattle.summary.proofs.Places.{present-in}
+use Rattle.plan.proofs.Telling as telling
+use Rattle.plan.proofs.Telling.{Heard}
 
 -- ---- one record
 
@@ -61,25 +60,6 @@ module _ {recs ops : List ℕ} {R g : ℕ} (h : S.Good recs ops R g) where
     list = λ k l. low (getD (list-of ops i) k absent) (in-right (getD (list-of ops i) k absent) (chosen reading (roles i) (slots i)) (list-of ops i) (in-getD absent (list-of ops i) k l));
   }
 
--- ---- the words of one position
-
--- where it is not the code of a Cat, what is read is in the word
-from-plain : (n : ℕ) (os : List Org) → (n ≡ 4294967295 → ⊥) → from-at n os ≡ os → from-at n [] ≡ os
-unfolding from-at
-from-plain zero os k e = e
-from-plain (suc n) os k e = let z = ne-eqb (suc n) 4294967295 k in ap (λ (b : Bool). cond b [] (org-at n ∷ [])) z ∙ sym (ap (λ (b : Bool). cond b os (org-at n ∷ [])) z) ∙ e
-
-says : {w : List ℕ} {p : ℕ} {f : Fact} (ops : List ℕ) (i : Inst) → Words w p f → (cell w p 5 ≡ 4294967295 → (row (kind i) .arm ≡ cat) × (drop 3 (reads ops i) ≡ list-of ops i)) → Says w ops i p f
-unfolding pack
-says {w} {p} {f} ops i s c = record {
-  class = s .class;
-  org = s .org;
-  flags = s .flags;
-  wrote = s .wrote;
-  from = λ k. from-plain (cell w p 5) (f .does .from) k (s .from);
-  cat = c;
-}
-
 -- ---- the whole chain
 
 same-place : (a b : ℕ) → place-at a ≡ place-at b → a ≡ b
@@ -89,11 +69,10 @@ same-place zero (suc b) e = let z : _≡_ {A = ℕ} 0 1 = cc in absurd (omega ar
 same-place (suc a) zero e = let z : _≡_ {A = ℕ} 0 1 = cc in absurd (omega arith)
 same-place (suc a) (suc b) e = cc
 
-module _ {recs ops regs w bounds : List ℕ} {c : Chain} {R n : ℕ} {regs′ w′ : List ℕ} (a : Analysed recs ops regs w bounds c R n regs′ w′) where
+module _ {recs ops regs : List ℕ} {w : List F.Fact} {bounds : List ℕ} {c : Chain} {R n : ℕ} {regs′ : List ℕ} {w′ : List F.Fact} (a : Analysed recs ops regs w bounds c R n regs′ w′) where
   pub safe : Safe recs ops w′ n R
   safe = record {
     few = a .short;
-    room = let h = a .safe .room in omega arith;
     good = λ p h. good-of (a .holds p h .good);
     org = λ p h. a .safe .near p h .org;
     wrote = λ p h. a .safe .near p h .wrote;
@@ -139,10 +118,8 @@ module _ {recs ops regs w bounds : List ℕ} {c : Chain} {R n : ℕ} {regs′ w�
     heard = record {
       is-run = refl;
       numbers = λ k h. a .numbers P eb k (subst (λ (x : ℕ). k < x) (sym (a .positions P eb)) h);
-      says = λ p h.
-          let l : p < n = subst (λ (x : ℕ). p < x) (sym (a .positions P eb)) h in
-          let z = a .holds p l in
-          says ops (inst recs (cell w′ p 0)) (state .each p (subst (λ (x : ℕ). p < x) (sym long) l)) (λ e. (z .cat e, z .good .readable .three (z .cat e)));
+      stands = λ p h. state .each p (subst (λ (x : ℕ). p < x) (sym (long ∙ a .positions P eb)) h);
+      cat = λ p h e. let z = a .holds p (subst (λ (x : ℕ). p < x) (sym (a .positions P eb)) h) in (z .cat e, z .good .readable .three (z .cat e));
       ro = λ r. ⊎-elim (λ (h : r < R). ro-bit (known-of G r) (getD copy r 0) (flags r h))
           (λ (h : R ≤ r). ap (λ (x : ℕ). eqb (x % 2) 1) (nothing r h .0) ∙ sym (ap (λ (k : Known). k .ro) (nothing r h .1))) (lt? r R);
       frame = λ r. ⊎-elim (λ (h : r < R). frame-bit (known-of G r) (getD copy r 0) (flags r h))

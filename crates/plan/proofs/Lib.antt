@@ -5,4 +5,5 @@ pub mod Turning
 pub mod Deciding
 pub mod Choosing
 pub mod Looping
+pub mod Telling
 pub mod Heard

@@ -13,8 +13,8 @@ use Rattle.words.proofs.Bools.{clash, bool?}
 use Rattle.model.specs.Analyse as M
 use Rattle.model.specs.Legal.{greatest}
 use Rattle.facts.specs.declared.Fact.{Fact}
-use Rattle.analyse.specs.Cells.{cells}
-use Rattle.legalset.specs.Chain.{cell, view, Safe, Brief}
+use Rattle.facts.specs.Marks.{fact-in, bare}
+use Rattle.legalset.specs.Chain.{view, Safe, Brief}
 use Rattle.legalset.specs.Marks.{Passed}
 use Rattle.legalset.specs.Rules.{begins, pass-ok}
 use Rattle.plan.specs.declared.sweep.Tally.{Tally}
@@ -25,7 +25,7 @@ use Rattle.plan.specs.Cycle.{sweep-of, Readied, Next, Choosable, Chose}
 use Rattle.legality.proofs.Marking.{members-low, past-marks}
 use Rattle.plan.proofs.Cycling.{to-go, to-go-less}
 use Rattle.plan.proofs.Choosing.{Choosing, choosing-first, choosing-more, choosing-end}
-use Rattle.plan.proofs.Sweeping.{swept-cells, swept-long}
+use Rattle.plan.proofs.Sweeping.{swept-bare, swept-long}
 use Rattle.plan.proofs.Turning.{marks-long, started, pass-back, pass-forth, around-on, swept-around, summed-near}
 
 -- before a turn: c and the slices came from z and those at the entry
@@ -35,15 +35,15 @@ pub record Looping (recs ops regs : List ℕ) (z : Cycle) (work₀ : List ℕ) (
   pub m : c .m ≡ z .m
   pub n : c .n ≡ z .n
   pub least : c .least ≡ z .least
-  pub cells-same : cells fs ≡ cells fs₀
+  pub bare-same : bare fs ≡ bare fs₀
   pub long : length fs ≡ length fs₀
   pub around : Around (z .s) (length regs) work₀ work
   pub start : c .first ≡ true → (work ≡ work₀) × (c .ahead ≡ false)
   pub goes : c .first ≡ true → c .go ≡ true
-  pub on : c .first ≡ false → Choosing recs ops regs (cells fs₀) work₀ c work ls fs
+  pub on : c .first ≡ false → Choosing recs ops regs (bare fs₀) work₀ c work ls fs
 
 pub looping-none : {recs ops regs work ls : List ℕ} {fs : List Fact} {z : Cycle} → Choosable recs ops regs work fs z → Looping recs ops regs z work fs z work ls fs
-looping-none h = record { o = refl; s = refl; m = refl; n = refl; least = refl; cells-same = refl; long = refl; around = record { size = refl; below = refl; behind = refl }; start = λ e. (refl, h .ahead); goes = λ e. h .go; on = λ e. clash (h .first) e }
+looping-none h = record { o = refl; s = refl; m = refl; n = refl; least = refl; bare-same = refl; long = refl; around = record { size = refl; below = refl; behind = refl }; start = λ e. (refl, h .ahead); goes = λ e. h .go; on = λ e. clash (h .first) e }
 
 -- what is at hand for the registers' words
 pub ready-may : {recs ops regs work₀ work ls : List ℕ} {fs₀ fs : List Fact} {z c : Cycle} → Choosable recs ops regs work₀ fs₀ z → Looping recs ops regs z work₀ fs₀ c work ls fs → c .s + length regs ≤ length work
@@ -68,8 +68,8 @@ sweep-may {recs} {ops} {regs} {work₀} {work} {ls} {work′} {ls′} {fs₀} {f
     let long = h .long in
     let l = i .long in
     record {
-      safe = subst (λ (w : List ℕ). Safe recs ops w (c .n) (length regs)) (sym (i .cells-same)) (subst (λ (n : ℕ). Safe recs ops (cells fs₀) n (length regs)) (sym e) (h .safe));
-      brief = subst (λ (w : List ℕ). Brief recs ops w (c .n)) (sym (i .cells-same)) (subst (Brief recs ops (cells fs₀)) (sym e) (h .brief));
+      safe = subst (λ (w : List Fact). Safe recs ops w (c .n) (length regs)) (sym (i .bare-same)) (subst (λ (n : ℕ). Safe recs ops (bare fs₀) n (length regs)) (sym e) (h .safe));
+      brief = subst (λ (w : List Fact). Brief recs ops w (c .n)) (sym (i .bare-same)) (subst (Brief recs ops (bare fs₀)) (sym e) (h .brief));
       near = λ u v. subst (λ (q : List ℕ). Near (part (c .s) (length regs) q)) (sym (r .ahead u v .0)) (summed-near (i .on u .sum v));
       row = omega arith;
       room = omega arith;
@@ -91,22 +91,22 @@ module _ {recs ops regs work₀ work ls work′ ls′ work″ ls″ : List ℕ} 
   in-x = let e = i .n in let k = i .m in let g = h .in-x in omega arith
 
   -- what was dropped
-  pub sweep-pass : c .first ≡ false → Passed (pass-ok (view recs ops (cells fs₀) regs) (c .n) (c .ahead)) 0 (c .m) (marks (c .n) fs) (marks (c .n) fs″) (b .count)
-      × (c .ahead ≡ false → Summed recs (cells fs₀) (c .n) 0 (part (c .s) (length regs) work″) ls″ (marks (c .n) fs″))
+  pub sweep-pass : c .first ≡ false → Passed (pass-ok (view recs ops (bare fs₀) regs) (c .n) (c .ahead)) 0 (c .m) (marks (c .n) fs) (marks (c .n) fs″) (b .count)
+      × (c .ahead ≡ false → Summed recs (bare fs₀) (c .n) 0 (part (c .s) (length regs) work″) ls″ (marks (c .n) fs″))
   sweep-pass e = go (bool? (c .ahead))
     where
-      go : (c .ahead ≡ true) ⊎ (c .ahead ≡ false) → Passed (pass-ok (view recs ops (cells fs₀) regs) (c .n) (c .ahead)) 0 (c .m) (marks (c .n) fs) (marks (c .n) fs″) (b .count)
-          × (c .ahead ≡ false → Summed recs (cells fs₀) (c .n) 0 (part (c .s) (length regs) work″) ls″ (marks (c .n) fs″))
+      go : (c .ahead ≡ true) ⊎ (c .ahead ≡ false) → Passed (pass-ok (view recs ops (bare fs₀) regs) (c .n) (c .ahead)) 0 (c .m) (marks (c .n) fs) (marks (c .n) fs″) (b .count)
+          × (c .ahead ≡ false → Summed recs (bare fs₀) (c .n) 0 (part (c .s) (length regs) work″) ls″ (marks (c .n) fs″))
       go (inl v) =
           let y = r .ahead e v in (
-            pass-forth may (i .cells-same) in-x e v (subst (λ (q : List ℕ). Summed recs (cells fs₀) (c .n) 0 (part (c .s) (length regs) q) ls′ (marks (c .n) fs)) (sym (y .0))
-                (subst (λ (q : List ℕ). Summed recs (cells fs₀) (c .n) 0 (part (c .s) (length regs) work) q (marks (c .n) fs)) (sym (y .1)) (i .on e .sum v)))
+            pass-forth may (i .bare-same) in-x e v (subst (λ (q : List ℕ). Summed recs (bare fs₀) (c .n) 0 (part (c .s) (length regs) q) ls′ (marks (c .n) fs)) (sym (y .0))
+                (subst (λ (q : List ℕ). Summed recs (bare fs₀) (c .n) 0 (part (c .s) (length regs) work) q (marks (c .n) fs)) (sym (y .1)) (i .on e .sum v)))
                 (ap (λ (q : List ℕ). getD q 2007 0 % 1024) (sym (y .1))) (ap (λ (q : List ℕ). getD q 2006 0 % 1024) (sym (y .1))) (ap (λ (x : Bool). cond x (c .m) (c .n)) v) sw,
             λ u. clash v u,
           )
       go (inr v) =
           let y = r .back e v in
-          let p = pass-back may (i .cells-same) in-x e v (y .0) (y .1) (subst (λ (k : ℕ). Swept recs ops regs (sweep-of c ls) work′ ls′ fs a k work″ ls″ fs″ b) (ap (λ (x : Bool). cond x (c .m) (c .n)) v) sw) in
+          let p = pass-back may (i .bare-same) in-x e v (y .0) (y .1) (subst (λ (k : ℕ). Swept recs ops regs (sweep-of c ls) work′ ls′ fs a k work″ ls″ fs″ b) (ap (λ (x : Bool). cond x (c .m) (c .n)) v) sw) in
           (p .0, λ u. p .1)
 
   pub next-may : c .first ≡ false → b .count ≤ c .left
@@ -119,7 +119,7 @@ module _ {recs ops regs work₀ work ls work′ ls′ work″ ls″ : List ℕ} 
     m = x .m ∙ i .m;
     n = x .n ∙ i .n;
     least = x .least ∙ i .least;
-    cells-same = swept-cells sw ∙ i .cells-same;
+    bare-same = swept-bare sw ∙ i .bare-same;
     long = swept-long sw ∙ i .long;
     around = around-on (i .around) (subst (λ (s : ℕ). Around s (length regs) work work″) (i .s) (around-on (r .around) (swept-around sw)));
     start = λ e. clash e (x .first);
@@ -127,14 +127,14 @@ module _ {recs ops regs work₀ work ls work′ ls′ work″ ls″ : List ℕ} 
     on = λ _. on (bool? (c .first));
   }
     where
-      on : (c .first ≡ true) ⊎ (c .first ≡ false) → Choosing recs ops regs (cells fs₀) work₀ t work″ ls″ fs″
+      on : (c .first ≡ true) ⊎ (c .first ≡ false) → Choosing recs ops regs (bare fs₀) work₀ t work″ ls″ fs″
       on (inl e) =
           let v = i .start e .1 in
           let k : sweep-of c ls .k ≡ c .n = ap (λ (x : Bool). cond x (c .m) (c .n)) v in
-          let d = subst (λ (w : List ℕ). Ended recs w (c .n) regs) (sym (i .cells-same)) (subst (λ (n : ℕ). Ended recs (cells fs₀) n regs) (sym (i .n)) (h .ended)) in
+          let d = subst (λ (w : List Fact). Ended recs w (c .n) regs) (sym (i .bare-same)) (subst (λ (n : ℕ). Ended recs (bare fs₀) n regs) (sym (i .n)) (h .ended)) in
           let q = started may d e v in-x (subst (λ (k : ℕ). Swept recs ops regs (sweep-of c ls) work′ ls′ fs a k work″ ls″ fs″ b) k sw) in
           choosing-first x e (q .1) (marks-long (c .n) fs″ (let l = swept-long sw in let l₀ = i .long in let g = h .long in let n = i .n in omega arith))
-          (λ p. q .2 p ∙ ap₂ (λ (w bits : List ℕ). begins (view recs ops w regs) (c .n) (λ y. eqb (cell w y 1) 1) (c .m) (λ r₁. is-in bits (64 * c .o + r₁)) p) (i .cells-same) (r .kept e .0 ∙ i .start e .0))
+          (λ p. q .2 p ∙ ap₂ (λ (w : List Fact) (bits : List ℕ). begins (view recs ops w regs) (c .n) (λ y. eqb (fact-in w y .class) 1) (c .m) (λ r₁. is-in bits (64 * c .o + r₁)) p) (i .bare-same) (r .kept e .0 ∙ i .start e .0))
       on (inr e) = let p = sweep-pass e in choosing-more x e (i .on e) (p .0) (p .1)
 
   -- fewer sweeps are to come
@@ -158,16 +158,16 @@ module _ {recs ops regs work₀ work ls work′ ls′ work″ ls″ : List ℕ} 
 -- no sweep is to come
 pub looping-end : {recs ops regs work₀ work ls : List ℕ} {fs₀ fs : List Fact} {z c : Cycle} → Choosable recs ops regs work₀ fs₀ z → Looping recs ops regs z work₀ fs₀ c work ls fs → c .go ≡ false
     → Chose recs ops regs z work₀ fs₀ work fs (c .left)
-looping-end {recs} {ops} {regs} {work₀} {work} {ls} {fs₀} {fs} {z} {c} h i e = record { set = set (bool? (c .first)); around = i .around; cells-same = i .cells-same; long = i .long }
+looping-end {recs} {ops} {regs} {work₀} {work} {ls} {fs₀} {fs} {z} {c} h i e = record { set = set (bool? (c .first)); around = i .around; bare-same = i .bare-same; long = i .long }
   where
-    set : (c .first ≡ true) ⊎ (c .first ≡ false) → Greatest recs ops (cells fs₀) regs work₀ (z .o) (marks (z .n) fs) (z .m) (z .n) (z .least) (c .left)
+    set : (c .first ≡ true) ⊎ (c .first ≡ false) → Greatest recs ops (bare fs₀) regs work₀ (z .o) (marks (z .n) fs) (z .m) (z .n) (z .least) (c .left)
     set (inl y) = clash (i .goes y) e
     set (inr y) =
-        subst (λ (o : ℕ). Greatest recs ops (cells fs₀) regs work₀ o (marks (z .n) fs) (z .m) (z .n) (z .least) (c .left)) (i .o)
-        (subst (λ (n : ℕ). Greatest recs ops (cells fs₀) regs work₀ (c .o) (marks n fs) (z .m) n (z .least) (c .left)) (i .n)
-        (subst (λ (m : ℕ). Greatest recs ops (cells fs₀) regs work₀ (c .o) (marks (c .n) fs) m (c .n) (z .least) (c .left)) (i .m)
-        (subst (λ (k : ℕ). Greatest recs ops (cells fs₀) regs work₀ (c .o) (marks (c .n) fs) (c .m) (c .n) k (c .left)) (i .least)
-        (choosing-end (subst (λ (n : ℕ). Safe recs ops (cells fs₀) n (length regs)) (sym (i .n)) (h .safe)) (let a = i .n in let k = i .m in let g = h .in-x in omega arith) (i .on y) e))))
+        subst (λ (o : ℕ). Greatest recs ops (bare fs₀) regs work₀ o (marks (z .n) fs) (z .m) (z .n) (z .least) (c .left)) (i .o)
+        (subst (λ (n : ℕ). Greatest recs ops (bare fs₀) regs work₀ (c .o) (marks n fs) (z .m) n (z .least) (c .left)) (i .n)
+        (subst (λ (m : ℕ). Greatest recs ops (bare fs₀) regs work₀ (c .o) (marks (c .n) fs) m (c .n) (z .least) (c .left)) (i .m)
+        (subst (λ (k : ℕ). Greatest recs ops (bare fs₀) regs work₀ (c .o) (marks (c .n) fs) (c .m) (c .n) k (c .left)) (i .least)
+        (choosing-end (subst (λ (n : ℕ). Safe recs ops (bare fs₀) n (length regs)) (sym (i .n)) (h .safe)) (let a = i .n in let k = i .m in let g = h .in-x in omega arith) (i .on y) e))))
 
 -- no position: no sweep is needed
 pub chose-none : {recs ops regs work : List ℕ} {fs : List Fact} {z : Cycle} → Choosable recs ops regs work fs z → z .n ≡ 0 → Chose recs ops regs z work fs work fs 0
@@ -179,7 +179,7 @@ chose-none {recs} {ops} {regs} {work} {fs} {z} h e = record {
     count = λ _ run needed _ _. empty run needed;
   };
   around = record { size = refl; below = refl; behind = refl };
-  cells-same = refl;
+  bare-same = refl;
   long = refl;
 }
   where

@@ -1,73 +1,26 @@
--- The turns of a sweep: what the facts' numbers say, and that each turn's visit may be made. Assumes nothing.
-use mathlib.Core.Path.{_≡_, refl, sym, ap, _∙_, subst}
+-- The turns of a sweep: what the facts say, and that each turn's visit may be made. Assumes nothing.
+use mathlib.Core.Path.{_≡_, refl, sym, _∙_, subst}
 use mathlib.Core.Logic.{_⊎_, inl, inr}
 use mathlib.Core.Bool.{Bool, true, false, not, _&&_, cond}
 use mathlib.Core.List.{List}
 use Prim.Native.Nat.{ℕ, _+_, _*_, _-_, _/_, _%_, _≤_, _<_, max}
 use native.Mathlib.Omega.{arith}
-use lib.Dec.{eqb}
 use lib.ListN.{getD, length, length-set}
 use Rattle.words.specs.Lists.{hit, mem}
 use Rattle.words.proofs.Bools.{bool?, hit-le}
-use Rattle.effects.specs.Origin.{num}
 use Rattle.facts.specs.declared.Fact.{Fact}
-use Rattle.facts.specs.Marks.{no-fact, marked}
-use Rattle.analyse.specs.State.{pack}
-use Rattle.analyse.specs.Cells as C
-use Rattle.analyse.specs.Cells.{cells}
-use Rattle.analyse.proofs.Cells.{told, cells-marked}
-use Rattle.legalset.specs.Chain.{cell, flag}
-use Rattle.legalset.proofs.Telling.{at-4, at-8, at-16}
+use Rattle.facts.specs.Marks.{no-fact, marked, bare}
+use Rattle.facts.proofs.Bare.{bare-shows, bare-marked}
 use Rattle.plan.specs.declared.sweep.Sweep.{Sweep}
 use Rattle.plan.specs.declared.sweep.Tally.{Tally}
 use Rattle.summary.specs.Passes.{over, stamp, fact-word, Stamped, Near, Small, Shows}
 use Rattle.plan.specs.Sweep.{part, place, Visitable, Sweepable, Swept, none, more}
 use Rattle.summary.proofs.Wording.{written, readable, small}
 
--- ---- the numbers of a fact
+-- ---- a fact without its mark
 
-num-no : (b : Bool) → b ≡ false → num b ≡ 0
-unfolding num
-num-no b e = ap num e
-
-module _ (l y m b s : Bool) where
-  creates-in : eqb (pack l y m b s / 4 % 2) 1 ≡ m
-  unfolding pack
-  creates-in = at-4 (pack l y m b s) l y m b s refl
-
-  barrier-in : eqb (pack l y m b s / 8 % 2) 1 ≡ b
-  unfolding pack
-  barrier-in = at-8 (pack l y m b s) l y m b s refl
-
-  suspends-in : eqb (pack l y m b s / 16 % 2) 1 ≡ s
-  unfolding pack
-  suspends-in = at-16 (pack l y m b s) l y m b s refl
-
-pub shown : (fs : List Fact) (p : ℕ) → Shows (cells fs) p (getD fs p no-fact)
-unfolding flag
-shown fs p = record {
-  rec = t .rec;
-  class = t .class;
-  org = t .org;
-  creates = ap (λ (x : ℕ). eqb (x / 4 % 2) 1) flags ∙ creates-in (f .len) (f .layout) (f .creates) (f .barrier) (f .suspends);
-  barrier = ap (λ (x : ℕ). eqb (x / 8 % 2) 1) flags ∙ barrier-in (f .len) (f .layout) (f .creates) (f .barrier) (f .suspends);
-  suspends = ap (λ (x : ℕ). eqb (x / 16 % 2) 1) flags ∙ suspends-in (f .len) (f .layout) (f .creates) (f .barrier) (f .suspends);
-  wrote = t .wrote;
-  from = t .from;
-  def = t .def;
-  use0 = t .use0;
-  use1 = t .use1;
-  more = λ e. t .more ∙ num-no (f .more) e;
-}
-  where
-    f : Fact
-    f = getD fs p no-fact
-
-    t : C.Told (cells fs) p (getD fs p no-fact)
-    t = told fs p
-
-    flags : cell (cells fs) p 3 ≡ pack (getD fs p no-fact .len) (getD fs p no-fact .layout) (getD fs p no-fact .creates) (getD fs p no-fact .barrier) (getD fs p no-fact .suspends)
-    flags = told fs p .flags
+pub shown : (fs : List Fact) (p : ℕ) → Shows (bare fs) p (getD fs p no-fact)
+shown fs p = record { same = bare-shows fs p }
 
 -- ---- turn by turn
 
@@ -88,9 +41,9 @@ near-next {f} {l} {st} {st′} b m k d = record { org = λ r h. let u = subst (�
     go false x h = h
 
 module _ {recs ops regs work ls : List ℕ} {fs : List Fact} {g : Sweep} {a : Tally} where
-  pub swept-cells : {i : ℕ} {work′ ls′ : List ℕ} {fs′ : List Fact} {a′ : Tally} → Swept recs ops regs g work ls fs a i work′ ls′ fs′ a′ → cells fs′ ≡ cells fs
-  swept-cells none = refl
-  swept-cells (more i work′ ls′ work″ ls″ fs′ a′ a″ s v) = cells-marked fs′ (place g i) (a″ .keep) ∙ swept-cells s
+  pub swept-bare : {i : ℕ} {work′ ls′ : List ℕ} {fs′ : List Fact} {a′ : Tally} → Swept recs ops regs g work ls fs a i work′ ls′ fs′ a′ → bare fs′ ≡ bare fs
+  swept-bare none = refl
+  swept-bare (more i work′ ls′ work″ ls″ fs′ a′ a″ s v) = bare-marked fs′ (place g i) (a″ .keep) ∙ swept-bare s
 
   pub swept-long : {i : ℕ} {work′ ls′ : List ℕ} {fs′ : List Fact} {a′ : Tally} → Swept recs ops regs g work ls fs a i work′ ls′ fs′ a′ → length fs′ ≡ length fs
   swept-long none = refl
@@ -109,8 +62,8 @@ module _ {recs ops regs work ls : List ℕ} {fs : List Fact} {g : Sweep} {a : Ta
       go (inr e) y = let x = v .counted e in let z = hit-le (getD fs′ (place g i) no-fact .member && not (a″ .keep)) in omega arith
 
   module _ {k : ℕ} (r : Sweepable recs ops regs work fs g a k) where
-    says : {i : ℕ} {work′ ls′ : List ℕ} {fs′ : List Fact} {a′ : Tally} → Swept recs ops regs g work ls fs a i work′ ls′ fs′ a′ → (p : ℕ) → Shows (cells fs) p (getD fs′ p no-fact)
-    says {fs′ = fs′} s p = subst (λ (w : List ℕ). Shows w p (getD fs′ p no-fact)) (swept-cells s) (shown fs′ p)
+    says : {i : ℕ} {work′ ls′ : List ℕ} {fs′ : List Fact} {a′ : Tally} → Swept recs ops regs g work ls fs a i work′ ls′ fs′ a′ → (p : ℕ) → Shows (bare fs) p (getD fs′ p no-fact)
+    says {fs′ = fs′} s p = subst (λ (w : List Fact). Shows w p (getD fs′ p no-fact)) (swept-bare s) (shown fs′ p)
 
     swept-near : {i : ℕ} {work′ ls′ : List ℕ} {fs′ : List Fact} {a′ : Tally} → i ≤ k → g .first ≡ false → g .ahead ≡ true → Swept recs ops regs g work ls fs a i work′ ls′ fs′ a′ → Near (part (g .s) (length regs) work′)
     swept-near h e u none = r .near e u

@@ -6,7 +6,7 @@ use Prim.Native.Nat.{ℕ, _+_, _-_, _%_, _≤_}
 use lib.Dec.{eqb, leb}
 use lib.ListN.{getD, length, replicate}
 use Rattle.facts.specs.declared.Fact.{Fact}
-use Rattle.analyse.specs.Cells.{cells}
+use Rattle.facts.specs.Marks.{bare}
 use Rattle.legalset.specs.Chain.{Safe, Brief}
 use Rattle.plan.specs.declared.sweep.Sweep.{Sweep}
 use Rattle.plan.specs.declared.sweep.Tally.{Tally}
@@ -39,9 +39,9 @@ pub record Next (c : Cycle) (a : Tally) (r : Cycle) : Type 0 where
 
 -- what the loop over sweeps asks: a chain's facts, a row and the registers' words in the work, and that the start comes next
 pub record Choosable (recs ops regs work : List ℕ) (fs : List Fact) (c : Cycle) : Type 0 where
-  pub safe : Safe recs ops (cells fs) (c .n) (length regs)
-  pub brief : Brief recs ops (cells fs) (c .n)
-  pub ended : Ended recs (cells fs) (c .n) regs
+  pub safe : Safe recs ops (bare fs) (c .n) (length regs)
+  pub brief : Brief recs ops (bare fs) (c .n)
+  pub ended : Ended recs (bare fs) (c .n) regs
   pub in-x : c .m ≤ c .n
   pub row : c .o ≤ length work
   pub room : c .s + length regs ≤ length work
@@ -52,7 +52,7 @@ pub record Choosable (recs ops regs work : List ℕ) (fs : List Fact) (c : Cycle
 
 -- the marks are the greatest legal set, of r members, or that has fewer than `least`; nothing else of the facts and of the work is changed
 pub record Chose (recs ops regs : List ℕ) (c : Cycle) (work : List ℕ) (fs : List Fact) (work′ : List ℕ) (fs′ : List Fact) (r : ℕ) : Type 0 where
-  pub set : Greatest recs ops (cells fs) regs work (c .o) (marks (c .n) fs′) (c .m) (c .n) (c .least) r
+  pub set : Greatest recs ops (bare fs) regs work (c .o) (marks (c .n) fs′) (c .m) (c .n) (c .least) r
   pub around : Around (c .s) (length regs) work work′
-  pub cells-same : cells fs′ ≡ cells fs
+  pub bare-same : bare fs′ ≡ bare fs
   pub long : length fs′ ≡ length fs

@@ -2,14 +2,14 @@
 -- Assumes nothing.
 use mathlib.Core.Path.{_≡_}
 use mathlib.Core.Bool.{Bool, true, false, not, _&&_, cond}
-use mathlib.Core.List.{List}
+use mathlib.Core.List.{List, map}
 use Prim.Native.Nat.{ℕ, _+_, _-_, _≤_, _<_}
 use lib.Dec.{ltb}
 use lib.ListN.{getD, length, set, take, drop}
 use Rattle.words.specs.Lists.{hit}
 use Rattle.facts.specs.declared.Fact.{Fact}
-use Rattle.facts.specs.Marks.{no-fact, marked}
-use Rattle.analyse.specs.Cells.{cells, marks-of}
+use Rattle.facts.specs.Marks.{no-fact, marked, bare}
+use Rattle.effects.specs.Origin.{num}
 use Rattle.legalset.specs.Chain.{Safe, Brief}
 use Rattle.plan.specs.declared.sweep.Sweep.{Sweep}
 use Rattle.plan.specs.declared.sweep.Tally.{Tally}
@@ -19,7 +19,11 @@ use Rattle.summary.specs.Passes.{begin-test, Near, Written, Readable, Small, Ba
 abbrev pub part : ℕ → ℕ → List ℕ → List ℕ
 part s R work = take R (drop s work)
 
--- the marks of the first n facts
+-- the marks of all facts: 1 for a member, 0 for none
+unfoldable pub marks-of : List Fact → List ℕ
+marks-of fs = map (λ f. num (f .member)) fs
+
+-- those of the first n facts
 abbrev pub marks : ℕ → List Fact → List ℕ
 marks n fs = take n (marks-of fs)
 
@@ -49,8 +53,8 @@ pub record Visit (recs ops regs : List ℕ) (g : Sweep) (f : Fact) (a : Tally) (
 
 -- what a sweep of k turns asks
 pub record Sweepable (recs ops regs work : List ℕ) (fs : List Fact) (g : Sweep) (a : Tally) (k : ℕ) : Type 0 where
-  pub safe : Safe recs ops (cells fs) (g .n) (length regs)
-  pub brief : Brief recs ops (cells fs) (g .n)
+  pub safe : Safe recs ops (bare fs) (g .n) (length regs)
+  pub brief : Brief recs ops (bare fs) (g .n)
   pub near : g .first ≡ false → g .ahead ≡ true → Near (part (g .s) (length regs) work)
   pub row : g .o ≤ length work
   pub room : g .s + length regs ≤ length work

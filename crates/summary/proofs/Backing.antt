@@ -17,8 +17,9 @@ use Rattle.inst.specs.Record.{write-at}
 use Rattle.words.specs.Last.{last-below}
 use Rattle.effects.specs.Origin.{num}
 use Rattle.facts.specs.declared.Fact.{Fact}
+use Rattle.facts.specs.Marks.{fact-in}
 use Rattle.regfacts.specs.Written.{Fits}
-use Rattle.legalset.specs.Chain.{view, cell, flag, defs-of, reads-of, writer, Safe}
+use Rattle.legalset.specs.Chain.{view, defs-of, reads-of, writer, Safe}
 use Rattle.legalset.specs.Marks.{in-set, sifted, lost, Inside, Passed}
 use Rattle.legalset.specs.Rules.{last-kept, pending, backward-ok}
 use Rattle.legalset.proofs.Dropping.{passed-none, passed-down}
@@ -76,35 +77,32 @@ backed {recs} {ops} {f} {st = st} {b = b} t e s a n = record {
 -- ---- one position, by marks
 
 -- position q was looked at from behind: st, lasts and marks after those before
-pub record GoneBack (w : List ℕ) (defs reads : ℕ → List ℕ) (q : ℕ) (st ls marks st′ ls′ marks′ : List ℕ) (r : ℕ) : Type 0 where
+pub record GoneBack (w : List Fact) (defs reads : ℕ → List ℕ) (q : ℕ) (st ls marks st′ ls′ marks′ : List ℕ) (r : ℕ) : Type 0 where
   pub size : length st′ ≡ length st
   pub each : (x : ℕ) → x < length st → getD st′ x 0 ≡ stamp 1024 0 1024 (not (in-set marks′ q) && mem x (reads q)) (stamp 1024 (kept-word (in-set marks′ q) q) 0 (mem x (defs q)) (getD st x 0))
   pub notes : Noted w (in-set marks′) q ls ls′
   pub sifts : marks′ ≡ sifted marks q (all (λ x. leb (getD st x 0) 1023) (defs q))
   pub loses : r ≡ lost marks q (all (λ x. leb (getD st x 0) 1023) (defs q))
 
-module _ {w : List ℕ} {q : ℕ} {f : Fact} (t : Shows w q f) (L : ℕ → Bool) {ls : List ℕ} (size : length ls ≡ 2008) (few : q < 800) (low : cell w q 4 ≤ 2004) where
+module _ {w : List Fact} {q : ℕ} {f : Fact} (t : Shows w q f) (L : ℕ → Bool) {ls : List ℕ} (size : length ls ≡ 2008) (few : q < 800) (low : fact-in w q .wrote ≤ 2004) where
   pub noted-by : (b : Bool) {ls′ : List ℕ} → b ≡ L q → ls′ ≡ noting f b q ls → Noted w L q ls ls′
   unfolding noting
   noted-by true e d = noted-member w L q ls e refl size few d
-  noted-by false e d = noted-all w L q ls e refl size few low (d ∙ same)
-    where
-      same : later-in 2007 (cond (f .suspends) (q + 1) 0) (later-in 2006 (cond (f .barrier) (q + 1) 0) (later-in (f .wrote) (q + 1) ls))
-          ≡ later-in 2007 (cond (flag w 16 q) (q + 1) 0) (later-in 2006 (cond (flag w 8 q) (q + 1) 0) (later-in (cell w q 4) (q + 1) ls))
-      same = ap₂ (λ (b : Bool) (l : List ℕ). later-in 2007 (cond b (q + 1) 0) l) (sym (t .suspends)) (ap₂ (λ (b : Bool) (o : ℕ). later-in 2006 (cond b (q + 1) 0) (later-in o (q + 1) ls)) (sym (t .barrier)) (sym (t .wrote)))
+  noted-by false e d =
+      noted-all w L q ls e refl size few low (d ∙ ap (λ (x : Fact). later-in 2007 (cond (x .suspends) (q + 1) 0) (later-in 2006 (cond (x .barrier) (q + 1) 0) (later-in (x .wrote) (q + 1) ls))) (sym (t .same)))
 
-pub gone-back : {recs ops w : List ℕ} {f : Fact} {n R q : ℕ} {st ls st′ ls′ : List ℕ} {keep : Bool} (S : List ℕ) → Safe recs ops w n R → q < n → length ls ≡ 2008 → Shows w q f → q < length S → getD S q 0 ≡ num (f .member)
+pub gone-back : {recs ops : List ℕ} {w : List Fact} {f : Fact} {n R q : ℕ} {st ls st′ ls′ : List ℕ} {keep : Bool} (S : List ℕ) → Safe recs ops w n R → q < n → length ls ≡ 2008 → Shows w q f → q < length S → getD S q 0 ≡ num (f .member)
     → Backed recs ops f q st ls st′ ls′ keep → GoneBack w (defs-of recs w) (reads-of recs ops w) q st ls S st′ ls′ (set S q (num keep)) (hit (f .member && not keep))
 gone-back {recs} {ops} {w} {f} {n} {R} {q} {st} {ls} {st′} {ls′} {keep} S s l size t h e d = record {
   size = d .size;
-  each = λ x u. d .each x u ∙ ap₂ (λ (b : Bool) (g : ℕ). stamp 1024 0 1024 (not b && mem x (reads ops (inst recs g))) (stamp 1024 (kept-word b q) 0 (mem x (writes (inst recs g))) (getD st x 0))) (sym (now-in S q keep h)) (sym (t .rec));
+  each = λ x u. d .each x u ∙ ap₂ (λ (b : Bool) (y : Fact). stamp 1024 0 1024 (not b && mem x (reads ops (inst recs (y .rec)))) (stamp 1024 (kept-word b q) 0 (mem x (writes (inst recs (y .rec)))) (getD st x 0))) (sym (now-in S q keep h)) (sym (t .same));
   notes = let few = s .few in noted-by t (in-set (set S q (num keep))) size (omega arith) (s .wrote q l) keep (sym (now-in S q keep h)) (d .notes);
   sifts = is-sifted S q (f .member) (all (λ x. leb (getD st x 0) 1023) (defs-of recs w q)) e kept;
   loses = is-lost S q (f .member) (all (λ x. leb (getD st x 0) 1023) (defs-of recs w q)) e kept;
 }
   where
     kept : keep ≡ (f .member && all (λ x. leb (getD st x 0) 1023) (defs-of recs w q))
-    kept = d .keeps ∙ ap (λ (g : ℕ). f .member && all (λ x. leb (getD st x 0) 1023) (writes (inst recs g))) (sym (t .rec))
+    kept = d .keeps ∙ ap (λ (y : Fact). f .member && all (λ x. leb (getD st x 0) 1023) (writes (inst recs (y .rec)))) (sym (t .same))
 
 -- ---- the pass
 
@@ -128,11 +126,11 @@ unfolding stamp over
 read-step s true b h = let k = hit-le b in omega arith
 read-step s false b h = refl
 
-module _ (marks : List ℕ) {recs ops w : List ℕ} {n R q : ℕ} (s : Safe recs ops w n R) (h : q < n) {st : List ℕ} (size : length st ≡ R) (i : Awaits (defs-of recs w) (reads-of recs ops w) (in-set marks) n (q + 1) st) where
+module _ (marks : List ℕ) {recs ops : List ℕ} {w : List Fact} {n R q : ℕ} (s : Safe recs ops w n R) (h : q < n) {st : List ℕ} (size : length st ≡ R) (i : Awaits (defs-of recs w) (reads-of recs ops w) (in-set marks) n (q + 1) st) where
   pub back-is : all (λ x. leb (getD st x 0) 1023) (defs-of recs w q) ≡ backward-ok (defs-of recs w) (reads-of recs ops w) n (in-set marks) q
   unfolding backward-ok
   back-is = all-on (λ x. leb (getD st x 0) 1023) (λ r. not (pending (defs-of recs w) (reads-of recs ops w) (in-set marks) r (q + 1) (n - (q + 1)))) (defs-of recs w q)
-      (λ r j. ap (λ (y : ℕ). leb y 1023) (i .each r (subst (λ (m : ℕ). r < m) (sym size) (writes-low recs R (cell w q 0) (s .good q h .fits) r j)))
+      (λ r j. ap (λ (y : ℕ). leb y 1023) (i .each r (subst (λ (m : ℕ). r < m) (sym size) (writes-low recs R (fact-in w q .rec) (s .good q h .fits) r j)))
       ∙ none (since (λ z. not (in-set marks z) && mem r (defs-of recs w z)) (q + 1) (n - (q + 1))) (pending (defs-of recs w) (reads-of recs ops w) (in-set marks) r (q + 1) (n - (q + 1)))
       (since-low (λ z. not (in-set marks z) && mem r (defs-of recs w z)) (q + 1) (n - (q + 1))))
     where
@@ -185,7 +183,7 @@ module _ (marks : List ℕ) {recs ops w : List ℕ} {n R q : ℕ} (s : Safe recs
             ∙ ap (λ (x : ℕ). since (λ z. not (in-set marks′ z) && mem r (defs-of recs w z)) q x + 1024 * hit (pending (defs-of recs w) (reads-of recs ops w) (in-set marks′) r q x)) e
 
 -- the positions from q on are done
-pub record Backing (recs ops w : List ℕ) (n q : ℕ) (st₀ marks₀ st ls marks : List ℕ) (r : ℕ) : Type 0 where
+pub record Backing (recs ops : List ℕ) (w : List Fact) (n q : ℕ) (st₀ marks₀ st ls marks : List ℕ) (r : ℕ) : Type 0 where
   pub size : length st ≡ length st₀
   pub awaits : Awaits (defs-of recs w) (reads-of recs ops w) (in-set marks) n q st
   pub notes : Notes w (in-set marks) n q ls
@@ -194,7 +192,7 @@ pub record Backing (recs ops w : List ℕ) (n q : ℕ) (st₀ marks₀ st ls mar
 outside : {n : ℕ} {S : List ℕ} → Inside n S → (x : ℕ) → n ≤ x → in-set S x ≡ false
 outside {n} {S} i x h = ⊎-elim (λ (e : in-set S x ≡ true). let z = i .low x (true-T (in-set S x) e) in absurd (omega arith)) (λ (e : in-set S x ≡ false). e) (bool? (in-set S x))
 
-pub backing-none : (recs ops w : List ℕ) (n : ℕ) (st : List ℕ) {ls : List ℕ} (marks : List ℕ) → st ≡ replicate (length st) 0 → ls ≡ replicate 2008 0 → Inside n marks → Backing recs ops w n n st marks st ls marks 0
+pub backing-none : (recs ops : List ℕ) (w : List Fact) (n : ℕ) (st : List ℕ) {ls : List ℕ} (marks : List ℕ) → st ≡ replicate (length st) 0 → ls ≡ replicate 2008 0 → Inside n marks → Backing recs ops w n n st marks st ls marks 0
 unfolding pending since
 backing-none recs ops w n st marks e f g = record {
   size = refl;
@@ -206,7 +204,7 @@ backing-none recs ops w n st marks e f g = record {
   passed = passed-none (behind (view recs ops w []) n) n marks;
 }
 
-pub backing-more : {recs ops w : List ℕ} {n q : ℕ} {st₀ marks₀ st ls marks st′ ls′ marks′ : List ℕ} {r d : ℕ} → Safe recs ops w n (length st₀) → 0 < q → q ≤ n
+pub backing-more : {recs ops : List ℕ} {w : List Fact} {n q : ℕ} {st₀ marks₀ st ls marks st′ ls′ marks′ : List ℕ} {r d : ℕ} → Safe recs ops w n (length st₀) → 0 < q → q ≤ n
     → Backing recs ops w n q st₀ marks₀ st ls marks r → GoneBack w (defs-of recs w) (reads-of recs ops w) (q - 1) st ls marks st′ ls′ marks′ d → Backing recs ops w n (q - 1) st₀ marks₀ st′ ls′ marks′ (r + d)
 backing-more {recs} {ops} {w} {n} {q} {st₀} {marks₀} {st} {ls} {marks} s l h i k =
     let e : q ≡ q - 1 + 1 = omega arith in
@@ -219,7 +217,7 @@ backing-more {recs} {ops} {w} {n} {q} {st₀} {marks₀} {st} {ls} {marks} s l h
     }
 
 -- what is awaited and noted at the end is the summary of the marks
-stamps-of : {recs ops w : List ℕ} {n R : ℕ} {L : ℕ → Bool} {st : List ℕ} → Safe recs ops w n R → Awaits (defs-of recs w) (reads-of recs ops w) L n 0 st → Stamps w (defs-of recs w) L L n 0 st
+stamps-of : {recs ops : List ℕ} {w : List Fact} {n R : ℕ} {L : ℕ → Bool} {st : List ℕ} → Safe recs ops w n R → Awaits (defs-of recs w) (reads-of recs ops w) L n 0 st → Stamps w (defs-of recs w) L L n 0 st
 unfolding last-kept writer last-below writer-word
 stamps-of {recs} {ops} {w} {n} {R} {L} {st} s i = record { kept = λ r h. parts r h .0; wrote = λ r h. parts r h .1 }
   where
@@ -232,7 +230,7 @@ stamps-of {recs} {ops} {w} {n} {R} {L} {st} s i = record { kept = λ r h. parts 
         let k = hit-le (pending (defs-of recs w) (reads-of recs ops w) L r 0 (n - 0)) in
         (omega arith, omega arith)
 
-pub backing-end : {recs ops w : List ℕ} {n q : ℕ} {st₀ marks₀ st ls marks : List ℕ} {r : ℕ} → Safe recs ops w n (length st₀) → Backing recs ops w n q st₀ marks₀ st ls marks r → q ≤ 0
+pub backing-end : {recs ops : List ℕ} {w : List Fact} {n q : ℕ} {st₀ marks₀ st ls marks : List ℕ} {r : ℕ} → Safe recs ops w n (length st₀) → Backing recs ops w n q st₀ marks₀ st ls marks r → q ≤ 0
     → Passed (backward-ok (defs-of recs w) (reads-of recs ops w) n) 0 n marks₀ marks r × (length st ≡ length st₀) × Summed recs w n 0 st ls marks
 backing-end {recs} {ops} {w} {n} {q} {marks₀ = marks₀} {st = st} {ls = ls} {marks = marks} {r = r} s i h =
     let e : q ≡ 0 = omega arith in

@@ -18,7 +18,8 @@ use Rattle.words.proofs.Lasts.{last-step, last-low}
 use Rattle.model.specs.Picture.{Inst, inst, absent, reads, writes, list-of}
 use Rattle.effects.specs.Origin.{num}
 use Rattle.facts.specs.declared.Fact.{Fact}
-use Rattle.legalset.specs.Chain.{view, cell, flag, defs-of, writer, reg-org, picked, origins, Good, Safe}
+use Rattle.facts.specs.Marks.{fact-in}
+use Rattle.legalset.specs.Chain.{view, defs-of, writer, reg-org, picked, origins, Good, Safe}
 use Rattle.legalset.specs.Marks.{in-set, sifted, lost, own, Passed}
 use Rattle.legalset.specs.Rules.{last-kept, when-in, read-fine, org-fine, own-memory, still-fine, reads-ok, origins-ok, suspends-ok, memory-ok, own-ok, forward-ok}
 use Rattle.legalset.proofs.Lasting.{writer-low}
@@ -52,7 +53,7 @@ list-in-low recs ops R g h r i = let z = in-index absent r (list-of ops (inst re
 -- ---- what is stamped of a writer
 
 -- whether it is in the set
-word-in : (w : List ℕ) (L : ℕ → Bool) (d x : ℕ) → x / 2048 ≡ writer-word w L d → eqb (x / 4096 % 2) 1 ≡ when-in L d
+word-in : (w : List Fact) (L : ℕ → Bool) (d x : ℕ) → x / 2048 ≡ writer-word w L d → eqb (x / 4096 % 2) 1 ≡ when-in L d
 unfolding writer-word when-in
 word-in w L zero x e = let z : x / 4096 % 2 ≡ 0 = omega arith in ap (λ (y : ℕ). eqb y 1) z
 word-in w L (suc d) x e = let k = hit-le (L d) in let z : x / 4096 % 2 ≡ hit (L d) = omega arith in ap (λ (y : ℕ). eqb y 1) z ∙ is (L d)
@@ -62,12 +63,12 @@ word-in w L (suc d) x e = let k = hit-le (L d) in let z : x / 4096 % 2 ≡ hit (
     is false = refl
 
 -- where it points
-word-points : (w regs : List ℕ) (L : ℕ → Bool) (r d x : ℕ) → x / 2048 ≡ writer-word w L d → word-org regs r x ≡ reg-org w regs r d
+word-points : (w : List Fact) (regs : List ℕ) (L : ℕ → Bool) (r d x : ℕ) → x / 2048 ≡ writer-word w L d → word-org regs r x ≡ reg-org w regs r d
 unfolding writer-word word-org reg-org
 word-points w regs L r zero x e = ap (λ (b : Bool). cond b (x / 8192) (reg-org [] regs r 0)) (lt-leb 2048 x (omega arith))
-word-points w regs L r (suc d) x e = let k = hit-le (L d) in let z : x / 8192 ≡ cell w d 2 = omega arith in ap (λ (b : Bool). cond b (x / 8192) (reg-org [] regs r 0)) (le-leb 2048 x (omega arith)) ∙ z
+word-points w regs L r (suc d) x e = let k = hit-le (L d) in let z : x / 8192 ≡ fact-in w d .org = omega arith in ap (λ (b : Bool). cond b (x / 8192) (reg-org [] regs r 0)) (le-leb 2048 x (omega arith)) ∙ z
 
-module _ (w regs ops : List ℕ) (i : Inst) where
+module _ (w : List Fact) (regs ops : List ℕ) (i : Inst) where
   froms-origins : (st : List ℕ) (d : ℕ → ℕ) → ((r : ℕ) → In r (list-of ops i) → word-org regs r (getD st r 0) ≡ reg-org w regs r (d r)) → (x : ℕ) → froms regs ops i st x ≡ origins w regs ops i d x
   unfolding origins froms
   froms-origins st d h zero = refl
@@ -75,7 +76,7 @@ module _ (w regs ops : List ℕ) (i : Inst) where
       ap (λ (l : List ℕ). cond (eqb (suc o) 4294967295) l (o ∷ []))
       (map-on (λ r. word-org regs r (getD st r 0)) (λ r. reg-org w regs r (d r)) (picked (getD i 9 0) (list-of ops i)) (λ r j. h r (in-picked (getD i 9 0) (list-of ops i) r j)))
 
-  reg-low : (n : ℕ) → ((p : ℕ) → p < n → cell w p 2 < 2004) → (r d : ℕ) → d ≤ n → reg-org w regs r d < 2005
+  reg-low : (n : ℕ) → ((p : ℕ) → p < n → fact-in w p .org < 2004) → (r d : ℕ) → d ≤ n → reg-org w regs r d < 2005
   unfolding reg-org
   reg-low n h r zero l = go (eqb (getD regs r 0 % 2) 1) (eqb (getD regs r 0 / 2 % 2) 1)
     where
@@ -85,7 +86,7 @@ module _ (w regs ops : List ℕ) (i : Inst) where
       go false false = omega arith
   reg-low n h r (suc d) l = let z = h d (omega arith) in omega arith
 
-  origins-low : (n : ℕ) → ((p : ℕ) → p < n → cell w p 2 < 2004) → (d : ℕ → ℕ) → ((r : ℕ) → d r ≤ n) → (x : ℕ) → (x ≤ 2004) ⊎ (x ≡ 4294967295) → (o : ℕ) → In o (origins w regs ops i d x) → o < 2005
+  origins-low : (n : ℕ) → ((p : ℕ) → p < n → fact-in w p .org < 2004) → (d : ℕ → ℕ) → ((r : ℕ) → d r ≤ n) → (x : ℕ) → (x ≤ 2004) ⊎ (x ≡ 4294967295) → (o : ℕ) → In o (origins w regs ops i d x) → o < 2005
   unfolding origins
   origins-low n h d l zero b o j = absurd j
   origins-low n h d l (suc x) b o j = go (eqb (suc x) 4294967295) refl j
@@ -106,8 +107,8 @@ own-same L lasts o e =
     big x true e = le-leb 1024 x (omega arith)
     big x false e = lt-leb 1024 x (omega arith)
 
-module _ (regs marks : List ℕ) {recs ops w : List ℕ} {n R p : ℕ} (s : Safe recs ops w n R) (h : p < n) {L₀ : ℕ → Bool} {st lasts : List ℕ} {sus bar : ℕ} (size : length st ≡ R)
-    (x : Stamps w (defs-of recs w) L₀ (in-set marks) n p st) (y : Writes (λ q. cell w q 4) L₀ n lasts) (eb : bar ≡ last-kept L₀ (flag w 8) n) (es : sus ≡ last-kept L₀ (flag w 16) n)
+module _ (regs marks : List ℕ) {recs ops : List ℕ} {w : List Fact} {n R p : ℕ} (s : Safe recs ops w n R) (h : p < n) {L₀ : ℕ → Bool} {st lasts : List ℕ} {sus bar : ℕ} (size : length st ≡ R)
+    (x : Stamps w (defs-of recs w) L₀ (in-set marks) n p st) (y : Writes (λ q. fact-in w q .wrote) L₀ n lasts) (eb : bar ≡ last-kept L₀ (λ z. fact-in w z .barrier) n) (es : sus ≡ last-kept L₀ (λ z. fact-in w z .suspends) n)
     (fs : (j : ℕ) → j < 2006 → getD lasts j 0 / 1024 ≡ hit (member-at (in-set marks) 0 j)) where
   writer-at : (r : ℕ) → r < R → getD st r 0 / 2048 ≡ writer-word w (in-set marks) (writer (defs-of recs w) r p)
   writer-at r l = x .wrote r (subst (λ (m : ℕ). r < m) (sym size) l)
@@ -115,44 +116,44 @@ module _ (regs marks : List ℕ) {recs ops w : List ℕ} {n R p : ℕ} (s : Safe
   kept-at : (r : ℕ) → r < R → getD st r 0 % 1024 ≡ last-kept L₀ (λ q. mem r (defs-of recs w q)) n
   kept-at r l = x .kept r (subst (λ (m : ℕ). r < m) (sym size) l)
 
-  pub reads-are : all (read-test st p) (reads ops (inst recs (cell w p 0))) ≡ reads-ok (view recs ops w regs) n L₀ (in-set marks) p
+  pub reads-are : all (read-test st p) (reads ops (inst recs (fact-in w p .rec))) ≡ reads-ok (view recs ops w regs) n L₀ (in-set marks) p
   unfolding read-test reads-ok read-fine
-  reads-are = all-on (read-test st p) (λ r. read-fine (in-set marks) p (writer (defs-of recs w) r p) (last-kept L₀ (λ q. mem r (defs-of recs w q)) n)) (reads ops (inst recs (cell w p 0)))
-      (λ r i. let l = reads-low recs ops R (cell w p 0) (s .good p h) r i in
+  reads-are = all-on (read-test st p) (λ r. read-fine (in-set marks) p (writer (defs-of recs w) r p) (last-kept L₀ (λ q. mem r (defs-of recs w q)) n)) (reads ops (inst recs (fact-in w p .rec)))
+      (λ r i. let l = reads-low recs ops R (fact-in w p .rec) (s .good p h) r i in
       ap₂ (λ (a : Bool) (k : ℕ). a || leb k (p + 1)) (word-in w (in-set marks) (writer (defs-of recs w) r p) (getD st r 0) (writer-at r l)) (kept-at r l))
 
-  froms-are : from-test regs ops (inst recs (cell w p 0)) st lasts bar (cell w p 5) p ≡ origins-ok (view recs ops w regs) n L₀ p
+  froms-are : from-test regs ops (inst recs (fact-in w p .rec)) st lasts bar (fact-in w p .from) p ≡ origins-ok (view recs ops w regs) n L₀ p
   unfolding from-test org-test origins-ok
   froms-are =
-      ap (all (org-test lasts bar p)) (froms-origins w regs ops (inst recs (cell w p 0)) st (λ r. writer (defs-of recs w) r p)
-      (λ r i. word-points w regs (in-set marks) r (writer (defs-of recs w) r p) (getD st r 0) (writer-at r (list-in-low recs ops R (cell w p 0) (s .good p h) r i))) (cell w p 5))
-      ∙ all-on (org-test lasts bar p) (λ o. org-fine p (last-kept L₀ (flag w 8) n) (last-kept L₀ (λ q. eqb (cell w q 4) 1) n) (last-kept L₀ (λ q. eqb (cell w q 4) (o + 1)) n) o)
-      (origins w regs ops (inst recs (cell w p 0)) (λ r. writer (defs-of recs w) r p) (cell w p 5)) one
+      ap (all (org-test lasts bar p)) (froms-origins w regs ops (inst recs (fact-in w p .rec)) st (λ r. writer (defs-of recs w) r p)
+      (λ r i. word-points w regs (in-set marks) r (writer (defs-of recs w) r p) (getD st r 0) (writer-at r (list-in-low recs ops R (fact-in w p .rec) (s .good p h) r i))) (fact-in w p .from))
+      ∙ all-on (org-test lasts bar p) (λ o. org-fine p (last-kept L₀ (λ z. fact-in w z .barrier) n) (last-kept L₀ (λ q. eqb (fact-in w q .wrote) 1) n) (last-kept L₀ (λ q. eqb (fact-in w q .wrote) (o + 1)) n) o)
+      (origins w regs ops (inst recs (fact-in w p .rec)) (λ r. writer (defs-of recs w) r p) (fact-in w p .from)) one
     where
-      one : (o : ℕ) → In o (origins w regs ops (inst recs (cell w p 0)) (λ r. writer (defs-of recs w) r p) (cell w p 5))
-          → org-test lasts bar p o ≡ org-fine p (last-kept L₀ (flag w 8) n) (last-kept L₀ (λ q. eqb (cell w q 4) 1) n) (last-kept L₀ (λ q. eqb (cell w q 4) (o + 1)) n) o
+      one : (o : ℕ) → In o (origins w regs ops (inst recs (fact-in w p .rec)) (λ r. writer (defs-of recs w) r p) (fact-in w p .from))
+          → org-test lasts bar p o ≡ org-fine p (last-kept L₀ (λ z. fact-in w z .barrier) n) (last-kept L₀ (λ q. eqb (fact-in w q .wrote) 1) n) (last-kept L₀ (λ q. eqb (fact-in w q .wrote) (o + 1)) n) o
       one o i =
-          let l = origins-low w regs ops (inst recs (cell w p 0)) n (s .org) (λ r. writer (defs-of recs w) r p) (λ r. let z = writer-low (defs-of recs w) r p in omega arith) (cell w p 5) (s .from p h) o i in
+          let l = origins-low w regs ops (inst recs (fact-in w p .rec)) n (s .org) (λ r. writer (defs-of recs w) r p) (λ r. let z = writer-low (defs-of recs w) r p in omega arith) (fact-in w p .from) (s .from p h) o i in
           ap (λ (z : ℕ). org-fine p z (getD lasts 1 0 % 1024) (getD lasts (o + 1) 0 % 1024) o) eb
-          ∙ ap₂ (λ (a b : ℕ). org-fine p (last-kept L₀ (flag w 8) n) a b o) (y .each 1 (omega arith)) (y .each (o + 1) (omega arith))
+          ∙ ap₂ (λ (a b : ℕ). org-fine p (last-kept L₀ (λ z. fact-in w z .barrier) n) a b o) (y .each 1 (omega arith)) (y .each (o + 1) (omega arith))
 
   pub memory-are : {f : Fact} → Shows w p f → memory-test recs ops regs st lasts f bar p ≡ memory-ok (view recs ops w regs) n L₀ p
   unfolding memory-test memory-ok
-  memory-are t = ap₂ (λ (a b : Bool). a && b) (ap₂ (still-fine p bar) (sym (t .creates)) (sym (t .wrote)) ∙ ap (λ (z : ℕ). still-fine p z (flag w 4 p) (cell w p 4)) eb)
-      (ap₂ (λ (g x : ℕ). from-test regs ops (inst recs g) st lasts bar x p) (sym (t .rec)) (sym (t .from)) ∙ froms-are)
+  memory-are t = ap₂ (λ (a b : Bool). a && b) (ap (λ (y : Fact). still-fine p bar (y .creates) (y .wrote)) (sym (t .same)) ∙ ap (λ (z : ℕ). still-fine p z (fact-in w p .creates) (fact-in w p .wrote)) eb)
+      (ap (λ (y : Fact). from-test regs ops (inst recs (y .rec)) st lasts bar (y .from) p) (sym (t .same)) ∙ froms-are)
 
   pub suspends-are : leb sus (p + 1) ≡ suspends-ok (view recs ops w regs) n L₀ p
   unfolding suspends-ok
   suspends-are = ap (λ (z : ℕ). leb z (p + 1)) es
 
-  pub own-is : own-test lasts (cell w p 4) ≡ own-memory (in-set marks) (cell w p 4)
-  own-is = let k = s .wrote p h in own-same (in-set marks) lasts (cell w p 4) (fs (cell w p 4) (omega arith))
+  pub own-is : own-test lasts (fact-in w p .wrote) ≡ own-memory (in-set marks) (fact-in w p .wrote)
+  own-is = let k = s .wrote p h in own-same (in-set marks) lasts (fact-in w p .wrote) (fs (fact-in w p .wrote) (omega arith))
 
   pub stay-is : {f : Fact} → Shows w p f → stay-test recs ops regs st lasts f sus bar p ≡ forward-ok (view recs ops w regs) n L₀ (in-set marks) p
   unfolding stay-test forward-ok own-ok
   stay-is {f} t =
-      ap₂ (λ (a b : Bool). conj (a ∷ leb sus (p + 1) ∷ b ∷ own-test lasts (f .wrote) ∷ [])) (ap (λ (g : ℕ). all (read-test st p) (reads ops (inst recs g))) (sym (t .rec)) ∙ reads-are) (memory-are t)
-      ∙ ap₂ (λ (a b : Bool). conj (reads-ok (view recs ops w regs) n L₀ (in-set marks) p ∷ a ∷ memory-ok (view recs ops w regs) n L₀ p ∷ b ∷ [])) suspends-are (ap (own-test lasts) (sym (t .wrote)) ∙ own-is)
+      ap₂ (λ (a b : Bool). conj (a ∷ leb sus (p + 1) ∷ b ∷ own-test lasts (f .wrote) ∷ [])) (ap (λ (y : Fact). all (read-test st p) (reads ops (inst recs (y .rec)))) (sym (t .same)) ∙ reads-are) (memory-are t)
+      ∙ ap₂ (λ (a b : Bool). conj (reads-ok (view recs ops w regs) n L₀ (in-set marks) p ∷ a ∷ memory-ok (view recs ops w regs) n L₀ p ∷ b ∷ [])) suspends-are (ap (λ (y : Fact). own-test lasts (y .wrote)) (sym (t .same)) ∙ own-is)
 
 pub sifted-other : (S : List ℕ) (p : ℕ) (ok : Bool) (z : ℕ) → (z ≡ p → ⊥) → in-set (sifted S p ok) z ≡ in-set S z
 unfolding sifted in-set
@@ -163,13 +164,13 @@ sifted-other S p ok z n = go (in-set S p && not ok)
     go false = refl
 
 -- a set that is the same before p
-word-ext : (w : List ℕ) (L M : ℕ → Bool) (p d : ℕ) → d ≤ p → ((z : ℕ) → z < p → L z ≡ M z) → writer-word w L d ≡ writer-word w M d
+word-ext : (w : List Fact) (L M : ℕ → Bool) (p d : ℕ) → d ≤ p → ((z : ℕ) → z < p → L z ≡ M z) → writer-word w L d ≡ writer-word w M d
 unfolding writer-word
 word-ext w L M p zero h e = refl
-word-ext w L M p (suc d) h e = ap (λ (b : Bool). 1 + 2 * hit b + 4 * cell w d 2) (e d h)
+word-ext w L M p (suc d) h e = ap (λ (b : Bool). 1 + 2 * hit b + 4 * fact-in w d .org) (e d h)
 
 -- the next position's writers
-stamps-more : {w : List ℕ} {defs : ℕ → List ℕ} {L₀ L M : ℕ → Bool} {n p : ℕ} {st st′ : List ℕ} → ((z : ℕ) → z < p → L z ≡ M z) → Stamps w defs L₀ L n p st
+stamps-more : {w : List Fact} {defs : ℕ → List ℕ} {L₀ L M : ℕ → Bool} {n p : ℕ} {st st′ : List ℕ} → ((z : ℕ) → z < p → L z ≡ M z) → Stamps w defs L₀ L n p st
     → Stamped (defs p) 2048 0 (2048 * writer-word w M (suc p)) st st′ → Stamps w defs L₀ M n (p + 1) st′
 unfolding stamp over writer
 stamps-more {w} {defs} {L₀} {L} {M} {n} {p} {st} {st′} same i k = record { kept = λ r h. below r (subst (λ (m : ℕ). r < m) (k .size) h); wrote = λ r h. above r (subst (λ (m : ℕ). r < m) (k .size) h) }
@@ -248,7 +249,7 @@ module _ (S ls : List ℕ) (p : ℕ) (ok : Bool) (h : p < 800) (long : p < lengt
 -- ---- one position, by marks
 
 -- position p of fact f was looked at: st, lasts and marks after those before
-pub record GoneOn (recs ops w regs : List ℕ) (f : Fact) (sus bar p : ℕ) (st lasts marks st′ lasts′ marks′ : List ℕ) (r : ℕ) : Type 0 where
+pub record GoneOn (recs ops : List ℕ) (w : List Fact) (regs : List ℕ) (f : Fact) (sus bar p : ℕ) (st lasts marks st′ lasts′ marks′ : List ℕ) (r : ℕ) : Type 0 where
   pub stamped : Stamped (defs-of recs w p) 2048 0 (2048 * writer-word w (in-set marks′) (suc p)) st st′
   pub sifts : marks′ ≡ sifted marks p (stay-test recs ops regs st lasts f sus bar p)
   pub forgets : lasts′ ≡ forgot (in-set marks p && not (stay-test recs ops regs st lasts f sus bar p)) p lasts
@@ -289,19 +290,19 @@ unfolding in-set num
 now-in S p true h = ap (λ (x : ℕ). not (eqb x 0)) (getD-set-same S p 1 0 h)
 now-in S p false h = ap (λ (x : ℕ). not (eqb x 0)) (getD-set-same S p 0 0 h)
 
-pub gone-on : {recs ops w regs : List ℕ} {f : Fact} {sus bar p : ℕ} {st ls st′ ls′ : List ℕ} {keep : Bool} (S : List ℕ) → Shows w p f → p < length S → getD S p 0 ≡ num (f .member) → Forwarded recs ops regs f sus bar p st ls st′ ls′ keep
+pub gone-on : {recs ops : List ℕ} {w : List Fact} {regs : List ℕ} {f : Fact} {sus bar p : ℕ} {st ls st′ ls′ : List ℕ} {keep : Bool} (S : List ℕ) → Shows w p f → p < length S → getD S p 0 ≡ num (f .member) → Forwarded recs ops regs f sus bar p st ls st′ ls′ keep
     → GoneOn recs ops w regs f sus bar p st ls S st′ ls′ (set S p (num keep)) (hit (f .member && not keep))
 unfolding writer-word fact-word
 gone-on {recs} {ops} {w} {regs} {f} {sus} {bar} {p} {st} {ls} {st′} {ls′} {keep} S t h e d = record {
-  stamped = subst (λ (l : List ℕ). Stamped l 2048 0 (2048 * (1 + 2 * hit (in-set (set S p (num keep)) p) + 4 * cell w p 2)) st st′) (ap (λ (g : ℕ). writes (inst recs g)) (sym (t .rec)))
-      (subst (λ (x : ℕ). Stamped (writes (inst recs (f .rec))) 2048 0 x st st′) (ap₂ (λ (b : Bool) (o : ℕ). 2048 * (1 + 2 * hit b + 4 * o)) (sym (now-in S p keep h)) (sym (t .org))) (d .stamped));
+  stamped = subst (λ (y : Fact). Stamped (writes (inst recs (y .rec))) 2048 0 (2048 * (1 + 2 * hit (in-set (set S p (num keep)) p) + 4 * y .org)) st st′) (sym (t .same))
+      (subst (λ (b : Bool). Stamped (writes (inst recs (f .rec))) 2048 0 (2048 * (1 + 2 * hit b + 4 * f .org)) st st′) (sym (now-in S p keep h)) (d .stamped));
   sifts = is-sifted S p (f .member) (stay-test recs ops regs st ls f sus bar p) e (d .keeps);
   forgets = d .forgets ∙ ap (λ (b : Bool). forgot b p ls) (is-dropped S p (f .member) (stay-test recs ops regs st ls f sus bar p) e (d .keeps));
   loses = is-lost S p (f .member) (stay-test recs ops regs st ls f sus bar p) e (d .keeps);
 }
 
 -- the first p positions are done
-pub record Going (recs ops w regs : List ℕ) (n p : ℕ) (st₀ ls₀ marks₀ st ls marks : List ℕ) (r : ℕ) : Type 0 where
+pub record Going (recs ops : List ℕ) (w : List Fact) (regs : List ℕ) (n p : ℕ) (st₀ ls₀ marks₀ st ls marks : List ℕ) (r : ℕ) : Type 0 where
   pub size : length st ≡ length st₀
   pub stamps : Stamps w (defs-of recs w) (in-set marks₀) (in-set marks) n p st
   pub ls-size : length ls ≡ 2008
@@ -309,14 +310,14 @@ pub record Going (recs ops w regs : List ℕ) (n p : ℕ) (st₀ ls₀ marks₀ 
   pub flags : (j : ℕ) → j < 2006 → getD ls j 0 / 1024 ≡ hit (member-at (in-set marks) 0 j)
   pub passed : Passed (own (forward-ok (view recs ops w regs) n)) 0 p marks₀ marks r
 
-pub going-none : {recs ops w regs : List ℕ} {n : ℕ} {st lasts marks : List ℕ} → Summed recs w n 0 st lasts marks → Going recs ops w regs n 0 st lasts marks st lasts marks 0
+pub going-none : {recs ops : List ℕ} {w : List Fact} {regs : List ℕ} {n : ℕ} {st lasts marks : List ℕ} → Summed recs w n 0 st lasts marks → Going recs ops w regs n 0 st lasts marks st lasts marks 0
 going-none {recs} {ops} {w} {regs} {n} {st} {lasts} {marks} s = record { size = refl; stamps = s .stamps; ls-size = s .size; lows = λ j. refl; flags = s .flags; passed = passed-none (forward-ok (view recs ops w regs) n) 0 marks }
 
 -- the last kept writes are as they were
-writes-on : (w : List ℕ) {L : ℕ → Bool} {n : ℕ} {ls₀ ls : List ℕ} → ((j : ℕ) → getD ls j 0 % 1024 ≡ getD ls₀ j 0 % 1024) → Writes (λ q. cell w q 4) L n ls₀ → Writes (λ q. cell w q 4) L n ls
+writes-on : (w : List Fact) {L : ℕ → Bool} {n : ℕ} {ls₀ ls : List ℕ} → ((j : ℕ) → getD ls j 0 % 1024 ≡ getD ls₀ j 0 % 1024) → Writes (λ q. fact-in w q .wrote) L n ls₀ → Writes (λ q. fact-in w q .wrote) L n ls
 writes-on w f z = record { each = λ o h. f o ∙ z .each o h }
 
-module _ {recs ops w regs : List ℕ} {n p : ℕ} {st₀ ls₀ marks₀ st ls marks : List ℕ} {r : ℕ} (s : Safe recs ops w n (length st₀)) (h : p < n) (z : Summed recs w n 0 st₀ ls₀ marks₀) (i : Going recs ops w regs n p st₀ ls₀ marks₀ st ls marks r) where
+module _ {recs ops : List ℕ} {w : List Fact} {regs : List ℕ} {n p : ℕ} {st₀ ls₀ marks₀ st ls marks : List ℕ} {r : ℕ} (s : Safe recs ops w n (length st₀)) (h : p < n) (z : Summed recs w n 0 st₀ ls₀ marks₀) (i : Going recs ops w regs n p st₀ ls₀ marks₀ st ls marks r) where
   pub going-more : {f : Fact} {st′ ls′ marks′ : List ℕ} {d : ℕ} → Shows w p f → n ≤ length marks₀ → GoneOn recs ops w regs f (getD ls₀ 2007 0 % 1024) (getD ls₀ 2006 0 % 1024) p st ls marks st′ ls′ marks′ d
       → Going recs ops w regs n (p + 1) st₀ ls₀ marks₀ st′ ls′ marks′ (r + d)
   going-more {f} t long k = let few = s .few in let size = i .passed .size in record {
@@ -328,7 +329,7 @@ module _ {recs ops w regs : List ℕ} {n p : ℕ} {st₀ ls₀ marks₀ st ls ma
     passed = passed-up (forward-ok (view recs ops w regs) n) (forward-mono (view recs ops w regs) n) (i .passed) (stay-is regs marks s h (i .size) (i .stamps) (writes-on w (i .lows) (z .writes)) (z .barrier) (z .suspension) (i .flags) t) (k .sifts) (k .loses);
   }
 
-pub going-end : {recs ops w regs : List ℕ} {n p m : ℕ} {st₀ ls₀ marks₀ st ls marks : List ℕ} {r : ℕ} → Going recs ops w regs n p st₀ ls₀ marks₀ st ls marks r → p ≤ m → m ≤ p
+pub going-end : {recs ops : List ℕ} {w : List Fact} {regs : List ℕ} {n p m : ℕ} {st₀ ls₀ marks₀ st ls marks : List ℕ} {r : ℕ} → Going recs ops w regs n p st₀ ls₀ marks₀ st ls marks r → p ≤ m → m ≤ p
     → Passed (own (forward-ok (view recs ops w regs) n)) 0 m marks₀ marks r × (length st ≡ length st₀)
 going-end {recs} {ops} {w} {regs} {n} {p} {m} {marks₀ = marks₀} {marks = marks} {r = r} i a b =
     let e : p ≡ m = omega arith in (subst (λ (k : ℕ). Passed (own (forward-ok (view recs ops w regs) n)) 0 k marks₀ marks r) e (i .passed), i .size)

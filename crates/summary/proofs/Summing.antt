@@ -17,7 +17,8 @@ use Rattle.words.proofs.Lists.{getD-zeros}
 use Rattle.model.specs.Picture.{inst}
 use Rattle.inst.specs.Record.{Used, uses-of}
 use Rattle.facts.specs.declared.Fact.{Fact}
-use Rattle.legalset.specs.Chain.{cell, flag, Good, Safe}
+use Rattle.facts.specs.Marks.{fact-in}
+use Rattle.legalset.specs.Chain.{Good, Safe}
 use Rattle.legalset.specs.Rules.{last-kept}
 use Rattle.summary.specs.Passes.{since, noted, later-in, member-in, member-at, forgot, Notes, Noted, Writes, noting}
 
@@ -29,7 +30,7 @@ good-of {recs} {ops} {R} k e f = subst (λ (j : ℕ). Good recs ops R j) (sym (f
 pub used-at : {recs ops : List ℕ} {R g u : ℕ} → Good recs ops R g → u ≡ uses-of (inst recs g) → Used recs g u
 used-at k e = record { within = k .known .within; uses = e }
 
-pub safe-len : {recs ops w : List ℕ} {n : ℕ} {R R′ : ℕ} → Safe recs ops w n R → R′ ≡ R → Safe recs ops w n R′
+pub safe-len : {recs ops : List ℕ} {w : List Fact} {n : ℕ} {R R′ : ℕ} → Safe recs ops w n R → R′ ≡ R → Safe recs ops w n R′
 safe-len {recs} {ops} {w} {n} s e = subst (Safe recs ops w n) (sym e) s
 
 -- ---- all words 0
@@ -162,7 +163,7 @@ pub noting-out : (f : Fact) (b : Bool) (q : ℕ) (ls : List ℕ) {ls′ : List �
 unfolding noting
 noting-out f b q ls t e = e ∙ sym (ap (λ (x : Bool). noting f x q ls) t)
 
-pub noted-member : (w : List ℕ) (L : ℕ → Bool) (q : ℕ) (ls : List ℕ) {ls′ : List ℕ} {b : Bool} → b ≡ L q → b ≡ true → length ls ≡ 2008 → q < 800 → ls′ ≡ member-in q ls → Noted w L q ls ls′
+pub noted-member : (w : List Fact) (L : ℕ → Bool) (q : ℕ) (ls : List ℕ) {ls′ : List ℕ} {b : Bool} → b ≡ L q → b ≡ true → length ls ≡ 2008 → q < 800 → ls′ ≡ member-in q ls → Noted w L q ls ls′
 unfolding member-in
 noted-member w L q ls {ls′} e t s l d = record {
   size = ap length d ∙ length-set ls (2 * q + 5) _;
@@ -202,37 +203,37 @@ three x e false false f true true = omega arith
 three x e false false f true false = omega arith
 three x e false false f false g = omega arith
 
-pub noted-all : (w : List ℕ) (L : ℕ → Bool) (q : ℕ) (ls : List ℕ) {ls′ : List ℕ} {y : Bool} → y ≡ L q → y ≡ false → length ls ≡ 2008 → q < 800 → cell w q 4 ≤ 2004
-    → ls′ ≡ later-in 2007 (cond (flag w 16 q) (q + 1) 0) (later-in 2006 (cond (flag w 8 q) (q + 1) 0) (later-in (cell w q 4) (q + 1) ls)) → Noted w L q ls ls′
+pub noted-all : (w : List Fact) (L : ℕ → Bool) (q : ℕ) (ls : List ℕ) {ls′ : List ℕ} {y : Bool} → y ≡ L q → y ≡ false → length ls ≡ 2008 → q < 800 → fact-in w q .wrote ≤ 2004
+    → ls′ ≡ later-in 2007 (cond (fact-in w q .suspends) (q + 1) 0) (later-in 2006 (cond (fact-in w q .barrier) (q + 1) 0) (later-in (fact-in w q .wrote) (q + 1) ls)) → Noted w L q ls ls′
 unfolding noted
 noted-all w L q ls {ls′} e t s l h d = record {
-  size = ap length d ∙ later-size two 2007 (cond (flag w 16 q) (q + 1) 0) ∙ two-size;
+  size = ap length d ∙ later-size two 2007 (cond (fact-in w q .suspends) (q + 1) 0) ∙ two-size;
   each = λ j i.
-      ap (λ (x : List ℕ). getD x j 0 % 1024) d ∙ later-low two 2007 (cond (flag w 16 q) (q + 1) 0) j (omega (arith, s, two-size)) (flag-low (flag w 16 q) l refl)
-      ∙ ap (λ (x : ℕ). max x (cond (eqb 2007 j) (cond (flag w 16 q) (q + 1) 0) 0)) (later-low one 2006 (cond (flag w 8 q) (q + 1) 0) j (omega (arith, s, one-size)) (flag-low (flag w 8 q) l refl)
-      ∙ ap (λ (x : ℕ). max x (cond (eqb 2006 j) (cond (flag w 8 q) (q + 1) 0) 0)) (later-low ls (cell w q 4) (q + 1) j (omega arith) (omega arith)))
-      ∙ three (getD ls j 0 % 1024) (q + 1) (eqb (cell w q 4) j) (eqb 2006 j) (flag w 8 q) (eqb 2007 j) (flag w 16 q)
-      ∙ ap (λ (x : Bool). max (getD ls j 0 % 1024) (cond (not x && ((eqb (cell w q 4) j || (eqb 2006 j && flag w 8 q)) || (eqb 2007 j && flag w 16 q))) (q + 1) 0)) (sym t ∙ e);
+      ap (λ (x : List ℕ). getD x j 0 % 1024) d ∙ later-low two 2007 (cond (fact-in w q .suspends) (q + 1) 0) j (omega (arith, s, two-size)) (flag-low (fact-in w q .suspends) l refl)
+      ∙ ap (λ (x : ℕ). max x (cond (eqb 2007 j) (cond (fact-in w q .suspends) (q + 1) 0) 0)) (later-low one 2006 (cond (fact-in w q .barrier) (q + 1) 0) j (omega (arith, s, one-size)) (flag-low (fact-in w q .barrier) l refl)
+      ∙ ap (λ (x : ℕ). max x (cond (eqb 2006 j) (cond (fact-in w q .barrier) (q + 1) 0) 0)) (later-low ls (fact-in w q .wrote) (q + 1) j (omega arith) (omega arith)))
+      ∙ three (getD ls j 0 % 1024) (q + 1) (eqb (fact-in w q .wrote) j) (eqb 2006 j) (fact-in w q .barrier) (eqb 2007 j) (fact-in w q .suspends)
+      ∙ ap (λ (x : Bool). max (getD ls j 0 % 1024) (cond (not x && ((eqb (fact-in w q .wrote) j || (eqb 2006 j && fact-in w q .barrier)) || (eqb 2007 j && fact-in w q .suspends))) (q + 1) 0)) (sym t ∙ e);
   flags = λ j i.
-      ap (λ (x : List ℕ). getD x j 0 / 1024) d ∙ later-high two 2007 (cond (flag w 16 q) (q + 1) 0) j (omega (arith, s, two-size)) (flag-low (flag w 16 q) l refl)
-      ∙ later-high one 2006 (cond (flag w 8 q) (q + 1) 0) j (omega (arith, s, one-size)) (flag-low (flag w 8 q) l refl) ∙ later-high ls (cell w q 4) (q + 1) j (omega arith) (omega arith)
+      ap (λ (x : List ℕ). getD x j 0 / 1024) d ∙ later-high two 2007 (cond (fact-in w q .suspends) (q + 1) 0) j (omega (arith, s, two-size)) (flag-low (fact-in w q .suspends) l refl)
+      ∙ later-high one 2006 (cond (fact-in w q .barrier) (q + 1) 0) j (omega (arith, s, one-size)) (flag-low (fact-in w q .barrier) l refl) ∙ later-high ls (fact-in w q .wrote) (q + 1) j (omega arith) (omega arith)
       ∙ ap (λ (x : Bool). cond (x && eqb (2 * q + 5) j) 1 (getD ls j 0 / 1024)) (sym t ∙ e);
 }
   where
     one : List ℕ
-    one = later-in (cell w q 4) (q + 1) ls
+    one = later-in (fact-in w q .wrote) (q + 1) ls
 
     one-size : length one ≡ length ls
-    one-size = later-size ls (cell w q 4) (q + 1)
+    one-size = later-size ls (fact-in w q .wrote) (q + 1)
 
     two : List ℕ
-    two = later-in 2006 (cond (flag w 8 q) (q + 1) 0) one
+    two = later-in 2006 (cond (fact-in w q .barrier) (q + 1) 0) one
 
     two-size : length two ≡ length ls
-    two-size = later-size one 2006 (cond (flag w 8 q) (q + 1) 0) ∙ one-size
+    two-size = later-size one 2006 (cond (fact-in w q .barrier) (q + 1) 0) ∙ one-size
 
 -- no member from n on
-pub notes-none : (w : List ℕ) (L : ℕ → Bool) (n : ℕ) {ls : List ℕ} → ls ≡ replicate 2008 0 → ((x : ℕ) → n ≤ x → L x ≡ false) → Notes w L n n ls
+pub notes-none : (w : List Fact) (L : ℕ → Bool) (n : ℕ) {ls : List ℕ} → ls ≡ replicate 2008 0 → ((x : ℕ) → n ≤ x → L x ≡ false) → Notes w L n n ls
 unfolding since member-at
 notes-none w L n {ls} e f = record {
   size = ap length e ∙ length-replicate {A = ℕ} 2008 0;
@@ -289,7 +290,7 @@ member-step L M q j same = go (eq? (2 * q + 5) j)
         ∙ rest (M q) (hit ((leb 5 j && eqb (j % 2) 1) && (leb (q + 1) ((j - 5) / 2) && L ((j - 5) / 2)))) ∙ other (leb 5 j) (eqb (j % 2) 1) refl refl n
 
 -- position q besides, where the sets are the same behind it
-pub notes-more : {w : List ℕ} {L M : ℕ → Bool} {n q : ℕ} {ls ls′ : List ℕ} → q < n → ((z : ℕ) → suc q ≤ z → L z ≡ M z) → Notes w L n (q + 1) ls → Noted w M q ls ls′ → Notes w M n q ls′
+pub notes-more : {w : List Fact} {L M : ℕ → Bool} {n q : ℕ} {ls ls′ : List ℕ} → q < n → ((z : ℕ) → suc q ≤ z → L z ≡ M z) → Notes w L n (q + 1) ls → Noted w M q ls ls′ → Notes w M n q ls′
 unfolding since
 notes-more {w} {L} {M} {n} {q} {ls} {ls′} h same i k = record {
   size = k .size ∙ i .size;
@@ -308,23 +309,23 @@ notes-more {w} {L} {M} {n} {q} {ls} {ls′} h same i k = record {
 
 -- ---- the whole chain
 
-module _ {recs ops w : List ℕ} {L : ℕ → Bool} {n R : ℕ} {ls : List ℕ} (s : Safe recs ops w n R) (i : Notes w L n 0 ls) where
+module _ {recs ops : List ℕ} {w : List Fact} {L : ℕ → Bool} {n R : ℕ} {ls : List ℕ} (s : Safe recs ops w n R) (i : Notes w L n 0 ls) where
   word-is : (j : ℕ) → j < 2008 → (f : ℕ → Bool) → ((z : ℕ) → z < n → noted w j z ≡ f z) → getD ls j 0 % 1024 ≡ last-kept L f n
   unfolding last-kept
   word-is j h f e = i .each j h ∙ since-all (λ z. not (L z) && noted w j z) n ∙ last-ext (λ z. not (L z) && noted w j z) (λ z. not (L z) && f z) n (λ z l. ap (λ (b : Bool). not (L z) && b) (e z l))
 
-  pub notes-writes : Writes (λ q. cell w q 4) L n ls
+  pub notes-writes : Writes (λ q. fact-in w q .wrote) L n ls
   unfolding noted
   notes-writes = record {
-    each = λ o h. word-is o (omega arith) (λ q. eqb (cell w q 4) o) (λ z l.
-        ap (λ (b : Bool). (eqb (cell w z 4) o || (b && flag w 8 z)) || (eqb 2007 o && flag w 16 z)) (ne-eqb 2006 o (λ e. omega arith))
-        ∙ ap (λ (b : Bool). (eqb (cell w z 4) o || false) || (b && flag w 16 z)) (ne-eqb 2007 o (λ e. omega arith)) ∙ or-false (eqb (cell w z 4) o || false) ∙ or-false (eqb (cell w z 4) o));
+    each = λ o h. word-is o (omega arith) (λ q. eqb (fact-in w q .wrote) o) (λ z l.
+        ap (λ (b : Bool). (eqb (fact-in w z .wrote) o || (b && fact-in w z .barrier)) || (eqb 2007 o && fact-in w z .suspends)) (ne-eqb 2006 o (λ e. omega arith))
+        ∙ ap (λ (b : Bool). (eqb (fact-in w z .wrote) o || false) || (b && fact-in w z .suspends)) (ne-eqb 2007 o (λ e. omega arith)) ∙ or-false (eqb (fact-in w z .wrote) o || false) ∙ or-false (eqb (fact-in w z .wrote) o));
   }
 
-  pub notes-barrier : getD ls 2006 0 % 1024 ≡ last-kept L (flag w 8) n
+  pub notes-barrier : getD ls 2006 0 % 1024 ≡ last-kept L (λ z. fact-in w z .barrier) n
   unfolding noted
-  notes-barrier = word-is 2006 (omega arith) (flag w 8) (λ z l. let k = s .wrote z l in ap (λ (b : Bool). (b || flag w 8 z) || false) (ne-eqb (cell w z 4) 2006 (λ e. omega arith)) ∙ or-false (flag w 8 z))
+  notes-barrier = word-is 2006 (omega arith) (λ z. fact-in w z .barrier) (λ z l. let k = s .wrote z l in ap (λ (b : Bool). (b || fact-in w z .barrier) || false) (ne-eqb (fact-in w z .wrote) 2006 (λ e. omega arith)) ∙ or-false (fact-in w z .barrier))
 
-  pub notes-suspension : getD ls 2007 0 % 1024 ≡ last-kept L (flag w 16) n
+  pub notes-suspension : getD ls 2007 0 % 1024 ≡ last-kept L (λ z. fact-in w z .suspends) n
   unfolding noted
-  notes-suspension = word-is 2007 (omega arith) (flag w 16) (λ z l. let k = s .wrote z l in ap (λ (b : Bool). (b || false) || flag w 16 z) (ne-eqb (cell w z 4) 2007 (λ e. omega arith)))
+  notes-suspension = word-is 2007 (omega arith) (λ z. fact-in w z .suspends) (λ z l. let k = s .wrote z l in ap (λ (b : Bool). (b || false) || fact-in w z .suspends) (ne-eqb (fact-in w z .wrote) 2007 (λ e. omega arith)))

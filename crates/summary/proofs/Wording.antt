@@ -25,26 +25,15 @@ use Rattle.summary.proofs.Forwarding.{reads-low}
 
 -- ---- each position of a chain is such
 
-module _ {recs ops w : List ℕ} {n R p : ℕ} (s : Safe recs ops w n R) (h : p < n) {f : Fact} (t : Shows w p f) where
+module _ {recs ops : List ℕ} {w : List Fact} {n R p : ℕ} (s : Safe recs ops w n R) (h : p < n) {f : Fact} (t : Shows w p f) where
   pub written : Brief recs ops w n → Written recs R (f .rec) (f .def) (f .more)
-  written b = record {
-    known = subst (Known recs) (t .rec) (s .good p h .known);
-    fits = subst (Fits recs R) (t .rec) (s .good p h .fits);
-    brief = λ e. ap (λ (g : ℕ). writes (inst recs g)) (sym (t .rec)) ∙ b .defs p h (t .more e) ∙ ap present (t .def);
-  }
+  written b = subst (λ (x : Fact). Written recs R (x .rec) (x .def) (x .more)) (t .same) (record { known = s .good p h .known; fits = s .good p h .fits; brief = b .defs p h })
 
   pub readable : Brief recs ops w n → Readable recs ops R f
-  readable b = record {
-    good = subst (Good recs ops R) (t .rec) (s .good p h);
-    brief = λ e. ap (λ (g : ℕ). reads ops (inst recs g)) (sym (t .rec)) ∙ b .reads p h (t .more e) ∙ ap₂ (λ (a b : ℕ). present a ++ present b) (t .use0) (t .use1);
-  }
+  readable b = subst (Readable recs ops R) (t .same) (record { good = s .good p h; brief = b .reads p h })
 
   pub small : Small f
-  small = record {
-    org = subst (λ (x : ℕ). x < 2004) (t .org) (s .org p h);
-    wrote = subst (λ (x : ℕ). x ≤ 2004) (t .wrote) (s .wrote p h);
-    from = subst (λ (x : ℕ). (x ≤ 2004) ⊎ (x ≡ 4294967295)) (t .from) (s .from p h);
-  }
+  small = subst Small (t .same) (record { org = s .org p h; wrote = s .wrote p h; from = s .from p h })
 
 -- ---- what stands in a place is absent or a register
 

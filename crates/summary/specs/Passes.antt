@@ -13,8 +13,9 @@ use Rattle.model.specs.Analyse.{Fact}
 use Rattle.model.specs.Legal.{greatest}
 use Rattle.inst.specs.Record.{Known, present, read-at}
 use Rattle.facts.specs.declared.Fact as F
+use Rattle.facts.specs.Marks.{fact-in, marked}
 use Rattle.regfacts.specs.Written.{Fits}
-use Rattle.legalset.specs.Chain.{writer, cell, flag, defs-of, reads-of, reg-org, picked, Good, Safe, Brief, Told}
+use Rattle.legalset.specs.Chain.{writer, defs-of, reads-of, reg-org, picked, Good, Safe, Brief, Told}
 use Rattle.legalset.specs.Marks.{in-set, sifted, lost}
 use Rattle.legalset.specs.Rules.{last-kept, org-fine, still-fine, pending}
 
@@ -41,20 +42,9 @@ pub record Small (f : F.Fact) : Type 0 where
   pub wrote : f .wrote ≤ 2004
   pub from : (f .from ≤ 2004) ⊎ (f .from ≡ 4294967295)
 
--- the words of position p say what f does
-pub record Shows (w : List ℕ) (p : ℕ) (f : F.Fact) : Type 0 where
-  pub rec : cell w p 0 ≡ f .rec
-  pub class : cell w p 1 ≡ f .class
-  pub org : cell w p 2 ≡ f .org
-  pub creates : flag w 4 p ≡ f .creates
-  pub barrier : flag w 8 p ≡ f .barrier
-  pub suspends : flag w 16 p ≡ f .suspends
-  pub wrote : cell w p 4 ≡ f .wrote
-  pub from : cell w p 5 ≡ f .from
-  pub def : cell w p 6 ≡ f .def
-  pub use0 : cell w p 7 ≡ f .use0
-  pub use1 : cell w p 8 ≡ f .use1
-  pub more : f .more ≡ false → cell w p 9 ≡ 0
+-- f is the fact of position p, but for the mark
+pub record Shows (w : List F.Fact) (p : ℕ) (f : F.Fact) : Type 0 where
+  pub same : marked (fact-in w p) (f .member) ≡ f
 
 -- ---- a word a register
 
@@ -78,12 +68,12 @@ pub record Stamped (l : List ℕ) (keep lo v : ℕ) (before after : List ℕ) : 
 -- ---- the summary of a set, and the writers so far
 
 -- what is stamped of a writer d, given as d and 1: 0 for none, else 1, 2 if it is in L, and 4 times its origin
-unfoldable pub writer-word : List ℕ → (ℕ → Bool) → ℕ → ℕ
+unfoldable pub writer-word : List F.Fact → (ℕ → Bool) → ℕ → ℕ
 writer-word w L zero = 0
-writer-word w L (suc d) = 1 + 2 * hit (L d) + 4 * cell w d 2
+writer-word w L (suc d) = 1 + 2 * hit (L d) + 4 * fact-in w d .org
 
 -- each register's last writer kept by L₀, below 1024, and its last writer before p, from 2048 on
-pub record Stamps (w : List ℕ) (defs : ℕ → List ℕ) (L₀ L : ℕ → Bool) (n p : ℕ) (st : List ℕ) : Type 0 where
+pub record Stamps (w : List F.Fact) (defs : ℕ → List ℕ) (L₀ L : ℕ → Bool) (n p : ℕ) (st : List ℕ) : Type 0 where
   pub kept : (r : ℕ) → r < length st → getD st r 0 % 1024 ≡ last-kept L₀ (λ q. mem r (defs q)) n
   pub wrote : (r : ℕ) → r < length st → getD st r 0 / 2048 ≡ writer-word w L (writer defs r p)
 
@@ -103,15 +93,15 @@ pub record Awaits (defs reads : ℕ → List ℕ) (L : ℕ → Bool) (n q : ℕ)
   pub each : (r : ℕ) → r < length st → getD st r 0 ≡ since (λ z. not (L z) && mem r (defs z)) q (n - q) + 1024 * hit (pending defs reads L r q (n - q))
 
 -- what is noted in word j of position z: memory that it writes, by its number; in 2006 a barrier, in 2007 a suspension
-unfoldable pub noted : List ℕ → ℕ → ℕ → Bool
-noted w j z = (eqb (cell w z 4) j || (eqb 2006 j && flag w 8 z)) || (eqb 2007 j && flag w 16 z)
+unfoldable pub noted : List F.Fact → ℕ → ℕ → Bool
+noted w j z = (eqb (fact-in w z .wrote) j || (eqb 2006 j && fact-in w z .barrier)) || (eqb 2007 j && fact-in w z .suspends)
 
 -- j is the number of Temp of a position from q on that is in L, as memory written
 unfoldable pub member-at : (ℕ → Bool) → ℕ → ℕ → Bool
 member-at L q j = (leb 5 j && eqb (j % 2) 1) && (leb q ((j - 5) / 2) && L ((j - 5) / 2))
 
 -- the last kept position from q on, and 1, in each word, and 1024 if it is of Temp of a member from q on
-pub record Notes (w : List ℕ) (L : ℕ → Bool) (n q : ℕ) (lasts : List ℕ) : Type 0 where
+pub record Notes (w : List F.Fact) (L : ℕ → Bool) (n q : ℕ) (lasts : List ℕ) : Type 0 where
   pub size : length lasts ≡ 2008
   pub each : (j : ℕ) → j < 2008 → getD lasts j 0 % 1024 ≡ since (λ z. not (L z) && noted w j z) q (n - q)
   pub flags : (j : ℕ) → j < 2008 → getD lasts j 0 / 1024 ≡ hit (member-at L q j)
@@ -130,12 +120,12 @@ org-test lasts bar p o = org-fine p bar (getD lasts 1 0 % 1024) (getD lasts (o +
 unfoldable pub word-org : List ℕ → ℕ → ℕ → ℕ
 word-org regs r x = cond (leb 2048 x) (x / 8192) (reg-org [] regs r 0)
 
--- the origins that p reads, by its word 5
+-- the origins that p reads, by the number in its fact
 unfoldable pub froms : List ℕ → List ℕ → Inst → List ℕ → ℕ → List ℕ
 froms regs ops i st zero = []
 froms regs ops i st (suc o) = cond (eqb (suc o) 4294967295) (map (λ r. word-org regs r (getD st r 0)) (picked (getD i 9 0) (list-of ops i))) (o ∷ [])
 
--- what p reads from, by its word 5
+-- what p reads from, by the number in its fact
 unfoldable pub from-test : List ℕ → List ℕ → Inst → List ℕ → List ℕ → ℕ → ℕ → ℕ → Bool
 from-test regs ops i st lasts bar x p = all (org-test lasts bar p) (froms regs ops i st x)
 
@@ -185,13 +175,13 @@ pub record Forwarded (recs ops regs : List ℕ) (f : F.Fact) (sus bar p : ℕ) (
   pub forgets : lasts′ ≡ forgot (f .member && not keep) p lasts
 
 -- the summary of the marks, with the writers before p
-pub record Summed (recs w : List ℕ) (n p : ℕ) (st lasts marks : List ℕ) : Type 0 where
+pub record Summed (recs : List ℕ) (w : List F.Fact) (n p : ℕ) (st lasts marks : List ℕ) : Type 0 where
   pub stamps : Stamps w (defs-of recs w) (in-set marks) (in-set marks) n p st
   pub size : length lasts ≡ 2008
-  pub writes : Writes (λ q. cell w q 4) (in-set marks) n lasts
+  pub writes : Writes (λ q. fact-in w q .wrote) (in-set marks) n lasts
   pub flags : (j : ℕ) → j < 2006 → getD lasts j 0 / 1024 ≡ hit (member-at (in-set marks) 0 j)
-  pub barrier : getD lasts 2006 0 % 1024 ≡ last-kept (in-set marks) (flag w 8) n
-  pub suspension : getD lasts 2007 0 % 1024 ≡ last-kept (in-set marks) (flag w 16) n
+  pub barrier : getD lasts 2006 0 % 1024 ≡ last-kept (in-set marks) (λ z. fact-in w z .barrier) n
+  pub suspension : getD lasts 2007 0 % 1024 ≡ last-kept (in-set marks) (λ z. fact-in w z .suspends) n
 
 -- q and 1, if q is kept
 unfoldable pub kept-word : Bool → ℕ → ℕ
@@ -206,7 +196,7 @@ unfoldable pub member-in : ℕ → List ℕ → List ℕ
 member-in q ls = set ls (2 * q + 5) (getD ls (2 * q + 5) 0 % 1024 + 1024)
 
 -- what q does is noted, if q is kept, else that it is a member
-pub record Noted (w : List ℕ) (L : ℕ → Bool) (q : ℕ) (before after : List ℕ) : Type 0 where
+pub record Noted (w : List F.Fact) (L : ℕ → Bool) (q : ℕ) (before after : List ℕ) : Type 0 where
   pub size : length after ≡ length before
   pub each : (j : ℕ) → j < 2008 → getD after j 0 % 1024 ≡ max (getD before j 0 % 1024) (cond (not (L q) && noted w j q) (q + 1) 0)
   pub flags : (j : ℕ) → j < 2008 → getD after j 0 / 1024 ≡ cond (L q && eqb (2 * q + 5) j) 1 (getD before j 0 / 1024)
@@ -231,7 +221,7 @@ pub record Backed (recs ops : List ℕ) (f : F.Fact) (q : ℕ) (st ls st′ ls�
 -- ---- the whole
 
 -- each register's last writer in the chain, as `analyse` leaves it
-pub record Ended (recs w : List ℕ) (n : ℕ) (regs : List ℕ) : Type 0 where
+pub record Ended (recs : List ℕ) (w : List F.Fact) (n : ℕ) (regs : List ℕ) : Type 0 where
   pub each : (r : ℕ) → r < length regs → getD regs r 0 / 16 ≡ writer (defs-of recs w) r n
 
 -- rule 2 for a register that p writes; the row of registers needed begins at word o of bits
@@ -254,7 +244,7 @@ pub record Around (s k : ℕ) (before after : List ℕ) : Type 0 where
 
 -- the marks are `model`'s greatest legal set, of r members, for whatever run and needs the words stand for; or that has fewer than
 -- `least`, as has what is marked
-pub record Greatest (recs ops w regs bits : List ℕ) (o : ℕ) (marks : List ℕ) (m n least r : ℕ) : Type 0 where
+pub record Greatest (recs ops : List ℕ) (w : List F.Fact) (regs bits : List ℕ) (o : ℕ) (marks : List ℕ) (m n least r : ℕ) : Type 0 where
   pub size : length marks ≡ n
   pub set : least ≤ r → (run : List Fact) (needed : ℕ → Bool) → Told recs ops w regs n run → Row bits o (length regs) needed → (p : ℕ) → in-set marks p ≡ member (greatest run needed m) p
   pub few : r < least → (run : List Fact) (needed : ℕ → Bool) → Told recs ops w regs n run → Row bits o (length regs) needed → count (greatest run needed m) < least

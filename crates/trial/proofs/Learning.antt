@@ -20,7 +20,7 @@ use Rattle.chains.proofs.Laid.{laid-in}
 use Rattle.regfacts.specs.Flags.{Seen}
 use Rattle.analyse.specs.State.{plain}
 use Rattle.analyse.specs.Step.{Ready, Analysed}
-use Rattle.analyse.specs.Cells.{cells}
+use Rattle.facts.specs.Marks.{bare}
 use Rattle.facts.specs.declared.Fact as F
 use Rattle.analyse.proofs.Accepted.{good-given, pair-given, ends-given}
 use Rattle.legalset.specs.Chain.{Told}
@@ -62,12 +62,12 @@ module _ {bounds recs ops work64 work32 : List ℕ} {facts : List F.Fact} {s : S
           short = λ Q q. subst (λ (xs : List ℕ). length xs ≤ 800) (places-same P Q (sym q) (blocks-of c)) (g .chained .short);
         })
 
-    module _ {n : ℕ} {regs′ : List ℕ} (facts′ : List F.Fact) (an : Analysed recs ops (take (e - a) (drop a work64)) (cells facts) bounds c r n regs′ (cells facts′)) where
+    module _ {n : ℕ} {regs′ : List ℕ} (facts′ : List F.Fact) (an : Analysed recs ops (take (e - a) (drop a work64)) (bare facts) bounds c r n regs′ (bare facts′)) where
       abbrev after64 : List ℕ
       after64 = putMid a (e - a) work64 regs′
 
-      abbrev w′ : List ℕ
-      w′ = cells facts′
+      abbrev w′ : List F.Fact
+      w′ = bare facts′
 
       pub size64 : length after64 ≡ length work64
       size64 = same-len-mid a (e - a) work64 regs′ (an .regs-size)
@@ -108,7 +108,7 @@ module _ {bounds recs ops work64 work32 : List ℕ} {facts : List F.Fact} {s : S
               (λ r i. ap (λ (xs : List ℕ). getD xs r 0 % 16) after-is ∙ an .kept r ∙ ap (λ (xs : List ℕ). getD xs r 0 % 16) before-is)
               (drop-more (8000 + r) (8000 + length (P .types)) copied work32 (omega (arith, few, all-lent)) (cp .behind))
 
-          of-picture : Analysed (P .recs) (P .ops) (take (e - a) (drop a work64)) (cells facts) (P .bounds) c (P .regs) n regs′ w′
+          of-picture : Analysed (P .recs) (P .ops) (take (e - a) (drop a work64)) (bare facts) (P .bounds) c (P .regs) n regs′ w′
           of-picture = rw (l .recs-are, l .ops-are, l .bounds-are, er, l .regs-are) at an
 
           seen : Seen G (P .regs) (take (e - a) (drop a work64))
@@ -132,7 +132,7 @@ module _ {bounds recs ops work64 work32 : List ℕ} {facts : List F.Fact} {s : S
             ended = heard.ended of-picture P refl G seen (copied-words P copied) copy-is;
             safe = heard.safe of-picture;
             brief = heard.brief of-picture;
-            written = λ p i. of-picture .state P refl G seen .each p (let z = told .stands .long in omega arith) .written;
+            written = λ p i. of-picture .state P refl G seen .each p (let z = told .stands .long in omega arith) .def;
           }
 
         pub learnt : Learnt bounds recs ops s c work64 work32 after64 copied facts′ n

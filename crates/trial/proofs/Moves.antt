@@ -4,7 +4,7 @@ use mathlib.Core.Logic.{⊎-elim}
 use mathlib.Core.Bool.{Bool, cond}
 use mathlib.Core.List.{List}
 use mathlib.Core.Option.{Option, none, some}
-use Prim.Native.Nat.{ℕ, _≤_, _<_}
+use Prim.Native.Nat.{ℕ, _*_, _≤_, _<_}
 use native.Mathlib.Omega.{arith}
 use borrow.Author.Tests.{lt-ltb, le-ltb, ne-eqb}
 use lib.Dec.{ltb}
@@ -14,9 +14,9 @@ use Rattle.model.specs.Picture.{Picture}
 use Rattle.model.specs.Analyse.{Facts}
 use Rattle.model.specs.Move.{Plan, chain-places, run-of}
 use Rattle.laws.proofs.Planned as laws
+use Rattle.facts.specs.declared.Fact.{Fact}
 use Rattle.chains.specs.declared.chain.Chain.{Chain}
 use Rattle.chains.specs.Chain.{blocks-of}
-use Rattle.legalset.specs.Chain.{cell}
 use Rattle.sizes.specs.declared.Sizes.{Sizes}
 use Rattle.inst.specs.declared.index.BlockId.{BlockId}
 use Rattle.apply.specs.declared.moves.Move.{Move}
@@ -79,7 +79,7 @@ pub record Moves (P : Picture) (G : Facts) (x : ℕ) (c : Chain) (g : Goal) (mv 
   pub inside-is : mv .inside ≡ g .inside
   pub places-is : mv .places ≡ g .places
   pub marked : Marked P a (g .inside) (g .places) w
-  pub numbers : (k : ℕ) → k < g .places → cell w k 0 ≡ getD (chain-places P (blocks-of c)) k 0
+  pub numbers : (k : ℕ) → k < g .places → getD w (10 * k) 0 ≡ getD (chain-places P (blocks-of c)) k 0
 
 abbrev pub moves : Picture → Facts → ℕ → Chain → Goal → MaybeMove → List ℕ → Type 0
 moves P G x c g (Is mv) w = Moves P G x c g mv w
@@ -93,7 +93,7 @@ first-none q e = ap (λ (o : Option Plan). first-of o q) e
 
 -- ---- t is tried, then f
 
-module _ {bounds recs ops pairs targets : List ℕ} {s : Sizes} {c : Chain} {w work64 work32 : List ℕ} {g : Goal} {k l : ℕ} {work64′ work32′ work64″ work32″ : List ℕ} (p : TargetTried bounds recs ops pairs targets s c w work64 work32 g work64′ work32′ k)
+module _ {bounds recs ops pairs targets : List ℕ} {s : Sizes} {c : Chain} {w : List Fact} {work64 work32 : List ℕ} {g : Goal} {k l : ℕ} {work64′ work32′ work64″ work32″ : List ℕ} (p : TargetTried bounds recs ops pairs targets s c w work64 work32 g work64′ work32′ k)
     (q : TargetTried bounds recs ops pairs targets s c w work64′ work32′ (toward-f g k) work64″ work32″ l) where
   pub held-both : (P : Picture) (G : Facts) → Lists P bounds recs ops s (length work64) (length work32) → Tabled P pairs targets → Held P G work64 work32 → Held P G work64″ work32″
   held-both P G r u d = q .held P G (lists-of (p .size64) (p .size32) r) u (p .held P G r u d)
@@ -122,7 +122,7 @@ module _ {bounds recs ops pairs targets : List ℕ} {s : Sizes} {c : Chain} {w w
           inside-is = refl;
           places-is = refl;
           marked = subst (Marked P (z .0) (g .inside) (g .places)) (sym same) (z .3);
-          numbers = λ j b. ap (λ (v : List ℕ). cell v j 0) same ∙ z .4 j b;
+          numbers = λ j b. ap (λ (v : List ℕ). getD v (10 * j) 0) same ∙ z .4 j b;
         } in
         subst answer (found-t from g k l h) it
 

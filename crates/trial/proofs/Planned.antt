@@ -23,10 +23,10 @@ use Rattle.model.specs.Move.{Plan, chain-places, is-target, needed-of, set-for,
 use Rattle.laws.proofs.Accepted.{accepted}
 use Rattle.laws.proofs.Greatest.{greatest-movable}
 use Rattle.facts.specs.declared.Fact as F
-use Rattle.analyse.specs.Cells.{cells}
+use Rattle.facts.specs.Marks.{bare}
 use Rattle.chains.specs.declared.chain.Chain.{Chain}
 use Rattle.chains.specs.Chain.{blocks-of}
-use Rattle.legalset.specs.Chain.{cell, Safe, Told}
+use Rattle.legalset.specs.Chain.{Safe, Told}
 use Rattle.legalset.specs.Marks.{in-set}
 use Rattle.plan.specs.declared.settle.Cycle.{Cycle}
 use Rattle.summary.specs.Passes.{Ended, Row, Around, Greatest}
@@ -46,7 +46,7 @@ use Rattle.trial.specs.Target.{from-start, taken, Aiming, Aimed, plan-to
 use Rattle.chainwords.proofs.Kept.{held-kept}
 use Rattle.chainwords.proofs.Rooms.{room, room-of, Same, held-same}
 use Rattle.chainwords.proofs.Telling.{facts-behind, facts-still}
-use Rattle.trial.proofs.Wording.{numbered, number-cell, marked-after}
+use Rattle.trial.proofs.Wording.{numbered, number, marked-after}
 use Rattle.trial.proofs.Aiming.{Share, none-move, all-move, shares}
 
 -- ---- `model`'s plan, case by case
@@ -67,7 +67,7 @@ module _ (P : Picture) (run : List Fact) (x : ℕ) (c : M.Chain) (least into oth
 -- ---- what stays
 
 -- where the words behind the chain's are the same
-pub along-behind : {P : Picture} {G : Facts} {c : Chain} {w xs ys : List ℕ} {n : ℕ} → drop 8000 ys ≡ drop 8000 xs → Along P G c w xs n → Along P G c w ys n
+pub along-behind : {P : Picture} {G : Facts} {c : Chain} {w : List F.Fact} {xs ys : List ℕ} {n : ℕ} → drop 8000 ys ≡ drop 8000 xs → Along P G c w xs n → Along P G c w ys n
 along-behind {P} {G} {c} {w} {xs} {ys} {n} e al =
     let same : copied-words P xs ≡ copied-words P ys = ap (take (P .regs)) (sym e) in
     record {
@@ -105,7 +105,7 @@ some-or (suc k) = inr (omega arith)
 
 -- ---- before the set
 
-module _ {bounds recs ops pairs targets : List ℕ} {s : Sizes} {c : Chain} {w work64 work32 : List ℕ} {g : Goal} (t : Trying bounds recs ops pairs targets s c w work64 work32 g) where
+module _ {bounds recs ops pairs targets : List ℕ} {s : Sizes} {c : Chain} {w : List F.Fact} {work64 work32 : List ℕ} {g : Goal} (t : Trying bounds recs ops pairs targets s c w work64 work32 g) where
   pub aiming : Aiming bounds recs pairs targets s c work64 work32 g
   aiming = let p = t .planning in
       record { ops = ops; P = p .P; lists = p .lists; tabled = t .tabled; few = p .chained .sound .few; into-block = p .into-block; other-block = t .other-block }
@@ -135,7 +135,7 @@ module _ {bounds recs ops pairs targets : List ℕ} {s : Sizes} {c : Chain} {w w
 
 -- ---- what `legal_set` asks
 
-module _ {bounds recs ops pairs targets : List ℕ} {s : Sizes} {c : Chain} {fs : List F.Fact} {work64 work32 : List ℕ} {g : Goal} (t : Trying bounds recs ops pairs targets s c (cells fs) work64 work32 g) (long : g .places ≤ length fs) {work64₁ : List ℕ} {a : Aim}
+module _ {bounds recs ops pairs targets : List ℕ} {s : Sizes} {c : Chain} {fs : List F.Fact} {work64 work32 : List ℕ} {g : Goal} (t : Trying bounds recs ops pairs targets s c (bare fs) work64 work32 g) (long : g .places ≤ length fs) {work64₁ : List ℕ} {a : Aim}
     (d : Aimed bounds recs pairs targets s c work64 work32 g work64₁ a) where
   choosable-off : Choosable recs ops [] work64₁ fs (from-start (needed-at s) (stamps-at s) 0 0 1)
   choosable-off =
@@ -143,7 +143,6 @@ module _ {bounds recs ops pairs targets : List ℕ} {s : Sizes} {c : Chain} {fs 
       record {
         safe = record {
           few = omega arith;
-          room = omega arith;
           good = λ p h. absurd (omega arith);
           org = λ p h. absurd (omega arith);
           wrote = λ p h. absurd (omega arith);
@@ -168,7 +167,7 @@ module _ {bounds recs ops pairs targets : List ℕ} {s : Sizes} {c : Chain} {fs 
       let r = room l in
       let rl = regs-long t d P l in
       record {
-        safe = subst (λ (k : ℕ). Safe recs ops (cells fs) (g .places) k) (sym rl) (rw (l .recs-are, l .ops-are) (p .along .safe));
+        safe = subst (λ (k : ℕ). Safe recs ops (bare fs) (g .places) k) (sym rl) (rw (l .recs-are, l .ops-are) (p .along .safe));
         brief = rw (l .recs-are, l .ops-are) (p .along .brief);
         ended = rw (l .recs-are) (p .along .ended);
         in-x = p .in-x;
@@ -192,7 +191,7 @@ module _ {bounds recs ops pairs targets : List ℕ} {s : Sizes} {c : Chain} {fs 
 
 -- ---- after the set
 
-module _ {bounds recs ops pairs targets : List ℕ} {s : Sizes} {c : Chain} {fs fs′ : List F.Fact} {work64 work32 : List ℕ} {g : Goal} (t : Trying bounds recs ops pairs targets s c (cells fs) work64 work32 g) (long : g .places ≤ length fs) {work64₁ : List ℕ} {a : Aim}
+module _ {bounds recs ops pairs targets : List ℕ} {s : Sizes} {c : Chain} {fs fs′ : List F.Fact} {work64 work32 : List ℕ} {g : Goal} (t : Trying bounds recs ops pairs targets s c (bare fs) work64 work32 g) (long : g .places ≤ length fs) {work64₁ : List ℕ} {a : Aim}
     (d : Aimed bounds recs pairs targets s c work64 work32 g work64₁ a) {work64₂ : List ℕ} {k : ℕ} (ch : Chose recs ops (take (a .end - 8000) (drop 8000 work32)) (a .sweeps) work64₁ fs work64₂ fs′ k) where
   size₂ : length work64₂ ≡ length work64
   size₂ = ch .around .size ∙ d .size64
@@ -220,15 +219,15 @@ module _ {bounds recs ops pairs targets : List ℕ} {s : Sizes} {c : Chain} {fs 
     lists₃ : (P : Picture) → Lists P bounds recs ops s (length work64) (length work32) → Lists P bounds recs ops s (length work64₂) (length work32₁)
     lists₃ P l = lists-of size₂ (ft .size) l
 
-    numbered-by : {b : Sunk} → Share k (a .least) (g .places) b → U.Facts fs′ work32 work32₁ (b .places) → (b .moved ≡ 0 → ⊥) → Numbered (cells fs) work32₁ (g .places)
+    numbered-by : {b : Sunk} → Share k (a .least) (g .places) b → U.Facts fs′ work32 work32₁ (b .places) → (b .moved ≡ 0 → ⊥) → Numbered (bare fs) work32₁ (g .places)
     numbered-by (none-move h) f z = absurd (z refl)
-    numbered-by (all-move h i) f z = numbered (ch .cells-same) f
+    numbered-by (all-move h i) f z = numbered (ch .bare-same) f
 
     pub uses-asked : Using bounds recs ops s c work64₂ work32₁ (b .moved) (g .into .0) (g .inside) (g .places)
     uses-asked =
         let p = t .planning in
         record {
-          w = cells fs;
+          w = bare fs;
           planning = record {
             P = p .P;
             G = p .G;
@@ -245,18 +244,18 @@ module _ {bounds recs ops pairs targets : List ℕ} {s : Sizes} {c : Chain} {fs 
     -- ---- the answer
 
     -- where there is a target: the set, for a picture of these lists
-    module _ (h : 0 < a .least) (P : Picture) (G : Facts) (l : Lists P bounds recs ops s (length work64) (length work32)) (u : Tabled P pairs targets) (hd : Held P G work64 work32) (al : Along P G c (cells fs) work32 (g .places)) where
+    module _ (h : 0 < a .least) (P : Picture) (G : Facts) (l : Lists P bounds recs ops s (length work64) (length work32)) (u : Tabled P pairs targets) (hd : Held P G work64 work32) (al : Along P G c (bare fs) work32 (g .places)) where
       abbrev run : List Fact
       run = run-of P G (chain-in c)
 
       abbrev need : ℕ → Bool
       need = member (needed-of P (g .into .0) (g .other .0))
 
-      best : Greatest (P .recs) (P .ops) (cells fs) (copied-words P work32) work64₁ (needed-at s) (marks (g .places) fs′) (g .inside) (g .places) (g .least) k
+      best : Greatest (P .recs) (P .ops) (bare fs) (copied-words P work32) work64₁ (needed-at s) (marks (g .places) fs′) (g .inside) (g .places) (g .least) k
       best =
           rw (l .recs-are, l .ops-are) at
-          (subst (λ (rs : List ℕ). Greatest recs ops (cells fs) rs work64₁ (needed-at s) (marks (g .places) fs′) (g .inside) (g .places) (g .least) k) (regs-are t d h P l)
-          (subst (λ (z : Cycle). Greatest recs ops (cells fs) (take (a .end - 8000) (drop 8000 work32)) work64₁ (z .o) (marks (z .n) fs′) (z .m) (z .n) (z .least) k) (d .on h .1) (ch .set)))
+          (subst (λ (rs : List ℕ). Greatest recs ops (bare fs) rs work64₁ (needed-at s) (marks (g .places) fs′) (g .inside) (g .places) (g .least) k) (regs-are t d h P l)
+          (subst (λ (z : Cycle). Greatest recs ops (bare fs) (take (a .end - 8000) (drop 8000 work32)) work64₁ (z .o) (marks (z .n) fs′) (z .m) (z .n) (z .least) k) (d .on h .1) (ch .set)))
 
       row : Row work64₁ (needed-at s) (length (copied-words P work32)) need
       row = subst (λ (x : ℕ). Row work64₁ (needed-at s) x need) (sym (regs-long t d P l)) (d .row h P G ops l u hd)
@@ -280,7 +279,7 @@ module _ {bounds recs ops pairs targets : List ℕ} {s : Sizes} {c : Chain} {fs 
       still-by (all-move h i) f z = absurd (omega arith)
 
       none-by : {b : Sunk} → Share k (a .least) (g .places) b → 0 < g .least → (P : Picture) (G : Facts) (x : ℕ) → Lists P bounds recs ops s (length work64) (length work32) → Tabled P pairs targets → Held P G work64 work32
-          → Along P G c (cells fs) work32 (g .places) → FromX P c x (g .inside) → b .moved ≡ 0 → plan-toward P G x c g ≡ none
+          → Along P G c (bare fs) work32 (g .places) → FromX P c x (g .inside) → b .moved ≡ 0 → plan-toward P G x c g ≡ none
       none-by (none-move h) some? P G x l u hd al fx z = ⊎-elim
           (λ (y : a .least ≡ 0). plan-off P (run-of P G (chain-in c)) x (chain-in c) (g .least) (g .into .0) (g .other .0) (d .no-target y some? P G ops l hd))
           (λ (y : 0 < a .least).
@@ -293,9 +292,9 @@ module _ {bounds recs ops pairs targets : List ℕ} {s : Sizes} {c : Chain} {fs 
 
       some-by : {b : Sunk} → Share k (a .least) (g .places) b → U.Facts fs′ work32 work32₁ (b .places) → Used bounds recs ops s c work64₂ work32₁ (b .moved) (g .into .0) (g .inside) (g .places) work64₃ work32₃
           → (P : Picture) (G : Facts) (x : ℕ) → Lists P bounds recs ops s (length work64) (length work32) → Tabled P pairs targets → Held P G work64 work32
-          → Along P G c (cells fs) work32 (g .places) → FromX P c x (g .inside) → (b .moved ≡ 0 → ⊥)
+          → Along P G c (bare fs) work32 (g .places) → FromX P c x (g .inside) → (b .moved ≡ 0 → ⊥)
           → (v : Plan) × (plan-toward P G x c g ≡ some v) × (b .moved ≡ count (v .set)) × Marked P v (g .inside) (g .places) (chain-words work32₃)
-          × ((j : ℕ) → j < g .places → cell (chain-words work32₃) j 0 ≡ getD (chain-places P (blocks-of c)) j 0)
+          × ((j : ℕ) → j < g .places → getD (chain-words work32₃) (10 * j) 0 ≡ getD (chain-places P (blocks-of c)) j 0)
       some-by (none-move h) f v P G x l u hd al fx z = absurd (z refl)
       some-by (all-move h i) f v P G x l u hd al fx z =
           let run : List Fact = run-of P G (chain-in c) in
@@ -306,20 +305,20 @@ module _ {bounds recs ops pairs targets : List ℕ} {s : Sizes} {c : Chain} {fs 
           let low : g .inside ≡ size P x - 1 = fx .inside in
           let it : Plan = made P run x (chain-in c) (g .least) (g .into .0) (g .other .0) in
           let few = al .few in
-          let nu = numbered (ch .cells-same) f in
-          let la : Lasts P it (g .inside) work32₃ = v .lasts z P G (cells fs) it (lists₃ P l) (held₃ P G l u hd) (along-behind behind₁ al) nu refl refl in (
+          let nu = numbered (ch .bare-same) f in
+          let la : Lasts P it (g .inside) work32₃ = v .lasts z P G (bare fs) it (lists₃ P l) (held₃ P G l u hd) (along-behind behind₁ al) nu refl refl in (
             it,
             plan-on P run x (chain-in c) (g .least) (g .into .0) (g .other .0) (d .target h P G ops l hd) (subst (λ (y : ℕ). g .least ≤ y) sum enough),
             sum,
-            marked-after (ch .cells-same) f work32₃ (v .others) few l (t .planning .chained .sound .few) al (t .planning .in-x) it fx refl la
+            marked-after (ch .bare-same) f work32₃ (v .others) few l (t .planning .chained .sound .few) al (t .planning .in-x) it fx refl la
                 (λ y. set-is h P G l u hd al enough y ∙ ap (λ (S : List Bool). member S y) same-set)
                 (λ y q. not-true-is-false (member (set-for P run x (g .into .0) (g .other .0)) y)
                 (λ r. let o = greatest-movable run need (size P x - 1) y (true-T (member (set-for P run x (g .into .0) (g .other .0)) y) r) .0 in omega arith))
                 (λ y r. T-true (movable (fact-at run y .does .class)) (greatest-movable run need (size P x - 1) y (true-T (member (set-for P run x (g .into .0) (g .other .0)) y) r) .1)),
-            λ y q. number-cell (ch .cells-same) f work32₃ (v .others) few y q ∙ al .numbers y q,
+            λ y q. number (ch .bare-same) f work32₃ (v .others) few y q ∙ al .numbers y q,
           )
 
-      pub planned : TargetTried bounds recs ops pairs targets s c (cells fs) work64 work32 g work64₃ work32₃ (b .moved) × (cells fs′ ≡ cells fs)
+      pub planned : TargetTried bounds recs ops pairs targets s c (bare fs) work64 work32 g work64₃ work32₃ (b .moved) × (bare fs′ ≡ bare fs)
       planned = (
         record {
           size64 = us .size64 ∙ size₂;
@@ -331,5 +330,5 @@ module _ {bounds recs ops pairs targets : List ℕ} {s : Sizes} {c : Chain} {fs 
           none-is = none-by share;
           some-is = some-by share ft us;
         },
-        ch .cells-same,
+        ch .bare-same,
       )

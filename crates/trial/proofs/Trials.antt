@@ -4,7 +4,6 @@ use mathlib.Core.Bool.{Bool, true, false}
 use mathlib.Core.List.{List, [], _∷_}
 use mathlib.Core.Option.{Option, none, some}
 use Prim.Native.Nat.{ℕ, _+_, _-_, _*_, _≤_, _<_}
-use native.Mathlib.Nat.{add-zero}
 use native.Mathlib.Omega.{arith}
 use lib.ListN.{getD, length}
 use Rattle.model.specs.Picture.{Picture, nblocks, size}
@@ -19,9 +18,8 @@ use Rattle.laws.proofs.Planned.{minimum-some}
 use Rattle.chains.specs.declared.chain.Chain.{Chain}
 use Rattle.chains.specs.Chain.{blocks-of}
 use Rattle.facts.specs.declared.Fact as F
-use Rattle.analyse.specs.Cells.{cells}
+use Rattle.facts.specs.Marks.{bare}
 use Rattle.apply.specs.Apply.{Stands}
-use Rattle.legalset.specs.Chain.{cell}
 use Rattle.sizes.specs.declared.Sizes.{Sizes}
 use Rattle.search.specs.declared.find.Look.{Look}
 use Rattle.trial.specs.declared.target.Goal.{Goal}
@@ -71,7 +69,6 @@ module _ (P : Picture) (k : Look) (e : chain P (k .x .0) ≡ some (chain-in (k .
 
     -- the move
     tried-is : (w : List ℕ) (r : MaybeMove) → moves P G x c aim r w → tried P G x r w
-    unfolding cell
     tried-is w (Is mv) z = record {
       a = z .a;
       c = chain-in c;
@@ -122,7 +119,7 @@ toward-shown k n d = ap₂ (λ (b r : List ℕ). toward-t b r k n) (d .lists .bo
 -- the facts are found, and g is what t is tried with
 module _ {bounds recs ops pairs targets replay : List ℕ} {s : Sizes} (k : Look) {work64 work32 : List ℕ} (p : Following bounds recs ops pairs targets replay s (k .x .0) (k .c) work64 work32) (fs : List F.Fact) (h : 800 ≤ length fs)
     {fs₁ : List F.Fact} {work64₁ work32₁ : List ℕ} {n : ℕ} (q : Learnt bounds recs ops s (k .c) work64 work32 work64₁ work32₁ fs₁ n) (e : length fs₁ ≡ length fs) {g : Goal} (v : g ≡ toward-t bounds replay k n) where
-  pub trying-t : Trying bounds recs ops pairs targets s (k .c) (cells fs₁) work64₁ work32₁ g × (g .places ≤ length fs₁)
+  pub trying-t : Trying bounds recs ops pairs targets s (k .c) (bare fs₁) work64₁ work32₁ g × (g .places ≤ length fs₁)
   trying-t =
       let P = p .given .P in
       let G = p .given .G in
@@ -134,7 +131,7 @@ module _ {bounds recs ops pairs targets replay : List ℕ} {s : Sizes} (k : Look
       let few = a .few in
       let fits = inner P k (p .chosen .is-chain) in
       let z = size-is (k .x .0) (d .lists) in
-      subst (λ (i : Goal). Trying bounds recs ops pairs targets s (k .c) (cells fs₁) work64₁ work32₁ i × (i .places ≤ length fs₁)) (sym v) (
+      subst (λ (i : Goal). Trying bounds recs ops pairs targets s (k .c) (bare fs₁) work64₁ work32₁ i × (i .places ≤ length fs₁)) (sym v) (
         record {
           planning = record {
             P = P;
@@ -153,14 +150,14 @@ module _ {bounds recs ops pairs targets replay : List ℕ} {s : Sizes} (k : Look
       )
 
   -- after t was tried: m members move into it, and i is what f is tried with
-  module _ (fs₂ : List F.Fact) {work64₂ work32₂ : List ℕ} {m : ℕ} (o : TargetTried bounds recs ops pairs targets s (k .c) (cells fs₁) work64₁ work32₁ g work64₂ work32₂ m × (cells fs₂ ≡ cells fs₁)) (e₂ : length fs₂ ≡ length fs₁) {i : Goal} (u : i ≡ toward-f g m) where
-    pub trying-f : Trying bounds recs ops pairs targets s (k .c) (cells fs₂) work64₂ work32₂ i × (i .places ≤ length fs₂)
+  module _ (fs₂ : List F.Fact) {work64₂ work32₂ : List ℕ} {m : ℕ} (o : TargetTried bounds recs ops pairs targets s (k .c) (bare fs₁) work64₁ work32₁ g work64₂ work32₂ m × (bare fs₂ ≡ bare fs₁)) (e₂ : length fs₂ ≡ length fs₁) {i : Goal} (u : i ≡ toward-f g m) where
+    pub trying-f : Trying bounds recs ops pairs targets s (k .c) (bare fs₂) work64₂ work32₂ i × (i .places ≤ length fs₂)
     trying-f =
         let t = trying-t .0 in
         let j = t .planning in
         let r = o .0 in
         let z = trying-t .1 in
-        subst (λ (i : Goal). Trying bounds recs ops pairs targets s (k .c) (cells fs₂) work64₂ work32₂ i × (i .places ≤ length fs₂)) (sym u) (
+        subst (λ (i : Goal). Trying bounds recs ops pairs targets s (k .c) (bare fs₂) work64₂ work32₂ i × (i .places ≤ length fs₂)) (sym u) (
           record {
             planning = record {
               P = j .P;
@@ -168,7 +165,7 @@ module _ {bounds recs ops pairs targets replay : List ℕ} {s : Sizes} (k : Look
               lists = lists-of (r .size64) (r .size32) (j .lists);
               held = r .held (j .P) (j .G) (j .lists) (t .tabled) (j .held);
               chained = j .chained;
-              along = subst (λ (y : List ℕ). Along (j .P) (j .G) (k .c) y work32₂ (g .places)) (sym (o .1)) (along-behind (r .behind) (j .along));
+              along = subst (λ (y : List F.Fact). Along (j .P) (j .G) (k .c) y work32₂ (g .places)) (sym (o .1)) (along-behind (r .behind) (j .along));
               into-block = t .other-block;
               in-x = j .in-x;
             };
@@ -179,13 +176,13 @@ module _ {bounds recs ops pairs targets replay : List ℕ} {s : Sizes} (k : Look
         )
 
     -- after f was tried
-    pub followed : {work64₃ work32₃ : List ℕ} {l : ℕ} → TargetTried bounds recs ops pairs targets s (k .c) (cells fs₂) work64₂ work32₂ i work64₃ work32₃ l
+    pub followed : {work64₃ work32₃ : List ℕ} {l : ℕ} → TargetTried bounds recs ops pairs targets s (k .c) (bare fs₂) work64₂ work32₂ i work64₃ work32₃ l
         → Followed bounds recs ops pairs targets replay s (k .x .0) (k .c) work64 work32 work64₃ work32₃ (found (k .x) g m l)
     followed {work64₃} {work32₃} {l} j =
         let first = o .0 in
-        let second : TargetTried bounds recs ops pairs targets s (k .c) (cells fs₁) work64₂ work32₂ (toward-f g m) work64₃ work32₃ l =
-        subst (λ (y : List ℕ). TargetTried bounds recs ops pairs targets s (k .c) y work64₂ work32₂ (toward-f g m) work64₃ work32₃ l) (o .1)
-        (subst (λ (y : Goal). TargetTried bounds recs ops pairs targets s (k .c) (cells fs₂) work64₂ work32₂ y work64₃ work32₃ l) u j) in
+        let second : TargetTried bounds recs ops pairs targets s (k .c) (bare fs₁) work64₂ work32₂ (toward-f g m) work64₃ work32₃ l =
+        subst (λ (y : List F.Fact). TargetTried bounds recs ops pairs targets s (k .c) y work64₂ work32₂ (toward-f g m) work64₃ work32₃ l) (o .1)
+        (subst (λ (y : Goal). TargetTried bounds recs ops pairs targets s (k .c) (bare fs₂) work64₂ work32₂ y work64₃ work32₃ l) u j) in
         record {
           size64 = second .size64 ∙ first .size64 ∙ q .size64;
           size32 = second .size32 ∙ first .size32 ∙ q .size32;
@@ -196,7 +193,7 @@ module _ {bounds recs ops pairs targets replay : List ℕ} {s : Sizes} (k : Look
               let places : n ≡ g .places = ap (λ (z : Goal). z .places) (sym v) in
               let three : 3 ≤ g .least = subst (λ (z : Goal). 3 ≤ z .least) (sym to-t) (minimum-some (replays P (chain-in (k .c)))) in
               let some? : 0 < g .least = omega arith in
-              let along = subst (Along P G (k .c) (cells fs₁) work32₁) places (q .along P G (d .lists) y (chained-here b)) in
+              let along = subst (Along P G (k .c) (bare fs₁) work32₁) places (q .along P G (d .lists) y (chained-here b)) in
               tried-is P k (b .is-chain) G n (b .worth) (chain-words work32₃) (found (k .x) g m l)
               (subst (λ (z : Goal). moves P G (k .x .0) (k .c) z (found (k .x) g m l) (chain-words work32₃)) to-t
               (first-plan first second some? P G (k .x .0) (lists-of (q .size64) (q .size32) (d .lists)) (d .tabled) (q .held P G (d .lists) y) along (record { first = first-is P k (b .is-chain); inside = inside }) (k .x) refl));

@@ -23,16 +23,16 @@ use Rattle.laws.proofs.Admitted.{one-write}
 use Rattle.laws.proofs.Analysed.{fact-of, fact-moves}
 use Rattle.laws.proofs.Chains.{lead}
 use Rattle.facts.specs.declared.Fact as F
-use Rattle.analyse.specs.Cells.{cells, marks-of}
-use Rattle.analyse.proofs.Cells as facts
+use Rattle.facts.specs.Marks.{fact-in, bare}
 use Rattle.chains.specs.declared.chain.Chain.{Chain}
 use Rattle.chains.specs.Chain.{blocks-of, Few}
 use Rattle.chains.proofs.Struct.{blocks-long}
-use Rattle.legalset.specs.Chain.{cell, Told}
+use Rattle.legalset.specs.Chain.{Told}
 use Rattle.legalset.specs.Marks.{in-set}
 use Rattle.plan.specs.Sweep.{marks}
 use Rattle.summary.proofs.Backing.{writes-low}
 use Rattle.plan.proofs.Sweeping.{shown}
+use Rattle.plan.proofs.Turning.{marks-at}
 use Rattle.pool.specs.Pool.{wrote-at, regs-of}
 use Rattle.pool.specs.Plan.{read-there}
 use Rattle.sizes.specs.declared.Sizes.{Sizes}
@@ -66,15 +66,15 @@ first-places P (b ∷ bs) h p i = lead P b bs p i .1
 
 -- ---- the words of the n positions, by their facts
 
-module _ {fs : List F.Fact} {w xs ys : List ℕ} {n : ℕ} (same : cells fs ≡ w) (ft : U.Facts fs xs ys n) where
-  rec-is : (p : ℕ) → p < n → getD ys (10 * p) 0 ≡ cell w p 0
-  rec-is p i = ft .rec p i ∙ sym (shown fs p .rec) ∙ ap (λ (v : List ℕ). cell v p 0) same
+module _ {fs w : List F.Fact} {xs ys : List ℕ} {n : ℕ} (same : bare fs ≡ w) (ft : U.Facts fs xs ys n) where
+  rec-is : (p : ℕ) → p < n → getD ys (10 * p) 0 ≡ fact-in w p .rec
+  rec-is p i = ft .rec p i ∙ sym (ap (λ (x : F.Fact). x .rec) (shown fs p .same)) ∙ ap (λ (v : List F.Fact). fact-in v p .rec) same
 
-  def-is : (p : ℕ) → p < n → getD ys (10 * p + 8) 0 ≡ cell w p 6
-  def-is p i = ft .wrote p i ∙ sym (shown fs p .def) ∙ ap (λ (v : List ℕ). cell v p 6) same
+  def-is : (p : ℕ) → p < n → getD ys (10 * p + 8) 0 ≡ fact-in w p .def
+  def-is p i = ft .wrote p i ∙ sym (ap (λ (x : F.Fact). x .def) (shown fs p .same)) ∙ ap (λ (v : List F.Fact). fact-in v p .def) same
 
   mark-is : (p : ℕ) → p < n → getD ys (10 * p + 6) 0 ≡ getD (marks n fs) p 0
-  mark-is p i = ft .mark p i ∙ sym (facts.mark-at fs p) ∙ sym (getD-take n (marks-of fs) p 0 i)
+  mark-is p i = ft .mark p i ∙ sym (marks-at n fs p i)
 
   pub numbered : Numbered w ys n
   numbered = record { each = rec-is }
@@ -87,17 +87,13 @@ module _ {fs : List F.Fact} {w xs ys : List ℕ} {n : ℕ} (same : cells fs ≡ 
     word-at : (p j : ℕ) → p < n → j < 10 → getD W (10 * p + j) 0 ≡ getD zs (10 * p + j) 0
     word-at p j i k = getD-take 8000 zs (10 * p + j) 0 (omega arith)
 
-    number : (p : ℕ) → p < n → getD W (10 * p) 0 ≡ cell w p 0
+    pub number : (p : ℕ) → p < n → getD W (10 * p) 0 ≡ fact-in w p .rec
     number p i =
         let z : 10 * p ≡ 10 * p + 0 = omega arith in
         ap (λ (k : ℕ). getD W k 0) z ∙ word-at p 0 i (omega arith) ∙ others p 0 (omega arith) (λ e. let y : _≡_ {A = ℕ} 0 7 = e in absurd (omega arith)) ∙ ap (λ (k : ℕ). getD ys k 0) (sym z) ∙ rec-is p i
 
-    pub number-cell : (p : ℕ) → p < n → cell W p 0 ≡ cell w p 0
-    unfolding cell
-    number-cell p i = let z : 10 * p + 0 ≡ 10 * p = omega arith in ap (λ (k : ℕ). getD W k 0) z ∙ number p i
-
-    wrote-cell : (p : ℕ) → p < n → wrote-at W p ≡ cell w p 6
-    wrote-cell p i = word-at p 8 i (omega arith) ∙ others p 8 (omega arith) (λ e. let y : _≡_ {A = ℕ} 8 7 = e in absurd (omega arith)) ∙ def-is p i
+    wrote-word : (p : ℕ) → p < n → wrote-at W p ≡ fact-in w p .def
+    wrote-word p i = word-at p 8 i (omega arith) ∙ others p 8 (omega arith) (λ e. let y : _≡_ {A = ℕ} 8 7 = e in absurd (omega arith)) ∙ def-is p i
 
     mark-word : (p : ℕ) → p < n → getD W (10 * p + 6) 0 ≡ getD (marks n fs) p 0
     mark-word p i = word-at p 6 i (omega arith) ∙ others p 6 (omega arith) (λ e. let y : _≡_ {A = ℕ} 6 7 = e in absurd (omega arith)) ∙ mark-is p i
@@ -114,10 +110,10 @@ module _ {fs : List F.Fact} {w xs ys : List ℕ} {n : ℕ} (same : cells fs ≡ 
       in-chain p i = omega arith
 
       defs-low : (p : ℕ) → p < n → (r : ℕ) → In r (fact-at (b .run) p .defs) → r < P .regs
-      defs-low p i r j = writes-low (P .recs) (P .regs) (cell w p 0) (al .safe .good p i .fits) r (subst (In r) (told .stands .defs p i) j)
+      defs-low p i r j = writes-low (P .recs) (P .regs) (fact-in w p .rec) (al .safe .good p i .fits) r (subst (In r) (told .stands .defs p i) j)
 
       wrote-is : (p : ℕ) → p < m → wrote-at W p ≡ getD (fact-at (b .run) p .defs) 0 absent
-      wrote-is p i = wrote-cell p (in-chain p i) ∙ al .written p (in-chain p i) ∙ ap (λ (r : List Fact). getD (fact-at r p .defs) 0 absent) (sym eb)
+      wrote-is p i = wrote-word p (in-chain p i) ∙ al .written p (in-chain p i) ∙ ap (λ (r : List Fact). getD (fact-at r p .defs) 0 absent) (sym eb)
 
       last-is : (p : ℕ) → p < m → getD W (10 * p + 7) 0 ≡ last-use (b .run) (read-there P b) p
       last-is p i = word-at p 7 (in-chain p i) (omega arith) ∙ la .is p i
@@ -129,17 +125,17 @@ module _ {fs : List F.Fact} {w xs ys : List ℕ} {n : ℕ} (same : cells fs ≡ 
           let places = chain-places P (blocks-of c) in
           let long = al .long in
           let run = run-of P G (chain-in c) in
-          let it : getD (map (inst (P .recs)) places) p [] ≡ inst (P .recs) (cell w p 0) = getD-map (inst (P .recs)) 0 [] places p (omega arith) ∙ ap (inst (P .recs)) (sym (al .numbers p q)) in
+          let it : getD (map (inst (P .recs)) places) p [] ≡ inst (P .recs) (fact-in w p .rec) = getD-map (inst (P .recs)) 0 [] places p (omega arith) ∙ ap (inst (P .recs)) (sym (al .numbers p q)) in
           let k : length (map (inst (P .recs)) places) ≡ length places = length-map places (inst (P .recs)) in
           let f = fact-of G (P .ops) (map (inst (P .recs)) places) p (omega arith) in
           let moves : T (movable (fact G (P .ops) (take p run) (getD (map (inst (P .recs)) places) p []) .does .class)) =
           true-T (movable (fact G (P .ops) (take p run) (getD (map (inst (P .recs)) places) p []) .does .class))
           (ap (λ (y : Fact). movable (y .does .class)) (sym f) ∙ subst (λ (r : List Fact). movable (fact-at r p .does .class) ≡ true) eb (em p e)) in
-          let may : T (may-move (row (kind (inst (P .recs) (cell w p 0))) .arm)) =
+          let may : T (may-move (row (kind (inst (P .recs) (fact-in w p .rec))) .arm)) =
           subst (λ (j : Inst). T (may-move (row (kind j) .arm))) it (fact-moves G (P .ops) (take p run) (getD (map (inst (P .recs)) places) p []) moves) in
           let u = al .safe .good p q .known .within .whole in
           let d = recs-length P (ok l) in
-          subst (λ (r : List ℕ). length r ≤ 1) (sym (told .stands .defs p q)) (one-write P (inst (P .recs) (cell w p 0)) (ok l .each (cell w p 0) (omega arith)) may)
+          subst (λ (r : List ℕ). length r ≤ 1) (sym (told .stands .defs p q)) (one-write P (inst (P .recs) (fact-in w p .rec)) (ok l .each (fact-in w p .rec) (omega arith)) may)
 
       pub marked-after : Marked P b m n W
       unfolding in-set

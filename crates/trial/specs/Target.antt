@@ -3,16 +3,16 @@ use mathlib.Core.Path.{_≡_}
 use mathlib.Core.Bool.{true, false, _||_, cond}
 use mathlib.Core.List.{List}
 use mathlib.Core.Option.{Option, none, some}
-use Prim.Native.Nat.{ℕ, _+_, _<_}
+use Prim.Native.Nat.{ℕ, _+_, _*_, _<_}
 use lib.Dec.{eqb, ltb}
 use lib.ListN.{getD, length, drop}
 use Rattle.words.specs.Lists.{count, member}
 use Rattle.model.specs.Picture.{Picture, nblocks}
 use Rattle.model.specs.Analyse.{Facts}
 use Rattle.model.specs.Move.{Plan, chain-places, plan, run-of, needed-of, is-target}
+use Rattle.facts.specs.declared.Fact.{Fact}
 use Rattle.chains.specs.declared.chain.Chain.{Chain}
 use Rattle.chains.specs.Chain.{blocks-of, Few}
-use Rattle.legalset.specs.Chain.{cell}
 use Rattle.summary.specs.Passes.{Row}
 use Rattle.sizes.specs.declared.Sizes.{Sizes}
 use Rattle.plan.specs.declared.settle.Cycle.{Cycle}
@@ -59,8 +59,8 @@ pub record Aimed (bounds recs pairs targets : List ℕ) (s : Sizes) (c : Chain) 
 unfoldable pub taken : ℕ → ℕ → ℕ → Sunk
 taken k least n = cond (eqb least 0 || ltb k least) (record { moved = 0; places = 0 }) (record { moved = k; places = n })
 
--- the words w stand for the facts along chain c, and both branches are blocks
-pub record Trying (bounds recs ops pairs targets : List ℕ) (s : Sizes) (c : Chain) (w work64 work32 : List ℕ) (g : Goal) : Type 0 where
+-- the structs w stand for the facts along chain c, and both branches are blocks
+pub record Trying (bounds recs ops pairs targets : List ℕ) (s : Sizes) (c : Chain) (w : List Fact) (work64 work32 : List ℕ) (g : Goal) : Type 0 where
   pub planning : Planning bounds recs ops s c w work64 work32 (g .into .0) (g .inside) (g .places)
   pub tabled : Tabled (planning .P) pairs targets
   pub other-block : g .other .0 < nblocks (planning .P)
@@ -70,7 +70,7 @@ abbrev pub plan-toward : Picture → Facts → ℕ → Chain → Goal → Option
 plan-toward P G x c g = plan P (run-of P G (chain-in c)) x (chain-in c) (g .least) (g .into .0) (g .other .0)
 
 -- r members move, or none
-pub record TargetTried (bounds recs ops pairs targets : List ℕ) (s : Sizes) (c : Chain) (w work64 work32 : List ℕ) (g : Goal) (work64′ work32′ : List ℕ) (r : ℕ) : Type 0 where
+pub record TargetTried (bounds recs ops pairs targets : List ℕ) (s : Sizes) (c : Chain) (w : List Fact) (work64 work32 : List ℕ) (g : Goal) (work64′ work32′ : List ℕ) (r : ℕ) : Type 0 where
   pub size64 : length work64′ ≡ length work64
   pub size32 : length work32′ ≡ length work32
   pub held : (P : Picture) (G : Facts) → Lists P bounds recs ops s (length work64) (length work32) → Tabled P pairs targets → Held P G work64 work32 → Held P G work64′ work32′
@@ -84,4 +84,4 @@ pub record TargetTried (bounds recs ops pairs targets : List ℕ) (s : Sizes) (c
   pub some-is : (P : Picture) (G : Facts) (x : ℕ) → Lists P bounds recs ops s (length work64) (length work32) → Tabled P pairs targets → Held P G work64 work32
       → Along P G c w work32 (g .places) → FromX P c x (g .inside) → (r ≡ 0 → ⊥)
       → (a : Plan) × (plan-toward P G x c g ≡ some a) × (r ≡ count (a .set)) × Marked P a (g .inside) (g .places) (chain-words work32′)
-      × ((k : ℕ) → k < g .places → cell (chain-words work32′) k 0 ≡ getD (chain-places P (blocks-of c)) k 0)
+      × ((k : ℕ) → k < g .places → getD (chain-words work32′) (10 * k) 0 ≡ getD (chain-places P (blocks-of c)) k 0)

@@ -18,7 +18,7 @@ ghost use mathlib.Core.Path.{_≡_};
 ghost use Prim.Native.Nat.{_≤_};
 ghost use lib.ListN.{length};
 ghost use Rattle.inst.specs.Table.{rows};
-ghost use Rattle.analyse.specs.Cells.{cells};
+ghost use Rattle.facts.specs.Marks.{bare};
 ghost use Rattle.trial.specs.Target.{from-start, taken, Aiming, Aimed, Trying, TargetTried};
 
 // What one target is tried with: the block that members are to move into, and the other branch; the fewest members that a move has, or
@@ -145,8 +145,8 @@ pub fn try_target<'a>(
     c: Chain,
     g: Goal,
 ) -> u32
-    requires { ⌜ (now t ≡ rows) × Trying (now bounds) (now recs) (now ops) (now pairs) (now targets) s c (cells (now facts)) (now work64) (now work32) g × (g .places ≤ length (now facts)) ⌝ }
-    ensures { λ r. ⌜ TargetTried (now (bounds .entry)) (now (recs .entry)) (now (ops .entry)) (now (pairs .entry)) (now (targets .entry)) s c (cells (now (facts .entry))) (now (work64 .entry)) (now (work32 .entry)) g (now (work64 .exit)) (now (work32 .exit)) r × (cells (now (facts .exit)) ≡ cells (now (facts .entry))) ⌝ }
+    requires { ⌜ (now t ≡ rows) × Trying (now bounds) (now recs) (now ops) (now pairs) (now targets) s c (bare (now facts)) (now work64) (now work32) g × (g .places ≤ length (now facts)) ⌝ }
+    ensures { λ r. ⌜ TargetTried (now (bounds .entry)) (now (recs .entry)) (now (ops .entry)) (now (pairs .entry)) (now (targets .entry)) s c (bare (now (facts .entry))) (now (work64 .entry)) (now (work32 .entry)) g (now (work64 .exit)) (now (work32 .exit)) r × (bare (now (facts .exit)) ≡ bare (now (facts .entry))) ⌝ }
 {
     let a = take_aim(t, bounds, recs, pairs, targets, work64, work32, s, c, g);
     let e = a.end;

@@ -39,6 +39,7 @@ use denote.Triple.Table.{entered, cited}
 use denote.Triple.Walked.{says, needs, Stays, walkOf, Walks, ends-at, walked, walk-meets}
 use borrow.Author.Tests.{ltb-true, ltb-false}
 use Rattle.facts.specs.declared.Fact.{Fact}
+use Rattle.facts.specs.Marks.{bare}
 use Rattle.facts.proofs.Args as G
 use Rattle.facts.proofs.Args.{Arg, Lasts, calls-of, calls-with}
 use Rattle.facts.proofs.Params as Q
@@ -68,7 +69,6 @@ use Rattle.chains.proofs.cursor.next.Symbol.{name as #chains·cursor·next}
 use Rattle.chains.proofs.cursor.next.Met as next-thm
 use Rattle.model.specs.Picture.{Picture}
 use Rattle.analyse.specs.Step.{Learned, Begun, Ready, Analysed}
-use Rattle.analyse.specs.Cells.{cells as numbers}
 use Rattle.analyse.proofs.Chained.{Chained, chained-none, few-yet, learn-ready, chained-more, chained-end}
 use Rattle.analyse.proofs.learn.learn_one as one
 use Rattle.analyse.proofs.learn.learn_one.Symbol as one-def
@@ -152,7 +152,7 @@ module _ {M : Type 1} (𝓤 : URA M) (H : Heap 𝓤) (A : Atoms 𝓤) (W : Given
     abbrev Post : Val → SProp 𝓤
     Post = Ends κs qs vs
 
-    exits : (ys : List ℕ) (gs : List Fact) (p : ℕ) → length ys ≡ length (regs .list) → length gs ≡ length (facts .list) → p < 2 ^ 32 → Analysed (recs .list) (ops .list) (regs .list) (numbers (facts .list)) (bounds .list) (chain .it) (known .it) p ys (numbers gs) → ent 𝓤 (⋆ 𝓤 H A (Held ys gs)) (Post (vint w32 p))
+    exits : (ys : List ℕ) (gs : List Fact) (p : ℕ) → length ys ≡ length (regs .list) → length gs ≡ length (facts .list) → p < 2 ^ 32 → Analysed (recs .list) (ops .list) (regs .list) (bare (facts .list)) (bounds .list) (chain .it) (known .it) p ys (bare gs) → ent 𝓤 (⋆ 𝓤 H A (Held ys gs)) (Post (vint w32 p))
     exits ys gs p e e′ fits ran =
         qed W (Held ys gs) ∵
         suffices ! _ (ends-at 𝓤 H A f.ended stayed (f.clauses 𝓤 H A mem run) W ((κs, qs, tt, entries κs kinds vs, machs κs kinds vs), tt) (vint w32 p) p (fins κs kinds vs (ys, (gs, tt))) (fit-all κs kinds vs (ys, (gs, tt)) (e, (e′, tt)))) $ says ! ran $
@@ -171,7 +171,7 @@ module _ {M : Type 1} (𝓤 : URA M) (H : Heap 𝓤) (A : Atoms 𝓤) (W : Given
       size : length (s .ys) ≡ length (regs .list)
       size′ : length (s .gs) ≡ length (facts .list)
       is : Is X.the-row (s .cur) (X′.lowered (s .cur) ∷ [])
-      ran : Chained (recs .list) (ops .list) (bounds .list) (chain .it) (known .it) zs (numbers (facts .list)) (s .ys) (numbers (s .gs)) (s .cur) (s .p)
+      ran : Chained (recs .list) (ops .list) (bounds .list) (chain .it) (known .it) zs (bare (facts .list)) (s .ys) (bare (s .gs)) (s .cur) (s .p)
 
     module _ (ready : Asked vs) where
       -- ---- the four calls
@@ -273,7 +273,7 @@ module _ {M : Type 1} (𝓤 : URA M) (H : Heap 𝓤) (A : Atoms 𝓤) (W : Given
             size = size ∙ h .size;
             size′ = ap length e ∙ length-set (s .gs) (s .p) a ∙ h .size′;
             is = is;
-            ran = subst (λ (q : List Fact). Chained (recs .list) (ops .list) (bounds .list) (chain .it) (known .it) zs (numbers (facts .list)) ys (numbers q) z (s .p + 1)) (sym e) (chained-more ready (s .gs) (h .ran) below a (h .size′) does (on .0) (on .1));
+            ran = subst (λ (q : List Fact). Chained (recs .list) (ops .list) (bounds .list) (chain .it) (known .it) zs (bare (facts .list)) ys (bare q) z (s .p + 1)) (sym e) (chained-more ready (s .gs) (h .ran) below a (h .size′) does (on .0) (on .1));
           }
 
           -- a turn: three calls

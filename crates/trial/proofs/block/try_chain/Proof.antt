@@ -51,7 +51,7 @@ use Rattle.chains.proofs.chain.Chain.Laws as K′
 use Rattle.search.proofs.find.Look as N
 use Rattle.search.proofs.find.Look.Laws as N′
 use Rattle.search.specs.declared.find.Look.{Look}
-use Rattle.analyse.specs.Cells.{cells as numbers}
+use Rattle.facts.specs.Marks.{bare}
 use Rattle.inst.specs.declared.index.BlockId.{BlockId}
 use Rattle.chains.specs.declared.chain.Chain.{Chain}
 use Rattle.trial.specs.declared.target.Goal.{Goal}
@@ -218,12 +218,12 @@ module _ {M : Type 1} (𝓤 : URA M) (H : Heap 𝓤) (A : Atoms 𝓤) (W : Given
               ∷ pass-data 𝓤 H A W sizes-data sizes ∷ pass-struct 𝓤 H A W K.the-type K′.the-plain chain (K′.lowered chain) chain-is ∷ pass-struct 𝓤 H A W O.the-type O′.the-plain to (O′.lowered to) to-is ∷ []
 
           abbrev Tried : List ℕ → List ℕ → List Fact → ℕ → Type 0
-          Tried xs′ ws′ fs′ r = TargetTried (bounds .list) (recs .list) (ops .list) (pairs .list) (targets .list) (sizes .it) chain (numbers fs) xs ws to xs′ ws′ r × (numbers fs′ ≡ numbers fs)
+          Tried xs′ ws′ fs′ r = TargetTried (bounds .list) (recs .list) (ops .list) (pairs .list) (targets .list) (sizes .it) chain (bare fs) xs ws to xs′ ws′ r × (bare fs′ ≡ bare fs)
 
           abbrev Try-says : ℕ → Lasts 𝓤 H A try-args → Type 0
           Try-says r y = Tried (last-of 𝓤 H A try-args 6 y) (last-of 𝓤 H A try-args 7 y) (last-of 𝓤 H A try-args 8 y) r
 
-          try-call : Trying (bounds .list) (recs .list) (ops .list) (pairs .list) (targets .list) (sizes .it) chain (numbers fs) xs ws to × (to .places ≤ length fs) → ent 𝓤 (⋆ 𝓤 H A (G.hads 𝓤 H A try-args)) (H .⇛ (C #trial·target·try-target (G.flat 𝓤 H A try-args) (G.Then 𝓤 H A W try-args u32 Try-says)))
+          try-call : Trying (bounds .list) (recs .list) (ops .list) (pairs .list) (targets .list) (sizes .it) chain (bare fs) xs ws to × (to .places ≤ length fs) → ent 𝓤 (⋆ 𝓤 H A (G.hads 𝓤 H A try-args)) (H .⇛ (C #trial·target·try-target (G.flat 𝓤 H A try-args) (G.Then 𝓤 H A W try-args u32 Try-says)))
           try-call asks = calls-of 𝓤 H A W C fm #trial·target·try-target (Tries 𝓤 H A mem run) known-try try-args (λ g. ((G.lfts 𝓤 H A try-args g, G.shares 𝓤 H A try-args, tt, G.values 𝓤 H A try-args g, G.machs 𝓤 H A try-args), tt)) (λ g. refl)
               (λ g. qed W (raw (G.tokens 𝓤 H A try-args g) ∷ ‵ (G.owns 𝓤 H A try-args g) ∷ []) ∵ says ! (ready .0, asks .0, asks .1) $ done !) u32 Try-says (λ g w. id⊢ 𝓤 _)
 

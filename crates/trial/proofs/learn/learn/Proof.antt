@@ -49,7 +49,7 @@ use Rattle.chains.proofs.chain.Chain as K
 use Rattle.chains.proofs.chain.Chain.Laws as K′
 use Rattle.inst.specs.Table.{rows}
 use Rattle.analyse.specs.Step.{Analysed}
-use Rattle.analyse.specs.Cells.{cells as numbers}
+use Rattle.facts.specs.Marks.{bare}
 use Rattle.words.specs.Bits.{width}
 use Rattle.chainwords.specs.Puts.{Copied}
 use Rattle.chainwords.specs.Along.{Learning, Learnt}
@@ -186,13 +186,13 @@ module _ {M : Type 1} (𝓤 : URA M) (H : Heap 𝓤) (A : Atoms 𝓤) (W : Given
         analyse-args = pass-one 𝓤 H A W 7 κs qs 0 tt tab ∷ pass-slice 𝓤 H A W 7 κs qs 2 tt recs ∷ pass-slice 𝓤 H A W 7 κs qs 3 tt ops ∷ pass-part 𝓤 H A W 7 κs qs 4 tt work64 3 (work64 .list) a (e - a) within refl ∷ pass-mut 𝓤 H A W 7 κs qs 6 tt facts 4 (facts .list) refl ∷ pass-slice 𝓤 H A W 7 κs qs 1 tt bounds ∷ pass-data 𝓤 H A W chain-data chain ∷ pass-number 𝓤 H A W w64 (sizes .it .regs) regs-fits ∷ []
 
         abbrev Analyse-says : ℕ → Lasts 𝓤 H A analyse-args → Type 0
-        Analyse-says r y = Analysed (recs .list) (ops .list) (midOf a (e - a) (work64 .list)) (numbers (facts .list)) (bounds .list) (chain .it) (sizes .it .regs) r (y .1 .1 .1 .0) (numbers (y .1 .1 .1 .1 .0))
+        Analyse-says r y = Analysed (recs .list) (ops .list) (midOf a (e - a) (work64 .list)) (bare (facts .list)) (bounds .list) (chain .it) (sizes .it .regs) r (y .1 .1 .1 .0) (bare (y .1 .1 .1 .1 .0))
 
         analyse-call : ent 𝓤 (⋆ 𝓤 H A (G.hads 𝓤 H A analyse-args)) (H .⇛ (C #analyse·along·analyse (G.flat 𝓤 H A analyse-args) (G.Then 𝓤 H A W analyse-args u32 Analyse-says)))
         analyse-call = calls-of 𝓤 H A W C fm #analyse·along·analyse (Analyse 𝓤 H A mem run) known-analyse analyse-args (λ g. ((G.lfts 𝓤 H A analyse-args g, G.shares 𝓤 H A analyse-args, tt, G.values 𝓤 H A analyse-args g, G.machs 𝓤 H A analyse-args), tt)) (λ g. refl)
             (λ g. qed W (raw (G.tokens 𝓤 H A analyse-args g) ∷ ‵ (G.owns 𝓤 H A analyse-args g) ∷ []) ∵ says ! (law.ready (ready .1) (a-is .0) refl refl (tab .now) (ready .0)) $ done !) u32 Analyse-says (λ g w. id⊢ 𝓤 _)
 
-        module _ (n : ℕ) (rs′ : List ℕ) (gs : List Fact) (an : Analysed (recs .list) (ops .list) (midOf a (e - a) (work64 .list)) (numbers (facts .list)) (bounds .list) (chain .it) (sizes .it .regs) n rs′ (numbers gs)) where
+        module _ (n : ℕ) (rs′ : List ℕ) (gs : List Fact) (an : Analysed (recs .list) (ops .list) (midOf a (e - a) (work64 .list)) (bare (facts .list)) (bounds .list) (chain .it) (sizes .it .regs) n rs′ (bare gs)) where
           abbrev ys : List ℕ
           ys = putMid a (e - a) (work64 .list) rs′
 

@@ -52,7 +52,7 @@ use Rattle.inst.proofs.index.BlockId as B
 use Rattle.inst.proofs.index.BlockId.Laws as B′
 use Rattle.chains.proofs.chain.Chain as K
 use Rattle.chains.proofs.chain.Chain.Laws as K′
-use Rattle.analyse.specs.Cells.{cells as numbers}
+use Rattle.facts.specs.Marks.{bare}
 use Rattle.plan.specs.Cycle.{Chose}
 use Rattle.plan.proofs.settle.Cycle as Y
 use Rattle.plan.proofs.settle.Cycle.Laws as Y′
@@ -135,7 +135,7 @@ module _ {M : Type 1} (𝓤 : URA M) (H : Heap 𝓤) (A : Atoms 𝓤) (mem : Mem
 
 -- what the function requires
 abbrev Asked : Values kinds → Type 0
-Asked = F.asks kinds (λ tab bounds recs ops pairs targets work64 work32 facts sizes chain goal. (tab .now ≡ rows) × Trying (bounds .list) (recs .list) (ops .list) (pairs .list) (targets .list) (sizes .it) (chain .it) (numbers (facts .list)) (work64 .list) (work32 .list) (goal .it) × (goal .it .places ≤ length (facts .list)))
+Asked = F.asks kinds (λ tab bounds recs ops pairs targets work64 work32 facts sizes chain goal. (tab .now ≡ rows) × Trying (bounds .list) (recs .list) (ops .list) (pairs .list) (targets .list) (sizes .it) (chain .it) (bare (facts .list)) (work64 .list) (work32 .list) (goal .it) × (goal .it .places ≤ length (facts .list)))
 
 module _ {M : Type 1} (𝓤 : URA M) (H : Heap 𝓤) (A : Atoms 𝓤) (W : Given 𝓤 H A) (mem : Memory → SProp 𝓤) (run : Routine → Fun 𝓤) (𝓣 : Tables 𝓤 H)
     (known-aim : Triple 𝓤 (𝓣 .C #trial·target·take-aim) (TakeAim 𝓤 H A mem run)) (known-choose : Triple 𝓤 (𝓣 .C #plan·set·legal-set) (LegalSet 𝓤 H A mem run)) (known-take : Triple 𝓤 (𝓣 .C #trial·target·taken) (Taken 𝓤 H A mem run)) (known-put : Triple 𝓤 (𝓣 .C #chainwords·marks·put-facts) (PutFacts 𝓤 H A mem run)) (known-use : Triple 𝓤 (𝓣 .C #chainwords·marks·put-uses) (PutUses 𝓤 H A mem run)) where
@@ -186,7 +186,7 @@ module _ {M : Type 1} (𝓤 : URA M) (H : Heap 𝓤) (A : Atoms 𝓤) (W : Given
     Post = Ends κs qs vs
 
     abbrev Said : List ℕ → List ℕ → List Fact → ℕ → Type 0
-    Said xs′ ws′ fs′ r = TargetTried (bounds .list) (recs .list) (ops .list) (pairs .list) (targets .list) (sizes .it) (chain .it) (numbers (facts .list)) (work64 .list) (work32 .list) g xs′ ws′ r × (numbers fs′ ≡ numbers (facts .list))
+    Said xs′ ws′ fs′ r = TargetTried (bounds .list) (recs .list) (ops .list) (pairs .list) (targets .list) (sizes .it) (chain .it) (bare (facts .list)) (work64 .list) (work32 .list) g xs′ ws′ r × (bare fs′ ≡ bare (facts .list))
 
     exits : (xs′ ws′ : List ℕ) (fs′ : List Fact) (r : ℕ) → r < 2 ^ 32 → length xs′ ≡ length (work64 .list) → length ws′ ≡ length (work32 .list) → length fs′ ≡ length (facts .list) → Said xs′ ws′ fs′ r → ent 𝓤 (⋆ 𝓤 H A (Held xs′ ws′ fs′)) (Post (vint w32 r))
     exits xs′ ws′ fs′ r fits e e′ e″ said =
