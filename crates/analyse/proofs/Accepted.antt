@@ -25,10 +25,9 @@ use Rattle.inst.specs.Record.{Within, Listed, write-at}
 use Rattle.inst.specs.Table.{arm-code}
 use Rattle.inst.proofs.Words.{slots-long, slot-is}
 use Rattle.chains.specs.Places.{Pair, end-past}
-use Rattle.regfacts.specs.Written.{Fits}
+use Rattle.regfacts.specs.Written.{Fits, Good}
 use Rattle.regfacts.specs.Flags.{Found, Seen}
-use Rattle.analyse.specs.State.{Readable}
-use Rattle.analyse.specs.Step.{Good}
+use Rattle.analyse.specs.Step.{Learnable}
 use Rattle.analyse.proofs.Learned.{fits-more}
 use Rattle.regfacts.proofs.First.{first-seen}
 
@@ -114,14 +113,6 @@ module _ (P : Picture) (ok : laws.Accepted P) where
         ap (λ (os : List Role). drop 3 (chosen reading os (slots i) ++ list-of (P .ops) i)) z
         ∙ three-first (P .regs) few-regs (slots i) (rw (slots-long (P .recs) g within) (omega arith)) (subst (λ (os : List Role). bad-slots (P .regs) os (slots i) ≡ false) z (fine .slots-fit)) (list-of (P .ops) i)
 
-    readable : Readable (P .recs) (P .ops) (P .regs) g
-    readable = record {
-      whole = known;
-      listed = listed;
-      each = λ k l. reads-low P ok i fine (getD (reads (P .ops) i) k absent) (in-getD absent (reads (P .ops) i) k l);
-      three = three;
-    }
-
     fits : Fits (P .recs) (P .regs) g
     unfolding write-at
     fits = record {
@@ -133,8 +124,11 @@ module _ (P : Picture) (ok : laws.Accepted P) where
     }
 
     -- each record can be analysed
-    pub good-given : Good (P .recs) (P .ops) (P .regs) g
-    good-given = let s = few-insts P ok in record { readable = readable; fits = fits; small = omega arith }
+    good : Good (P .recs) (P .ops) (P .regs) g
+    good = record { known = known; listed = listed; fits = fits; each = λ k l. reads-low P ok i fine (getD (reads (P .ops) i) k absent) (in-getD absent (reads (P .ops) i) k l) }
+
+    pub good-given : Learnable (P .recs) (P .ops) (P .regs) g
+    good-given = let s = few-insts P ok in record { good = good; three = three; small = omega arith }
 
     -- and its writers noted, in as many words as there are registers lent
     pub fits-given : Fits (P .recs) (length (P .types)) g

@@ -21,7 +21,7 @@ use Rattle.facts.specs.Marks.{fact-in, bare}
 use Rattle.facts.proofs.Bare.{bare-put, length-bare}
 use Rattle.regfacts.specs.Flags.{Seen}
 use Rattle.analyse.specs.State.{place-at, State, Ranged, Safe}
-use Rattle.analyse.specs.Step.{Forgot, Good, Learned, Holds, Ran, Begun, Ready, Analysed}
+use Rattle.analyse.specs.Step.{Forgot, Learnable, Learned, Holds, Ran, Begun, Ready, Analysed}
 use Rattle.analyse.proofs.Puts.{ran-one}
 use Rattle.analyse.proofs.Learned.{seen-kept}
 use Rattle.analyse.proofs.Marking.{ranges-none}
@@ -95,10 +95,10 @@ module _ {t recs ops regs bounds : List ℕ} {facts : List F.Fact} {c : Chain} {
         let d = ap length (next-left blank bs x l) in
         omega (arith, short, a, b, d, h .at)
 
-    good-at : Good recs ops R (x .g)
+    good-at : Learnable recs ops R (x .g)
     good-at = let i = h .standing .inside in y .good (x .k) (x .g) (i .block) (omega (arith, l, i .fits))
 
-    pub learn-ready : (t ≡ rows) × Ranged R p regs₁ × Good recs ops R (x .g) × (p + 1 < 1000)
+    pub learn-ready : (t ≡ rows) × Ranged R p regs₁ × Learnable recs ops R (x .g) × (p + 1 < 1000)
     learn-ready = (y .table, safe-at h .ranged, good-at, omega (arith, few-yet))
 
     goes-on : {regs₂ : List ℕ} {w₂ : List F.Fact} {z : Cursor} → Ran recs ops regs₁ w₁ regs₂ w₂ p R (x .g ∷ []) → Standing bounds c z → ((P : Picture) → P .bounds ≡ bounds → left-of P bs (x .k) (x .g) (x .past) ≡ x .g ∷ left-of P bs (z .k) (z .g) (z .past))

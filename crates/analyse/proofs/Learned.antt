@@ -27,7 +27,7 @@ use Rattle.analyse.specs.declared.look.Value.{Value}
 use Rattle.regfacts.specs.Written.{Fits, Written, settle}
 use Rattle.regfacts.specs.Flags.{Seen}
 use Rattle.analyse.specs.State.{Stands, place-at, left-in, Left, Marked, Ranges, Ranged, Asked, Low, Judged}
-use Rattle.analyse.specs.Step.{stamp, marked, more, fact-of, Good, Sized, Learned}
+use Rattle.analyse.specs.Step.{stamp, marked, more, fact-of, Learnable, Sized, Learned}
 use Rattle.analyse.proofs.Layouts.{lay-keep}
 use Rattle.analyse.proofs.Marking.{last-more, settle-flags, writer-new, left-new, ranges-settle, opt-settle}
 use Rattle.analyse.proofs.Verdict.{led}
@@ -60,12 +60,12 @@ nothing-more x e = go (eqb (x .d1) absent) (eqb (x .r2) absent) refl refl e
     go true false p q z = clash refl z
     go false b p q z = clash refl z
 
-some-read : {recs ops : List ℕ} {R g : ℕ} → Good recs ops R g → Some (reads ops (inst recs g))
-some-read good = record { each = λ k h e. omega (arith, good .readable .each k h, good .fits .room, e) }
+some-read : {recs ops : List ℕ} {R g : ℕ} → Learnable recs ops R g → Some (reads ops (inst recs g))
+some-read good = record { each = λ k h e. omega (arith, good .good .each k h, good .good .fits .room, e) }
 
 -- ---- one position
 
-module _ (recs ops : List ℕ) (e : Effect) (b : Bool) (y : Input) {regs regs′ : List ℕ} {g p R a : ℕ} {x : Firsts} (ranged : Ranged R p regs) (few : p + 1 < 1000) (good : Good recs ops R g)
+module _ (recs ops : List ℕ) (e : Effect) (b : Bool) (y : Input) {regs regs′ : List ℕ} {g p R a : ℕ} {x : Firsts} (ranged : Ranged R p regs) (few : p + 1 < 1000) (good : Learnable recs ops R g)
     (ea : a ≡ T.arm (packed (kind (inst recs g)))) (low : Low p (inst recs g) e) (heads : Heads (reads ops (inst recs g)) (writes (inst recs g)) x)
     (m : Written (marked (stamp p (e .org) (e .len) (leads a y e))) (inst recs g) regs regs′) where
   abbrev i : Inst
@@ -97,7 +97,7 @@ module _ (recs ops : List ℕ) (e : Effect) (b : Bool) (y : Input) {regs regs′
 
     -- a register that it writes
     own : Left after (record { org = e .org; len = e .len; layout = leads a y e }) f
-    own = record { org = j .org; len = j .len; layout = led G past ops R i y small-R (good .readable .each) q e a ea (j .org) (j .layout) }
+    own = record { org = j .org; len = j .len; layout = led G past ops R i y small-R (good .good .each) q e a ea (j .org) (j .layout) }
 
     -- and one that it does not
     still : (v k : ℕ) → Ranges p v → v / 16 % 1024 ≡ suc k → Left past (left-in v) (getD past k no-fact) → Left after (left-in v) (getD after k no-fact)

@@ -15,7 +15,7 @@ use Rattle.facts.specs.declared.Fact as F
 use Rattle.facts.specs.Marks as Marks
 use Rattle.facts.specs.Marks.{fact-in}
 use Rattle.analyse.specs.State.{Stands, State, Near, Safe}
-use Rattle.analyse.specs.Step.{Good, Sized, Learned, Holds, Ran}
+use Rattle.analyse.specs.Step.{Learnable, Sized, Learned, Holds, Ran}
 
 -- ---- what is known of one fact
 
@@ -31,9 +31,9 @@ near-of {recs} {ops} {g} {x} s = record { org = s .org; wrote = s .wrote; from =
     go (inl h) = inl h
     go (inr h) = inr (h .0)
 
-holds-of : {recs ops : List ℕ} {R g : ℕ} {x : F.Fact} → Sized recs ops g x → Good recs ops R g → Holds recs ops R x
+holds-of : {recs ops : List ℕ} {R g : ℕ} {x : F.Fact} → Sized recs ops g x → Learnable recs ops R g → Holds recs ops R x
 holds-of {recs} {ops} {R} {g} {x} s good = record {
-  good = subst (Good recs ops R) (sym (s .number)) good;
+  good = subst (Learnable recs ops R) (sym (s .number)) good;
   cat = λ q. subst (λ (k : ℕ). row (kind (inst recs k)) .arm ≡ cat) (sym (s .number)) (coded (s .from) q);
   defs = λ q. ap (λ (k : ℕ). writes (inst recs k)) (s .number) ∙ s .defs q;
   reads = λ q. ap (λ (k : ℕ). reads ops (inst recs k)) (s .number) ∙ s .reads q;
@@ -41,7 +41,7 @@ holds-of {recs} {ops} {R} {g} {x} s good = record {
 
 -- ---- one position
 
-module _ {recs ops regs regs′ : List ℕ} {w : List F.Fact} {g p R : ℕ} {x : F.Fact} (safe : Safe R p regs w) (room : p < length w) (l : Learned recs ops regs regs′ p R g x) (good : Good recs ops R g) where
+module _ {recs ops regs regs′ : List ℕ} {w : List F.Fact} {g p R : ℕ} {x : F.Fact} (safe : Safe R p regs w) (room : p < length w) (l : Learned recs ops regs regs′ p R g x) (good : Learnable recs ops R g) where
   abbrev w′ : List F.Fact
   w′ = set w p x
 

@@ -28,19 +28,20 @@ use Rattle.effects.specs.declared.arms.Effect.{Effect}
 use Rattle.effects.specs.declared.arms.Input.{Input}
 use Rattle.effects.proofs.Origins.{movable-is}
 use Rattle.regfacts.specs.Flags.{is-length}
-use Rattle.analyse.specs.State.{org-reg, len-reg, Reg?, Below, Readable, Asked, Low, Judged, fill-in}
+use Rattle.regfacts.specs.Written.{Good}
+use Rattle.analyse.specs.State.{org-reg, len-reg, Reg?, Below, Asked, Low, Judged, fill-in}
 use Rattle.analyse.proofs.Alike.{arm-ext}
 use Rattle.analyse.proofs.Layouts.{after-fact}
 use Rattle.analyse.proofs.Leads.{leads-right}
 
-pub reads-reg : {recs ops : List ℕ} {R g : ℕ} → Readable recs ops R g → (k : ℕ) → Reg? R (getD (reads ops (inst recs g)) k absent)
+pub reads-reg : {recs ops : List ℕ} {R g : ℕ} → Good recs ops R g → (k : ℕ) → Reg? R (getD (reads ops (inst recs g)) k absent)
 reads-reg {recs} {ops} {R} {g} r k = go (decLt k (length (reads ops (inst recs g))))
   where
     go : Dec (k < length (reads ops (inst recs g))) → Reg? R (getD (reads ops (inst recs g)) k absent)
     go (yes h) = inr (r .each k h)
     go (no h) = inl (List·getD-eq-default (reads ops (inst recs g)) absent (le-of-suc-le-suc (lt-of-not-le h)))
 
-pub reads-below : {recs ops ds : List ℕ} {R g : ℕ} {x : Firsts} → Readable recs ops R g → Heads (reads ops (inst recs g)) ds x → Below R x
+pub reads-below : {recs ops ds : List ℕ} {R g : ℕ} {x : Firsts} → Good recs ops R g → Heads (reads ops (inst recs g)) ds x → Below R x
 reads-below r h = record { r0 = rw (h .r0) (reads-reg r 0); r1 = rw (h .r1) (reads-reg r 1); r2 = rw (h .r2) (reads-reg r 2) }
 
 -- ---- memory written

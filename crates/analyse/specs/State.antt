@@ -7,12 +7,10 @@ use mathlib.Core.List.{List}
 use mathlib.Core.Option.{Option, none, some}
 use Prim.Native.Nat.{ℕ, suc, _+_, _*_, _/_, _%_, _≤_, _<_}
 use lib.Dec.{eqb}
-use lib.ListN.{getD, length, drop}
+use lib.ListN.{getD, length}
 use Rattle.model.specs.Kinds.{row, cat}
-use Rattle.model.specs.Picture.{Inst, inst, absent, kind, reads, list-of}
+use Rattle.model.specs.Picture.{Inst, absent, kind, reads}
 use Rattle.model.specs.Analyse.{Facts, Fact, Org, Unknown, no-fact, last-writer, org-of, len-of, is-layout, when-some, known-of, positive, sized}
-use Rattle.inst.specs.Record as I
-use Rattle.inst.specs.Record.{Listed}
 use Rattle.inst.specs.Constant.{constant-of}
 use Rattle.inst.specs.declared.access.Firsts.{Firsts}
 use Rattle.effects.specs.Origin.{org-at, class-at, wrote-at, from-at}
@@ -116,13 +114,6 @@ pub record Valued (G : Facts) (past : List Fact) (r : ℕ) (x : Value) : Type 0 
   pub layout : sized (λ k. x .layout) (org-at (x .org)) ≡ sized (is-layout past) (org-at (x .org))
 
 -- ---- an instruction
-
--- record g is whole, and reads registers below R; a Cat's list comes after three of them
-pub record Readable (recs ops : List ℕ) (R g : ℕ) : Type 0 where
-  pub whole : I.Known recs g
-  pub listed : Listed recs ops g
-  pub each : (k : ℕ) → k < length (reads ops (inst recs g)) → getD (reads ops (inst recs g)) k absent < R
-  pub three : row (kind (inst recs g)) .arm ≡ cat → drop 3 (reads ops (inst recs g)) ≡ list-of ops (inst recs g)
 
 -- x holds what instruction i asks, at the position after the past
 pub record Asked (G : Facts) (past : List Fact) (ops : List ℕ) (i : Inst) (x : Input) : Type 0 where

@@ -5,9 +5,9 @@ use mathlib.Core.Logic.{_⊎_}
 use mathlib.Core.List.{List, [], _∷_, _++_, map}
 use Prim.Native.Nat.{ℕ, _+_, _*_, _%_, _≤_, _<_}
 use lib.Dec.{eqb}
-use lib.ListN.{getD, length}
+use lib.ListN.{getD, length, drop}
 use Rattle.model.specs.Kinds.{row, cat}
-use Rattle.model.specs.Picture.{Picture, inst, kind, absent, reads, writes}
+use Rattle.model.specs.Picture.{Picture, inst, kind, absent, reads, writes, list-of}
 use Rattle.model.specs.Analyse.{Facts, Fact, fact, analyse}
 use Rattle.model.specs.Move.{chain-places}
 use Rattle.inst.specs.Table.{rows}
@@ -22,9 +22,9 @@ use Rattle.chains.specs.declared.cursor.Cursor.{Cursor}
 use Rattle.chains.specs.Chain.{blocks-of}
 use Rattle.chains.specs.Cursor.{left-of, Standing}
 use Rattle.chains.specs.Places.{Laid, end-past}
-use Rattle.regfacts.specs.Written.{Fits}
+use Rattle.regfacts.specs.Written.{Good}
 use Rattle.regfacts.specs.Flags.{Seen}
-use Rattle.analyse.specs.State.{Stands, Marked, Ranged, State, Safe, Readable}
+use Rattle.analyse.specs.State.{Stands, Marked, Ranged, State, Safe}
 
 -- ---- last writers
 
@@ -70,10 +70,10 @@ fact-of g e s x = record {
 
 -- ---- positions one after the other
 
--- record g can be analysed
-pub record Good (recs ops : List ℕ) (R g : ℕ) : Type 0 where
-  pub readable : Readable recs ops R g
-  pub fits : Fits recs R g
+-- record g can be analysed: it is good, a Cat's list comes after three registers, and g is small
+pub record Learnable (recs ops : List ℕ) (R g : ℕ) : Type 0 where
+  pub good : Good recs ops R g
+  pub three : row (kind (inst recs g)) .arm ≡ cat → drop 3 (reads ops (inst recs g)) ≡ list-of ops (inst recs g)
   pub small : g < 32768
 
 -- x is of record g and not in the set; its numbers are small, but for the code of a Cat; where there is no more, it has all that the
@@ -98,7 +98,7 @@ pub record Learned (recs ops regs regs′ : List ℕ) (p R g : ℕ) (x : F.Fact)
 
 -- x is of such a record, and has the code of a Cat only if that is one; where there is no more, it has all that the record writes and reads
 pub record Holds (recs ops : List ℕ) (R : ℕ) (x : F.Fact) : Type 0 where
-  pub good : Good recs ops R (x .rec)
+  pub good : Learnable recs ops R (x .rec)
   pub cat : x .from ≡ 4294967295 → row (kind (inst recs (x .rec))) .arm ≡ cat
   pub defs : x .more ≡ false → writes (inst recs (x .rec)) ≡ present (x .def)
   pub reads : x .more ≡ false → reads ops (inst recs (x .rec)) ≡ present (x .use0) ++ present (x .use1)
@@ -127,7 +127,7 @@ pub record Ready (t recs ops regs : List ℕ) (facts : List F.Fact) (bounds : Li
   pub lent : length regs ≤ 65536
   pub room : 800 ≤ length facts
   pub laid : Laid bounds c
-  pub good : (k g : ℕ) → k < c .count → g < end-past bounds (getD (blocks-of c) k 0) → Good recs ops R g
+  pub good : (k g : ℕ) → k < c .count → g < end-past bounds (getD (blocks-of c) k 0) → Learnable recs ops R g
   pub short : (P : Picture) → P .bounds ≡ bounds → length (chain-places P (blocks-of c)) ≤ 800
 
 -- words and structs stand for the facts of the whole chain

@@ -27,7 +27,8 @@ ghost use Rattle.inst.specs.Constant.{constant-of};
 ghost use Rattle.effects.specs.Origin.{class-at, wrote-at};
 ghost use Rattle.effects.specs.Arms.{Small};
 ghost use Rattle.regfacts.specs.Flags.{is-length};
-ghost use Rattle.analyse.specs.State.{Marked, Ranged, Below, Readable, Asked, fill-in, Low, Judged};
+ghost use Rattle.regfacts.specs.Written.{Good};
+ghost use Rattle.analyse.specs.State.{Marked, Ranged, Below, Asked, fill-in, Low, Judged};
 
 // Does record g hold a constant that is a length?
 fn holds_length(recs: &[u32], g: usize) -> bool
@@ -79,7 +80,7 @@ fn placed(e: Effect, quiet: bool, native: bool) -> u32
 // What record g does, by the row of its kind and what it asks.
 pub fn judge(recs: &[u32], g: usize, m: u32, y: Input) -> Effect
     requires { ⌜ Known (now recs) g × (m ≡ packed (kind (inst (now recs) g))) × Small y ⌝ }
-    ensures { λ e. ⌜ Low (y .p) (inst (now (recs .entry)) g) e × ((ops : List ℕ) (G : Facts) (past : List Fact) (R : ℕ) → R ≤ 65536 → Readable (now (recs .entry)) ops R g → Asked G past ops (inst (now (recs .entry)) g) y → Judged e (fact G ops past (inst (now (recs .entry)) g))) ⌝ }
+    ensures { λ e. ⌜ Low (y .p) (inst (now (recs .entry)) g) e × ((ops : List ℕ) (G : Facts) (past : List Fact) (R : ℕ) → R ≤ 65536 → Good (now (recs .entry)) ops R g → Asked G past ops (inst (now (recs .entry)) g) y → Judged e (fact G ops past (inst (now (recs .entry)) g))) ⌝ }
 {
     let e = effects::arms::arm(arm(m), y);
     let wrote = placed(e, quiet(m), kind(recs, g) == CALL_NATIVE);

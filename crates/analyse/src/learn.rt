@@ -26,7 +26,7 @@ ghost use Rattle.model.specs.Analyse.{may-suspend};
 ghost use Rattle.inst.specs.Table.{rows};
 ghost use Rattle.inst.specs.Record.{Within};
 ghost use Rattle.analyse.specs.State.{Ranged};
-ghost use Rattle.analyse.specs.Step.{more, fact-of, Good, Learned};
+ghost use Rattle.analyse.specs.Step.{more, fact-of, Learnable, Learned};
 
 // May record g suspend?
 fn may_suspend(recs: &[u32], g: usize) -> bool
@@ -79,7 +79,7 @@ pub fn learn_one(
     p: u32,
     count: usize,
 ) -> Fact
-    requires { ⌜ (now t ≡ rows) × Ranged count p (now regs) × Good (now recs) (now ops) count g × (p + 1 < 1000) ⌝ }
+    requires { ⌜ (now t ≡ rows) × Ranged count p (now regs) × Learnable (now recs) (now ops) count g × (p + 1 < 1000) ⌝ }
     ensures { λ f. ⌜ Learned (now (recs .entry)) (now (ops .entry)) (now (regs .entry)) (now (regs .exit)) p count g f ⌝ }
 {
     let u = uses(t, recs, g);

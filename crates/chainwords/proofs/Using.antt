@@ -25,7 +25,8 @@ use Rattle.chains.proofs.Laid.{laid-in}
 use Rattle.analyse.proofs.Accepted.{pair-given}
 use Rattle.facts.specs.declared.Fact.{Fact}
 use Rattle.facts.specs.Marks.{fact-in}
-use Rattle.legalset.specs.Chain.{view, defs-of, reads-of, Good, Told}
+use Rattle.regfacts.specs.Written.{Good}
+use Rattle.legalset.specs.Chain.{view, defs-of, reads-of, Told}
 use Rattle.summary.specs.Passes.{result-test, Around}
 use Rattle.lastuse.specs.Uses.{or-own, reads-value, last-reader, Readers, defs-at, reads-at, Legible, ReadersAlong}
 use Rattle.summary.proofs.Backing.{writes-low}

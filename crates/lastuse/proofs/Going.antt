@@ -12,9 +12,9 @@ use Rattle.chains.specs.declared.cursor.Cursor.{Cursor}
 use Rattle.chains.specs.Chain.{blocks-of}
 use Rattle.chains.specs.Cursor.{left-of, Standing}
 use Rattle.chains.proofs.Seeking.{next-left, nothing-left}
-use Rattle.legalset.specs.Chain.{Good}
+use Rattle.regfacts.specs.Written.{Good}
 use Rattle.lastuse.specs.Uses.{ReadOn, Readers, defs-at, reads-at, Legible, ReadersAlong}
-use Rattle.summary.proofs.Forwarding.{reads-low}
+use Rattle.summary.proofs.Places.{reads-low}
 use Rattle.lastuse.proofs.Using.{Reading, reading-none, reading-low, reading-more}
 
 pub cleared : (st : List ℕ) {st′ : List ℕ} → st′ ≡ replicate (length st) 0 → (length st′ ≡ length st) × (st′ ≡ replicate (length st′) 0)

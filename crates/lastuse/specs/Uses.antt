@@ -12,7 +12,8 @@ use Rattle.model.specs.Move.{chain-places}
 use Rattle.chains.specs.declared.chain.Chain.{Chain}
 use Rattle.chains.specs.Chain.{blocks-of}
 use Rattle.chains.specs.Places.{Laid}
-use Rattle.legalset.specs.Chain.{writer, Good}
+use Rattle.regfacts.specs.Written.{Good}
+use Rattle.legalset.specs.Chain.{writer}
 use Rattle.summary.specs.Passes.{Stamped}
 
 -- q is noted at r's writer, if r is a register and has one

@@ -20,8 +20,7 @@ ghost use Rattle.model.specs.Picture.{inst, reads, writes};
 ghost use Rattle.inst.specs.Table.{rows};
 ghost use Rattle.inst.specs.Index.{word-of, Among};
 ghost use Rattle.inst.specs.Record.{Known, Used};
-ghost use Rattle.regfacts.specs.Written.{Fits};
-ghost use Rattle.legalset.specs.Chain.{Good};
+ghost use Rattle.regfacts.specs.Written.{Fits, Good};
 ghost use Rattle.lastuse.specs.Uses.{note-in, Noticed, ReadOn, Legible, ReadersAlong};
 
 // Position q reads register r, if it is one: r's writer has a reader.

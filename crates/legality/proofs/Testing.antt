@@ -14,10 +14,11 @@ use Rattle.words.proofs.Alls.{and-yes, and-nay}
 use Rattle.words.proofs.Lists.{getD-any}
 use Rattle.model.specs.Picture.{Inst, inst, absent, reads, list-of}
 use Rattle.facts.specs.declared.Fact.{Fact}
-use Rattle.legalset.specs.Chain.{reg-org, picked, Good}
+use Rattle.regfacts.specs.Written.{Good}
+use Rattle.legalset.specs.Chain.{reg-org, picked}
 use Rattle.legalset.specs.Rules.{org-fine, still-fine}
 use Rattle.summary.specs.Passes.{read-place, read-test, place-test, word-org, org-test, piece-test, froms, from-test, memory-test, own-test, stay-test, Near}
-use Rattle.summary.proofs.Places.{all-placed, reads-placed}
+use Rattle.summary.proofs.Places.{all-placed, reads-placed, list-at-low}
 
 -- ---- rule 3
 
@@ -201,7 +202,7 @@ from-small (inr h) n = absurd (n h)
 pub list-low : {recs ops : List ℕ} {R g : ℕ} {xs : List ℕ} → Good recs ops R g → xs ≡ list-of ops (inst recs g) → (k : ℕ) → k < length xs → getD xs k 0 < R
 list-low {recs} {ops} {R} {g} {xs} h e k l =
     let m : k < length (list-of ops (inst recs g)) = subst (λ (y : List ℕ). k < length y) e l in
-    subst (λ (x : ℕ). x < R) (sym (ap (λ (y : List ℕ). getD y k 0) e ∙ getD-any (list-of ops (inst recs g)) k 0 absent m)) (h .list k m)
+    subst (λ (x : ℕ). x < R) (sym (ap (λ (y : List ℕ). getD y k 0) e ∙ getD-any (list-of ops (inst recs g)) k 0 absent m)) (list-at-low recs ops R g h k m)
 
 module _ (recs ops regs st lasts : List ℕ) (d : Fact) (sus bar p : ℕ) (m : d .member ≡ true) where
   abbrev three : Bool

@@ -25,8 +25,8 @@ ghost use Rattle.model.specs.Picture.{inst, absent, reads, writes};
 ghost use Rattle.inst.specs.Table.{rows};
 ghost use Rattle.inst.specs.Index.{word-of, Among};
 ghost use Rattle.inst.specs.Record.{Used};
-ghost use Rattle.regfacts.specs.Written.{Fits};
-ghost use Rattle.legalset.specs.Chain.{picked, Good};
+ghost use Rattle.regfacts.specs.Written.{Fits, Good};
+ghost use Rattle.legalset.specs.Chain.{picked};
 ghost use Rattle.legalset.specs.Rules.{still-fine};
 ghost use Rattle.summary.specs.Passes.{result-test, read-test, place-test, word-org, org-test, piece-test, from-test, memory-test, own-test, Near, Written, Readable};
 

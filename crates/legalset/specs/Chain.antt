@@ -9,16 +9,15 @@ use lib.Dec.{eqb}
 use lib.ListN.{getD, length, take}
 use Rattle.words.specs.Lists.{mem}
 use Rattle.words.specs.Last.{last-below}
-use Rattle.model.specs.Picture.{Inst, inst, absent, reads, writes, list-of}
+use Rattle.model.specs.Picture.{Inst, inst, reads, writes, list-of}
 use Rattle.model.specs.Analyse.{Fact, last-writer}
 use Rattle.model.specs.Legal.{fact-at}
 use Rattle.facts.specs.declared.Fact as F
 use Rattle.facts.specs.Marks.{fact-in}
 use Rattle.effects.specs.Origin.{org-at, class-at, wrote-at}
 unfoldable pub use Rattle.effects.specs.Origin.{place-at}
-use Rattle.inst.specs.Record as I
-use Rattle.inst.specs.Record.{Listed, present, read-at}
-use Rattle.regfacts.specs.Written.{Fits}
+use Rattle.inst.specs.Record.{present}
+use Rattle.regfacts.specs.Written.{Good}
 
 -- ---- where values point
 
@@ -83,14 +82,6 @@ pub record Stands (C : View) (n : ℕ) (run : List Fact) : Type 0 where
   pub suspends : (q : ℕ) → q < n → fact-at run q .suspends ≡ C .suspends q
 
 -- ---- what the code needs
-
--- record g is whole, and writes and reads registers below R
-pub record Good (recs ops : List ℕ) (R g : ℕ) : Type 0 where
-  pub known : I.Known recs g
-  pub listed : Listed recs ops g
-  pub fits : Fits recs R g
-  pub slot : (s : ℕ) → s < 5 → (read-at (inst recs g) s ≡ absent) ⊎ (read-at (inst recs g) s < R)
-  pub list : (k : ℕ) → k < length (list-of ops (inst recs g)) → getD (list-of ops (inst recs g)) k absent < R
 
 -- the facts of n positions over R registers
 pub record Safe (recs ops : List ℕ) (w : List F.Fact) (n R : ℕ) : Type 0 where

@@ -1,7 +1,7 @@
 -- The structs that `analyse` leaves of a chain are what the plan asks: they stand for the chain's facts, and their numbers are small.
 -- Assumes nothing.
 use mathlib.Core.Path.{_≡_, refl, sym, ap, _∙_, subst}
-use mathlib.Core.Logic.{inl, inr, ⊎-elim}
+use mathlib.Core.Logic.{⊎-elim}
 use mathlib.Core.List.{List, [], map}
 use Prim.Native.Nat.{ℕ, zero, suc, _/_, _%_, _≤_, _<_}
 use native.Mathlib.Nat.{zero-add}
@@ -9,56 +9,24 @@ use native.Mathlib.Omega.{arith}
 use lib.Dec.{eqb}
 use lib.ListN.{getD, length, take, length-map, List·getD-eq-default}
 use lib.Seq.{getD-take, take-all, length-take-le}
-use Rattle.words.specs.Lists.{In, upto}
-use Rattle.words.proofs.Bools.{eq?, lt?}
+use Rattle.words.proofs.Bools.{lt?}
 use Rattle.words.proofs.Lists.{getD-map}
-use Rattle.words.proofs.Members.{in-left, in-right, in-concat, map-in, in-range, in-getD, in-index}
-use Rattle.model.specs.Kinds.{reading}
-use Rattle.model.specs.Picture.{Picture, Inst, inst, absent, roles, slots, chosen, reads, list-of}
+use Rattle.model.specs.Picture.{Picture, inst}
 use Rattle.model.specs.Analyse.{Facts, Known, unknown, Fact, analyse, known-of, last-writer}
 use Rattle.model.specs.Move.{chain-places}
 use Rattle.laws.proofs.Analysed.{length-analyse}
-use Rattle.inst.specs.Record.{read-at, present}
-use Rattle.inst.proofs.Rest.{reads-by-place}
 use Rattle.facts.specs.declared.Fact as F
 use Rattle.chains.specs.declared.chain.Chain.{Chain}
 use Rattle.chains.specs.Chain.{blocks-of}
 use Rattle.regfacts.specs.Flags.{Seen, flags-of}
 use Rattle.analyse.specs.State.{plain, State}
-use Rattle.analyse.specs.Step as S
 use Rattle.analyse.specs.Step.{Analysed}
 use Rattle.analyse.proofs.Looked.{ro-bit, frame-bit}
-use Rattle.legalset.specs.Chain.{place-at, writer, defs-of, view, Good, Safe, Brief, Told}
+use Rattle.legalset.specs.Chain.{place-at, writer, defs-of, view, Safe, Brief, Told}
 use Rattle.legalset.proofs.Lasting.{writer-is}
 use Rattle.summary.specs.Passes.{Ended}
-use Rattle.summary.proofs.Places.{present-in}
 use Rattle.plan.proofs.Telling as telling
 use Rattle.plan.proofs.Telling.{Heard}
-
--- ---- one record
-
--- a record that can be analysed is good for the plan
-module _ {recs ops : List ℕ} {R g : ℕ} (h : S.Good recs ops R g) where
-  abbrev i : Inst
-  i = inst recs g
-
-  low : (r : ℕ) → In r (reads ops i) → r < R
-  low r a = let z = in-index absent r (reads ops i) a in subst (λ (x : ℕ). x < R) (z .2) (h .readable .each (z .0) (z .1))
-
-  slot-in : (s : ℕ) → s < 5 → (read-at i s ≡ absent → ⊥) → In (read-at i s) (reads ops i)
-  slot-in s l n =
-      in-left (read-at i s) (chosen reading (roles i) (slots i)) (list-of ops i)
-      (subst (In (read-at i s)) (reads-by-place recs g (h .readable .whole .within))
-      (in-concat (read-at i s) (present (read-at i s)) (map (λ k. present (read-at i k)) (upto 5)) (present-in (read-at i s) n) (map-in (λ k. present (read-at i k)) s (upto 5) (in-range s 0 5 (omega arith) (omega arith)))))
-
-  pub good-of : Good recs ops R g
-  good-of = record {
-    known = h .readable .whole;
-    listed = h .readable .listed;
-    fits = h .fits;
-    slot = λ s l. ⊎-elim (λ (e : read-at i s ≡ absent). inl e) (λ (n : read-at i s ≡ absent → ⊥). inr (low (read-at i s) (slot-in s l n))) (eq? (read-at i s) absent);
-    list = λ k l. low (getD (list-of ops i) k absent) (in-right (getD (list-of ops i) k absent) (chosen reading (roles i) (slots i)) (list-of ops i) (in-getD absent (list-of ops i) k l));
-  }
 
 -- ---- the whole chain
 
@@ -73,7 +41,7 @@ module _ {recs ops regs : List ℕ} {w : List F.Fact} {bounds : List ℕ} {c : C
   pub safe : Safe recs ops w′ n R
   safe = record {
     few = a .short;
-    good = λ p h. good-of (a .holds p h .good);
+    good = λ p h. a .holds p h .good .good;
     org = λ p h. a .safe .near p h .org;
     wrote = λ p h. a .safe .near p h .wrote;
     from = λ p h. a .safe .near p h .from;
@@ -119,7 +87,7 @@ module _ {recs ops regs : List ℕ} {w : List F.Fact} {bounds : List ℕ} {c : C
       is-run = refl;
       numbers = λ k h. a .numbers P eb k (subst (λ (x : ℕ). k < x) (sym (a .positions P eb)) h);
       stands = λ p h. state .each p (subst (λ (x : ℕ). p < x) (sym (long ∙ a .positions P eb)) h);
-      cat = λ p h e. let z = a .holds p (subst (λ (x : ℕ). p < x) (sym (a .positions P eb)) h) in (z .cat e, z .good .readable .three (z .cat e));
+      cat = λ p h e. let z = a .holds p (subst (λ (x : ℕ). p < x) (sym (a .positions P eb)) h) in (z .cat e, z .good .three (z .cat e));
       ro = λ r. ⊎-elim (λ (h : r < R). ro-bit (known-of G r) (getD copy r 0) (flags r h))
           (λ (h : R ≤ r). ap (λ (x : ℕ). eqb (x % 2) 1) (nothing r h .0) ∙ sym (ap (λ (k : Known). k .ro) (nothing r h .1))) (lt? r R);
       frame = λ r. ⊎-elim (λ (h : r < R). frame-bit (known-of G r) (getD copy r 0) (flags r h))

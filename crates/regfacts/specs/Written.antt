@@ -7,15 +7,22 @@ use Prim.Native.Nat.{ℕ, _≤_, _<_}
 use lib.Dec.{eqb}
 use lib.ListN.{getD, length, set}
 use Rattle.words.specs.Lists.{mem}
-use Rattle.model.specs.Picture.{Inst, inst, writes, absent}
+use Rattle.model.specs.Picture.{Inst, inst, reads, writes, absent}
 use Rattle.inst.specs.Record as I
-use Rattle.inst.specs.Record.{write-at}
+use Rattle.inst.specs.Record.{Listed, write-at}
 
 -- record p is whole, and writes registers below R
 pub record Fits (recs : List ℕ) (R p : ℕ) : Type 0 where
   pub whole : I.Known recs p
   pub room : R ≤ 65536
   pub slot : (s : ℕ) → s < 5 → (write-at (inst recs p) s ≡ absent) ⊎ (write-at (inst recs p) s < R)
+
+-- and reads such
+pub record Good (recs ops : List ℕ) (R p : ℕ) : Type 0 where
+  pub known : I.Known recs p
+  pub listed : Listed recs ops p
+  pub fits : Fits recs R p
+  pub each : (k : ℕ) → k < length (reads ops (inst recs p)) → getD (reads ops (inst recs p)) k absent < R
 
 -- f at register w, if that is one
 unfoldable pub put-in : (ℕ → ℕ) → ℕ → List ℕ → List ℕ

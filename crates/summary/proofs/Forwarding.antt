@@ -13,13 +13,13 @@ use lib.Seq.{getD-set-same, getD-set-other, set-getD}
 use Rattle.words.specs.Lists.{In, all, mem, conj, hit}
 use Rattle.words.specs.Last.{last-below}
 use Rattle.words.proofs.Bools.{eq?, true-T, hit-le}
-use Rattle.words.proofs.Members.{in-map, map-on, in-index, all-on}
+use Rattle.words.proofs.Members.{in-map, map-on, all-on}
 use Rattle.words.proofs.Lasts.{last-step, last-low}
-use Rattle.model.specs.Picture.{Inst, inst, absent, reads, writes, list-of}
+use Rattle.model.specs.Picture.{Inst, inst, reads, writes, list-of}
 use Rattle.effects.specs.Origin.{num}
 use Rattle.facts.specs.declared.Fact.{Fact}
 use Rattle.facts.specs.Marks.{fact-in}
-use Rattle.legalset.specs.Chain.{view, defs-of, writer, reg-org, picked, origins, Good, Safe}
+use Rattle.legalset.specs.Chain.{view, defs-of, writer, reg-org, picked, origins, Safe}
 use Rattle.legalset.specs.Marks.{in-set, sifted, lost, own, Passed}
 use Rattle.legalset.specs.Rules.{last-kept, when-in, read-fine, org-fine, own-memory, still-fine, reads-ok, origins-ok, suspends-ok, memory-ok, own-ok, forward-ok}
 use Rattle.legalset.proofs.Lasting.{writer-low}
@@ -27,7 +27,7 @@ use Rattle.legalset.proofs.Dropping.{passed-none, passed-up}
 use Rattle.legalset.proofs.Easier.{forward-mono}
 use Rattle.summary.specs.Passes.{over, stamp, writer-word, Stamped, Stamps, Writes, read-test, word-org, org-test, froms, from-test, memory-test, member-at, own-test, stay-test, fact-word, forgot, Forwarded, Summed, Shows}
 use Rattle.summary.proofs.Summing.{at-parts, same-at}
-use Rattle.summary.proofs.Places.{reads-placed, read-low}
+use Rattle.summary.proofs.Places.{reads-low, list-in-low}
 
 in-picked : (sc : ℕ) (xs : List ℕ) (r : ℕ) → In r (picked sc xs) → In r xs
 unfolding picked
@@ -39,16 +39,6 @@ in-picked sc (a ∷ b ∷ xs) r i = go (eqb (sc % 2) 0) (in-picked (sc / 2) xs r
     go true k (inl e) = inl e
     go true k (inr j) = inr (inr (k j))
     go false k j = inr (inr (k j))
-
--- what a record reads are registers
-pub reads-low : (recs ops : List ℕ) (R g : ℕ) → Good recs ops R g → (r : ℕ) → In r (reads ops (inst recs g)) → r < R
-reads-low recs ops R g h r i =
-    let a = reads-placed recs ops R g h in
-    let z = a .to r i in
-    ⊎-elim (λ e. absurd (a .real r i (sym (z .2) ∙ e))) (λ l. subst (λ (x : ℕ). x < R) (z .2) l) (read-low recs ops R g h (z .0) (z .1))
-
-list-in-low : (recs ops : List ℕ) (R g : ℕ) → Good recs ops R g → (r : ℕ) → In r (list-of ops (inst recs g)) → r < R
-list-in-low recs ops R g h r i = let z = in-index absent r (list-of ops (inst recs g)) i in subst (λ (x : ℕ). x < R) (z .2) (h .list (z .0) (z .1))
 
 -- ---- what is stamped of a writer
 

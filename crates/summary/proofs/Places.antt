@@ -11,14 +11,14 @@ use lib.ListN.{getD, length}
 use Rattle.words.specs.Lists.{In, upto, all, any, mem, concat}
 use Rattle.words.proofs.Bools.{T-true, true-T, bool-ext, or-of, or-rest, eq?}
 use Rattle.words.proofs.Members.{in-left, in-right, in-split, in-concat, concat-in, in-map, map-in, in-range, range-in, in-getD, in-index, all-in, all-of, any-in, any-of, mem-in, in-mem}
-use Rattle.model.specs.Picture.{inst, absent, reads, writes, list-of}
+use Rattle.model.specs.Kinds.{reading}
+use Rattle.model.specs.Picture.{inst, absent, roles, slots, chosen, reads, writes, list-of}
 use Rattle.inst.specs.Index.{reg-of, word-of, Among}
 use Rattle.inst.specs.declared.index.MaybeReg.{MaybeReg}
 use Rattle.inst.specs.Record.{Within, read-at, write-at, present}
 use Rattle.inst.proofs.Indices.{reg-made}
 use Rattle.inst.proofs.Rest.{reads-by-place, writes-by-place}
-use Rattle.regfacts.specs.Written.{Fits}
-use Rattle.legalset.specs.Chain.{Good}
+use Rattle.regfacts.specs.Written.{Fits, Good}
 use Rattle.summary.specs.Passes.{read-place}
 
 -- the registers of l are what stands in the K places
@@ -85,11 +85,27 @@ module _ (recs ops : List ℕ) (R g : ℕ) (h : Good recs ops R g) where
   unfolding read-place
   high k l = ap (λ (b : Bool). cond b (read-at (inst recs g) k) (getD (list-of ops (inst recs g)) (k - 5) absent)) (le-ltb k 5 l)
 
+  -- what it reads is below R, by its place
+  pub reads-low : (r : ℕ) → In r (reads ops (inst recs g)) → r < R
+  reads-low r a = let z = in-index absent r (reads ops (inst recs g)) a in subst (λ (x : ℕ). x < R) (z .2) (h .each (z .0) (z .1))
+
+  slot-in : (s : ℕ) → s < 5 → In (read-at (inst recs g) s) (concat (map (λ k. present (read-at (inst recs g) k)) (upto 5))) → In (read-at (inst recs g) s) (reads ops (inst recs g))
+  slot-in s l a = in-left (read-at (inst recs g) s) (chosen reading (roles (inst recs g)) (slots (inst recs g))) (list-of ops (inst recs g)) (subst (In (read-at (inst recs g) s)) (reads-by-place recs g (h .listed .within)) a)
+
+  slot-low : (s : ℕ) → s < 5 → (read-at (inst recs g) s ≡ absent) ⊎ (read-at (inst recs g) s < R)
+  slot-low s l = ⊎-elim (λ e. inl e) (λ a. inr (reads-low (read-at (inst recs g) s) (slot-in s l a))) (slots-placed .from s l)
+
+  pub list-in-low : (r : ℕ) → In r (list-of ops (inst recs g)) → r < R
+  list-in-low r a = reads-low r (in-right r (chosen reading (roles (inst recs g)) (slots (inst recs g))) (list-of ops (inst recs g)) a)
+
+  pub list-at-low : (k : ℕ) → k < length (list-of ops (inst recs g)) → getD (list-of ops (inst recs g)) k absent < R
+  list-at-low k l = list-in-low (getD (list-of ops (inst recs g)) k absent) (in-getD absent (list-of ops (inst recs g)) k l)
+
   -- a register below R, or absent
   pub read-low : (k : ℕ) → k < 5 + length (list-of ops (inst recs g)) → (read-place ops (inst recs g) k ≡ absent) ⊎ (read-place ops (inst recs g) k < R)
   read-low k l = ⊎-elim
-      (λ (a : k < 5). ⊎-elim (λ e. inl (low k a ∙ e)) (λ e. inr (subst (λ (x : ℕ). x < R) (sym (low k a)) e)) (h .slot k a))
-      (λ (a : 5 ≤ k). inr (subst (λ (x : ℕ). x < R) (sym (high k a)) (h .list (k - 5) (omega arith)))) (Rattle.words.proofs.Bools.lt? k 5)
+      (λ (a : k < 5). ⊎-elim (λ e. inl (low k a ∙ e)) (λ e. inr (subst (λ (x : ℕ). x < R) (sym (low k a)) e)) (slot-low k a))
+      (λ (a : 5 ≤ k). inr (subst (λ (x : ℕ). x < R) (sym (high k a)) (list-at-low (k - 5) (omega arith)))) (Rattle.words.proofs.Bools.lt? k 5)
 
   pub reads-placed : Placed (reads ops (inst recs g)) (read-place ops (inst recs g)) (5 + length (list-of ops (inst recs g)))
   reads-placed = subst (λ (l : List ℕ). Placed (l ++ list-of ops (inst recs g)) (read-place ops (inst recs g)) (5 + length (list-of ops (inst recs g)))) (reads-by-place recs g (h .listed .within)) (record {
@@ -106,7 +122,7 @@ module _ (recs ops : List ℕ) (R g : ℕ) (h : Good recs ops R g) where
         (Rattle.words.proofs.Bools.lt? k 5);
     real = λ r i e. ⊎-elim
         (λ (a : In r (concat (map (λ s. present (read-at (inst recs g) s)) (upto 5)))). slots-placed .real r a e)
-        (λ (a : In r (list-of ops (inst recs g))). let z = in-index absent r (list-of ops (inst recs g)) a in let l = h .list (z .0) (z .1) in let f = h .fits .room in let y = z .2 in omega arith)
+        (λ (a : In r (list-of ops (inst recs g))). let z = in-index absent r (list-of ops (inst recs g)) a in let l = list-at-low (z .0) (z .1) in let f = h .fits .room in let y = z .2 in omega arith)
         (in-split r (concat (map (λ s. present (read-at (inst recs g) s)) (upto 5))) (list-of ops (inst recs g)) i);
   })
 

@@ -18,7 +18,8 @@ use Rattle.model.specs.Picture.{inst}
 use Rattle.inst.specs.Record.{Used, uses-of}
 use Rattle.facts.specs.declared.Fact.{Fact}
 use Rattle.facts.specs.Marks.{fact-in}
-use Rattle.legalset.specs.Chain.{Good, Safe}
+use Rattle.regfacts.specs.Written.{Good}
+use Rattle.legalset.specs.Chain.{Safe}
 use Rattle.legalset.specs.Rules.{last-kept}
 use Rattle.summary.specs.Passes.{since, noted, later-in, member-in, member-at, forgot, Notes, Noted, Writes, noting}
 

@@ -14,14 +14,13 @@ use Rattle.inst.specs.Index.{reg-of, word-of}
 use Rattle.inst.specs.declared.index.MaybeReg.{MaybeReg}
 use Rattle.inst.specs.Record.{Known, Used, uses-of, present}
 use Rattle.facts.specs.declared.Fact.{Fact}
-use Rattle.regfacts.specs.Written.{Fits}
-use Rattle.legalset.specs.Chain.{Good, Safe, Brief}
+use Rattle.regfacts.specs.Written.{Fits, Good}
+use Rattle.legalset.specs.Chain.{Safe, Brief}
 use Rattle.summary.specs.Passes.{put-in, Stamped, Beside, Written, Readable, Small, Shows}
-use Rattle.summary.proofs.Places.{Placed, all-placed, made, AsReg, as-reg}
+use Rattle.summary.proofs.Places.{Placed, all-placed, made, AsReg, as-reg, reads-low}
 use Rattle.summary.proofs.Stamping.{Stamping, stamping-none, stamping-more, stamping-end}
 use Rattle.summary.proofs.Summing.{used-at}
 use Rattle.summary.proofs.Backing.{writes-low}
-use Rattle.summary.proofs.Forwarding.{reads-low}
 
 -- ---- each position of a chain is such
 

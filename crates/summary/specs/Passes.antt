@@ -14,8 +14,8 @@ use Rattle.model.specs.Legal.{greatest}
 use Rattle.inst.specs.Record.{Known, present, read-at}
 use Rattle.facts.specs.declared.Fact as F
 use Rattle.facts.specs.Marks.{fact-in, marked}
-use Rattle.regfacts.specs.Written.{Fits}
-use Rattle.legalset.specs.Chain.{writer, defs-of, reads-of, reg-org, picked, Good, Safe, Brief, Told}
+use Rattle.regfacts.specs.Written.{Fits, Good}
+use Rattle.legalset.specs.Chain.{writer, defs-of, reads-of, reg-org, picked, Safe, Brief, Told}
 use Rattle.legalset.specs.Marks.{in-set, sifted, lost}
 use Rattle.legalset.specs.Rules.{last-kept, org-fine, still-fine, pending}
 

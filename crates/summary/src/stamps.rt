@@ -13,8 +13,7 @@ ghost use Rattle.model.specs.Picture.{inst, reads, writes};
 ghost use Rattle.inst.specs.Table.{rows};
 ghost use Rattle.inst.specs.Index.{word-of, Among};
 ghost use Rattle.inst.specs.Record.{Used};
-ghost use Rattle.regfacts.specs.Written.{Fits};
-ghost use Rattle.legalset.specs.Chain.{Good};
+ghost use Rattle.regfacts.specs.Written.{Fits, Good};
 ghost use Rattle.summary.specs.Passes.{over, put-in, Stamped, Beside, Written, Readable};
 
 // While the set is found, a register's word has its last kept writer and 1, and AWAITED if it is awaited. Of its last writer so far it

@@ -18,7 +18,7 @@ row-at-requires : tie.Need-row-at-requires
 row-at-requires c κs = search needs
 
 ask-requires : tie.Need-ask-requires
-ask-requires c κs = (c .before .before .before .before .before .before .before .pre .1, c .before .before .before .before .before .before .before .pre .2 .readable .whole .within, reads-below (c .before .before .before .before .before .before .before .pre .2 .readable) (c .before .before .scan .ensures))
+ask-requires c κs = (c .before .before .before .before .before .before .before .pre .1, c .before .before .before .before .before .before .before .pre .2 .good .known .within, reads-below (c .before .before .before .before .before .before .before .pre .2 .good) (c .before .before .scan .ensures))
 
 judge-requires : tie.Need-judge-requires
 judge-requires c κs = search needs
@@ -34,15 +34,15 @@ stamp-requires c κs = search needs
 
 mark-record-requires : tie.Need-mark-record-requires
 mark-record-requires c κs = (
-  record { within = c .before .before .before .before .before .before .before .before .before .before .before .before .before .pre .2 .readable .whole .within; uses = c .before .before .before .before .before .before .before .before .before .uses .ensures },
+  record { within = c .before .before .before .before .before .before .before .before .before .before .before .before .before .pre .2 .good .known .within; uses = c .before .before .before .before .before .before .before .before .before .uses .ensures },
   c .before .stamp .ensures .1,
-  fits-more (c .before .before .before .before .before .before .before .before .before .before .before .before .before .pre .1 .in-use) (c .before .before .before .before .before .before .before .before .before .before .before .before .before .pre .1 .lent) (c .before .before .before .before .before .before .before .before .before .before .before .before .before .pre .2 .fits),
+  fits-more (c .before .before .before .before .before .before .before .before .before .before .before .before .before .pre .1 .in-use) (c .before .before .before .before .before .before .before .before .before .before .before .before .before .pre .1 .lent) (c .before .before .before .before .before .before .before .before .before .before .before .before .before .pre .2 .good .fits),
   c .before .before .before .before .before .before .before .before .scan .ensures .d0,
   c .before .before .before .before .before .before .before .before .scan .ensures .d1,
 )
 
 may-suspend-requires : tie.Need-may-suspend-requires
-may-suspend-requires c κs = c .before .before .before .before .before .before .before .before .before .before .before .before .before .before .before .before .pre .2 .readable .whole .within
+may-suspend-requires c κs = c .before .before .before .before .before .before .before .before .before .before .before .before .before .before .before .before .pre .2 .good .known .within
 
 fact-of-requires : tie.Need-fact-of-requires
 fact-of-requires c κs = c .before .before .before .before .before .before .before .before .before .before .before .before .before .before .before .before .before .pre .2 .small
@@ -55,7 +55,7 @@ returns c = rw (c .fact-of .ensures)
     (learned _ _ (c .before .before .before .before .before .before .before .before .before .judge .result) (c .before .may-suspend .result) (c .before .before .before .before .before .before .before .before .before .before .ask .result) (c .before .before .before .before .before .before .before .before .before .before .before .before .before .before .before .before .before .before .pre .1) (c .before .before .before .before .before .before .before .before .before .before .before .before .before .before .before .before .before .before .pre .3) (c .before .before .before .before .before .before .before .before .before .before .before .before .before .before .before .before .before .before .pre .2) (c .before .before .before .before .before .before .before .before .arm .ensures ∙ ap T.arm (c .before .before .before .before .before .before .before .before .before .before .before .before .row-at .ensures))
     (rw (c .before .before .before .before .before .before .before .before .before .before .ask .ensures .1) at (c .before .before .before .before .before .before .before .before .before .judge .ensures .0)) (c .before .before .before .before .before .before .before .before .before .before .before .before .before .scan .ensures) (rw (c .before .before .before .before .before .before .stamp .ensures .0, c .before .before .before .before .before .before .before .leads .ensures) at (c .before .before .before .before .mark-record .ensures)) (c .before .may-suspend .ensures)
     (λ G past el s. c .before .before .before .before .before .before .before .before .before .before .ask .ensures .2 _ G past (c .before .before .before .before .before .before .before .before .before .before .before .before .before .scan .ensures) el s)
-    (λ G past z. c .before .before .before .before .before .before .before .before .before .judge .ensures .1 _ G past _ (omega (arith, c .before .before .before .before .before .before .before .before .before .before .before .before .before .before .before .before .before .before .pre .1 .in-use, c .before .before .before .before .before .before .before .before .before .before .before .before .before .before .before .before .before .before .pre .1 .lent)) (c .before .before .before .before .before .before .before .before .before .before .before .before .before .before .before .before .before .before .pre .2 .readable) z))
+    (λ G past z. c .before .before .before .before .before .before .before .before .before .judge .ensures .1 _ G past _ (omega (arith, c .before .before .before .before .before .before .before .before .before .before .before .before .before .before .before .before .before .before .pre .1 .in-use, c .before .before .before .before .before .before .before .before .before .before .before .before .before .before .before .before .before .before .pre .1 .lent)) (c .before .before .before .before .before .before .before .before .before .before .before .before .before .before .before .before .before .before .pre .2 .good) z))
 
 pub learn-one-spec : {M : Type 1} → statement M
 learn-one-spec =
