@@ -8,26 +8,92 @@ use native.Mathlib.Omega.{arith}
 use borrow.Author.Tests.{le-ltb, lt-ltb}
 use lib.Dec.{ltb}
 use lib.ListN.{length}
-use Rattle.words.specs.Lists.{count}
 use Rattle.model.specs.Picture.{Picture, nblocks, size}
 use Rattle.model.specs.Refusal.{refusal}
 use Rattle.model.specs.Analyse.{facts}
 use Rattle.model.specs.Move.{Plan, try-block}
-use Rattle.apply.specs.Apply.{Stands}
-use Rattle.laws.proofs.Accepted.{work-room}
-use Rattle.facts.specs.declared.Fact.{Fact}
+use Rattle.laws.proofs.Accepted.{work-room, needed-records}
+use Rattle.sizes.specs.declared.Room.{Room}
 use Rattle.sizes.specs.declared.Sizes.{Sizes}
+use Rattle.sizes.specs.Parts.{sizes-of}
+use Rattle.inst.specs.Index.{block-of}
+use Rattle.inst.specs.declared.index.BlockId.{BlockId}
+use Rattle.inst.specs.declared.index.MaybeBlock.{MaybeBlock}
+use Rattle.inst.specs.declared.index.MaybeBlock.the-variants as blocks
+use Rattle.inst.proofs.Indices.{is-block, not-block}
+use Rattle.facts.specs.declared.Fact.{Fact}
+use Rattle.apply.specs.Apply.{Stands}
 use Rattle.apply.specs.declared.moves.Move.{Move}
-use Rattle.trial.specs.declared.block.MaybeMove.{MaybeMove}
-use Rattle.trial.specs.declared.block.MaybeMove.the-variants as tries
-use Rattle.chainwords.specs.Work.{chain-words}
-use Rattle.trial.specs.Trial.{Found, tried, Following, Followed}
+use Rattle.chainwords.specs.Work.{Shown, Held, chain-words}
+use Rattle.worth.specs.Worth.{Chosen}
 use Rattle.search.specs.declared.find.Look.{Look}
 use Rattle.search.specs.declared.find.MaybeLook.{MaybeLook}
 use Rattle.search.specs.declared.find.MaybeLook.the-variants.{Is, Not}
+use Rattle.search.specs.Search.{looked}
+use Rattle.search.proofs.Looked.{shown-at}
+use Rattle.trial.specs.declared.block.MaybeMove.{MaybeMove}
+use Rattle.trial.specs.declared.block.MaybeMove.the-variants as tries
+use Rattle.trial.specs.Trial.{Found, tried, Following, Followed}
+use Rattle.probe.specs.declared.attempt.Judged.{Judged}
 use Rattle.probe.specs.declared.attempt.Ready.{Ready}
 use Rattle.probe.specs.Heads.{with-four}
-use Rattle.probe.specs.Attempt.{move-number, with-move, plan-number, with-plan, attempt, with-attempt, sizes-of, Sought, Left, Listed, Trying, Seen, Ended, Goes, stands-at, SetOut}
+use Rattle.probe.specs.Attempt.{move-number, with-move, plan-number, with-plan, attempt, with-attempt, Left, Listed, Stopped, refused, no-block, Taken, judged, Judges, Seen, may-seek, sets, Sets}
+
+-- ---- acceptance and the block
+
+module _ (P : Picture) (r : Room) (x : ℕ) where
+  pub refused-judges : {n : ℕ} {j : Judged} → n ≡ refusal P (r .w64) (r .w32) (r .records) → (n ≡ 0 → ⊥) → (j .block ≡ blocks.Not) × (j .number ≡ 200 + n) → Judges P r x j
+  refused-judges {n} {j} e h t = record { is = subst (judged P r x j) (sym (t .0)) (refused (λ z. h (e ∙ z)) (t .1 ∙ ap (λ (k : ℕ). 200 + k) e)) }
+
+  module _ (ok : refusal P (r .w64) (r .w32) (r .records) ≡ 0) where
+    by-new : (o : MaybeBlock) → block-of x (nblocks P) ≡ o → Judges P r x (record { block = o; number = 300; sizes = sizes-of P })
+    by-new (blocks.Is b) e = let i = is-block x (nblocks P) b e in record { is = record { accepted = ok; is-block = i .1; block-is = sym (i .0); sizes-are = refl } }
+    by-new blocks.Not e = record { is = no-block ok (not-block x (nblocks P) e) refl }
+
+    pub block-judges : {o : MaybeBlock} → o ≡ block-of x (nblocks P) → Judges P r x (record { block = o; number = 300; sizes = sizes-of P })
+    block-judges {o} e = by-new o (sym e)
+
+-- ---- where the search stands
+
+-- P's own lists and sizes
+shown-of : (P : Picture) (w64 w32 nf : ℕ) {s : Sizes} → refusal P w64 w32 nf ≡ 0 → s ≡ sizes-of P → Shown P (P .bounds) (P .recs) (P .ops) (P .pairs) (P .targets) (P .replay) s w64 w32
+shown-of P w64 w32 nf ok e = subst (λ (s : Sizes). Shown P (P .bounds) (P .recs) (P .ops) (P .pairs) (P .targets) (P .replay) s w64 w32) (sym e)
+    record {
+      lists = record { accepted = needed-records P w64 w32 nf ok; bounds-are = refl; recs-are = refl; ops-are = refl; blocks-are = refl; insts-are = refl; regs-are = refl; lent-are = refl };
+      tabled = record { pairs-are = refl; targets-are = refl };
+      replay-are = refl;
+    }
+
+-- after the search from block x of an accepted picture
+pub record Sought (P : Picture) (work64 work32 work64′ work32′ : List ℕ) (x : ℕ) (r : MaybeMove) : Type 0 where
+  pub size64 : length work64′ ≡ length work64
+  pub size32 : length work32′ ≡ length work32
+  pub is : tried P (facts P) x r (chain-words work32′)
+
+-- nothing is to be tried, and the answer is n
+pub record Ended (P : Picture) (x nf : ℕ) (work64 work32 work64′ work32′ : List ℕ) (n : ℕ) : Type 0 where
+  pub number-is : n ≡ attempt P (length work64) (length work32) nf x
+  pub out-is : (out : List ℕ) → out ≡ with-attempt out P (length work64) (length work32) nf x
+  pub left : Left P x nf work64 work32 work64′ work32′
+
+-- chain l is
+pub record Goes (P : Picture) (x nf : ℕ) (work64 work32 work64′ work32′ : List ℕ) (s : Sizes) (l : Look) : Type 0 where
+  pub accepted : refusal P (length work64) (length work32) nf ≡ 0
+  pub is-block : x < nblocks P
+  pub sizes-are : s ≡ sizes-of P
+  pub size64 : length work64′ ≡ length work64
+  pub size32 : length work32′ ≡ length work32
+  pub held : Held P (facts P) work64′ work32′
+  pub from-is : l .x .0 ≡ x
+  pub chosen : Chosen P (l .x .0) (l .c)
+
+-- with so many records lent, where the search from block x stands
+abbrev pub stands-at : Picture → ℕ → ℕ → List ℕ → List ℕ → List ℕ → List ℕ → Ready → MaybeLook → Type 0
+stands-at P x nf work64 work32 work64′ work32′ k (Is l) = Goes P x nf work64 work32 work64′ work32′ (k .sizes) l
+stands-at P x nf work64 work32 work64′ work32′ k Not = Ended P x nf work64 work32 work64′ work32′ (k .number)
+
+pub record SetOut (P : Picture) (x nf : ℕ) (work64 work32 work64′ work32′ : List ℕ) (k : Ready) : Type 0 where
+  pub is : stands-at P x nf work64 work32 work64′ work32′ k (k .next)
 
 module _ (P : Picture) (x : ℕ) where
   -- ---- by cases
@@ -87,47 +153,80 @@ module _ (P : Picture) (x : ℕ) where
     left-so : (refusal P (length work64) (length work32) nf ≡ 0 → x < nblocks P → ⊥) → Left P x nf work64 work32 work64 work32
     left-so no-way = record { size64 = refl; size32 = refl; kept = λ h. (refl, refl); stands = λ a z l e. absurd (no-way z l) }
 
-    pub refused : {n : ℕ} → n ≡ refusal P (length work64) (length work32) nf → (n ≡ 0 → ⊥) → Ended P x nf work64 work32 work64 work32 (200 + n)
-    refused {n} e h = record {
-      number-is = refused-by n h ∙ ap by-refusal e;
-      out-is = λ out. refused-out out n h ∙ ap (out-by-refusal out) e;
-      left = left-so (λ k l. h (e ∙ k));
+    pub stopped : {n : ℕ} → Stopped P (length work64) (length work32) nf x n → Ended P x nf work64 work32 work64 work32 n
+    stopped (refused h e) = record {
+      number-is = e ∙ refused-by (refusal P (length work64) (length work32) nf) h;
+      out-is = λ out. refused-out out (refusal P (length work64) (length work32) nf) h;
+      left = left-so (λ z l. h z);
     }
+    stopped (no-block ok h e) =
+        let f = le-ltb x (nblocks P) h in
+        record {
+          number-is = e ∙ sym (ap by-refusal ok ∙ ap by-block f);
+          out-is = λ out. sym (ap (out-by-refusal out) ok ∙ ap (out-by-block out) f);
+          left = left-so (λ z l. omega arith);
+        }
 
-    module _ (ok : refusal P (length work64) (length work32) nf ≡ 0) where
-      pub no-block : nblocks P ≤ x → Ended P x nf work64 work32 work64 work32 300
-      no-block h =
-          let f = le-ltb x (nblocks P) h in
-          record {
-            number-is = sym (ap by-refusal ok ∙ ap by-block f);
-            out-is = λ out. sym (ap (out-by-refusal out) ok ∙ ap (out-by-block out) f);
-            left = left-so (λ k l. omega arith);
-          }
+    -- block x was tried
+    module _ (ok : refusal P (length work64) (length work32) nf ≡ 0) (h : x < nblocks P) {work64′ work32′ : List ℕ} {r : MaybeMove} (s : Sought P work64 work32 work64′ work32′ x r) where
+      left-as : Left P x nf work64 work32 work64′ work32′
+      left-as = record { size64 = s .size64; size32 = s .size32; kept = λ k. absurd (k ok h); stands = λ a q l e. stands-so (chain-words work32′) r (s .is) a e }
 
-      module _ (h : x < nblocks P) {work64′ work32′ : List ℕ} {r : MaybeMove} (s : Sought P work64 work32 work64′ work32′ x r) where
-        left-as : Left P x nf work64 work32 work64′ work32′
-        left-as = record { size64 = s .size64; size32 = s .size32; kept = λ k. absurd (k ok h); stands = λ a q l e. stands-so (chain-words work32′) r (s .is) a e }
+      number-as : move-number r ≡ attempt P (length work64) (length work32) nf x
+      number-as = same-number (chain-words work32′) r (s .is) ∙ sym (ap by-refusal ok ∙ ap by-block (lt-ltb x (nblocks P) h))
 
-        number-as : move-number r ≡ attempt P (length work64) (length work32) nf x
-        number-as = same-number (chain-words work32′) r (s .is) ∙ sym (ap by-refusal ok ∙ ap by-block (lt-ltb x (nblocks P) h))
-
-        out-as : (out : List ℕ) → with-move out r ≡ with-attempt out P (length work64) (length work32) nf x
-        out-as out = same-out (chain-words work32′) out r (s .is) ∙ sym (ap (out-by-refusal out) ok ∙ ap (out-by-block out) (lt-ltb x (nblocks P) h))
+      out-as : (out : List ℕ) → with-move out r ≡ with-attempt out P (length work64) (length work32) nf x
+      out-as out = same-out (chain-words work32′) out r (s .is) ∙ sym (ap (out-by-refusal out) ok ∙ ap (out-by-block out) (lt-ltb x (nblocks P) h))
 
     -- ---- where the search stands
 
-    pub out-set : {work64′ work32′ : List ℕ} {n : ℕ} {k : Ready} → (k .next ≡ Not) × (k .number ≡ n) → Ended P x nf work64 work32 work64′ work32′ n → SetOut P x nf work64 work32 work64′ work32′ k
-    out-set {work64′} {work32′} {n} {k} t e = record {
-      is = subst (stands-at P x nf work64 work32 work64′ work32′ k) (sym (t .0)) (subst (Ended P x nf work64 work32 work64′ work32′) (sym (t .1)) e);
-    }
+    module _ {j : Judged} (d : Judges P (record { w64 = length work64; w32 = length work32; records = nf }) x j) where
+      abbrev room : Room
+      room = record { w64 = length work64; w32 = length work32; records = nf }
 
-    module _ (ok : refusal P (length work64) (length work32) nf ≡ 0) (h : x < nblocks P) {work64′ work32′ : List ℕ} {s : Sizes} (es : s ≡ sizes-of P) where
-      by-look : (o : MaybeLook) → Seen P work64 work32 work64′ work32′ x o → SetOut P x nf work64 work32 work64′ work32′ (record { next = o; number = 0; sizes = s })
-      by-look (Is l) z = record { is = record { accepted = ok; is-block = h; sizes-are = es; trying = z .is } }
-      by-look Not z = record { is = record { number-is = number-as ok h (z .is); out-is = out-as ok h (z .is); left = left-as ok h (z .is) } }
+      -- what `set_out` asks
+      may-by : (o : MaybeBlock) → judged P room x j o → may-seek (P .bounds) (P .recs) (P .ops) (P .pairs) (P .targets) (P .replay) (j .sizes) (length work64) (length work32) o
+      may-by (blocks.Is b) t = record { P = P; shown = shown-of P (length work64) (length work32) nf (t .accepted) (t .sizes-are); is-block = subst (λ (i : ℕ). i < nblocks P) (sym (t .block-is)) (t .is-block) }
+      may-by blocks.Not t = tt
 
-      pub found-set : {o : MaybeLook} {y : ℕ} → x ≡ y → Seen P work64 work32 work64′ work32′ y o → SetOut P x nf work64 work32 work64′ work32′ (record { next = o; number = 0; sizes = s })
-      found-set {o} e z = by-look o (subst (λ (i : ℕ). Seen P work64 work32 work64′ work32′ i o) (sym e) z)
+      pub may-set : may-seek (P .bounds) (P .recs) (P .ops) (P .pairs) (P .targets) (P .replay) (j .sizes) (length work64) (length work32) (j .block)
+      may-set = may-by (j .block) (d .is)
+
+      module _ {work64′ work32′ : List ℕ} {k : Ready} where
+        by-look : (b : BlockId) (o : MaybeLook) → k .next ≡ o → Taken P (length work64) (length work32) nf x (j .sizes) b → sets (P .bounds) (P .recs) (P .ops) (P .pairs) (P .targets) (P .replay) j work64 work32 work64′ work32′ k (blocks.Is b)
+            → stands-at P x nf work64 work32 work64′ work32′ k o
+        by-look b (Is l) e t z =
+            let v = z .2 in
+            let sh = shown-of P (length work64) (length work32) nf (t .accepted) (t .sizes-are) in
+            let c = subst (λ (o : MaybeLook). looked P (b .0) o) e (v .is P sh) in
+            record {
+              accepted = t .accepted;
+              is-block = t .is-block;
+              sizes-are = z .1 ∙ t .sizes-are;
+              size64 = v .size64;
+              size32 = v .size32;
+              held = v .held P sh;
+              from-is = c .0 ∙ t .block-is;
+              chosen = subst (λ (i : ℕ). Chosen P i (l .c)) (sym (c .0)) (c .1);
+            }
+        by-look b Not e t z =
+            let v = z .2 in
+            let sh = shown-of P (length work64) (length work32) nf (t .accepted) (t .sizes-are) in
+            let c = subst (λ (o : MaybeLook). looked P (b .0) o) e (v .is P sh) in
+            let g : Sought P work64 work32 work64′ work32′ x tries.Not = record { size64 = v .size64; size32 = v .size32; is = subst (λ (i : ℕ). try-block P (facts P) i ≡ none) (t .block-is) (c (facts P)) } in
+            record { number-is = z .0 ∙ number-as (t .accepted) (t .is-block) g; out-is = out-as (t .accepted) (t .is-block) g; left = left-as (t .accepted) (t .is-block) g }
+
+        by-judged : (o : MaybeBlock) → judged P room x j o → sets (P .bounds) (P .recs) (P .ops) (P .pairs) (P .targets) (P .replay) j work64 work32 work64′ work32′ k o → SetOut P x nf work64 work32 work64′ work32′ k
+        by-judged (blocks.Is b) t z = record { is = by-look b (k .next) refl t z }
+        by-judged blocks.Not t z = record {
+          is = subst (stands-at P x nf work64 work32 work64′ work32′ k) (sym (z .0))
+              (subst (Ended P x nf work64 work32 work64′ work32′) (sym (z .1))
+              (subst (λ (l : List ℕ). Ended P x nf work64 work32 l work32′ (j .number)) (sym (z .2))
+              (subst (λ (l : List ℕ). Ended P x nf work64 work32 work64 l (j .number)) (sym (z .3)) (stopped t))));
+        }
+
+        pub out-set : Sets (P .bounds) (P .recs) (P .ops) (P .pairs) (P .targets) (P .replay) j work64 work32 work64′ work32′ k → SetOut P x nf work64 work32 work64′ work32′ k
+        out-set z = by-judged (j .block) (d .is) (z .is)
 
   -- ---- all of it, with the list of records
 
@@ -141,8 +240,11 @@ module _ (P : Picture) (x : ℕ) where
       goes : Goes P x (length facts₀) work64 work32 work64′ work32′ (k .sizes) l
       goes = subst (stands-at P x (length facts₀) work64 work32 work64′ work32′ k) e (s .is)
 
+      shown : Shown P (P .bounds) (P .recs) (P .ops) (P .pairs) (P .targets) (P .replay) (k .sizes) (length work64′) (length work32′)
+      shown = let g = goes in shown-at (g .size64) (g .size32) (shown-of P (length work64) (length work32) (length facts₀) (g .accepted) (g .sizes-are))
+
       pub asked : Following (P .bounds) (P .recs) (P .ops) (P .pairs) (P .targets) (P .replay) (k .sizes) (l .x .0) (l .c) work64′ work32′
-      asked = let g = goes in subst (λ (z : Sizes). Following (P .bounds) (P .recs) (P .ops) (P .pairs) (P .targets) (P .replay) z (l .x .0) (l .c) work64′ work32′) (sym (g .sizes-are)) (g .trying .following)
+      asked = let g = goes in record { given = record { P = P; G = facts P; shown = shown; held = g .held }; chosen = g .chosen }
 
       pub many : 800 ≤ length facts₀
       many = work-room P (length work64) (length work32) (length facts₀) (goes .accepted) .2
@@ -154,8 +256,8 @@ module _ (P : Picture) (x : ℕ) where
           × Left P x (length facts₀) work64 work32 work64″ work32″ × Listed P x (length work64) (length work32) facts₀ facts″
       settled {work64″} {work32″} out r f z₀ m =
           let g = goes in
-          let f′ = subst (λ (z : Sizes). Followed (P .bounds) (P .recs) (P .ops) (P .pairs) (P .targets) (P .replay) z (l .x .0) (l .c) work64′ work32′ work64″ work32″ r) (g .sizes-are) f in
-          let z = g .trying .sought r work64″ work32″ f′ in
+          let found = subst (λ (i : ℕ). tried P (facts P) i r (chain-words work32″)) (g .from-is) (f .is P (facts P) shown (g .held) (g .chosen)) in
+          let z : Sought P work64 work32 work64″ work32″ x r = record { size64 = f .size64 ∙ g .size64; size32 = f .size32 ∙ g .size32; is = found } in
           let ok = g .accepted in
           let h = g .is-block in
           (m .0 ∙ number-as (length facts₀) work64 work32 ok h z, m .1 ∙ out-as (length facts₀) work64 work32 ok h z out, left-as (length facts₀) work64 work32 ok h z, record { size = z₀; kept = λ k. absurd (k ok h) })

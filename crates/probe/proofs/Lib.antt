@@ -3,3 +3,4 @@ pub mod Heads
 pub mod Numbers
 pub mod Seeking
 pub mod Attempts
+pub mod Trying

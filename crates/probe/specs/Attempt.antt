@@ -3,7 +3,7 @@ use mathlib.Core.Path.{_≡_}
 use mathlib.Core.Bool.{true, false}
 use mathlib.Core.List.{List}
 use mathlib.Core.Option.{Option, none, some}
-use Prim.Native.Nat.{ℕ, zero, suc, _+_, _-_, _<_}
+use Prim.Native.Nat.{ℕ, zero, suc, _+_, _-_, _≤_, _<_}
 use lib.Dec.{ltb}
 use lib.ListN.{length}
 use Rattle.words.specs.Lists.{count}
@@ -13,14 +13,19 @@ use Rattle.model.specs.Analyse.{facts}
 use Rattle.model.specs.Move.{Plan, try-block}
 use Rattle.apply.specs.Apply.{Stands}
 use Rattle.facts.specs.declared.Fact.{Fact}
+use Rattle.inst.specs.declared.index.BlockId.{BlockId}
+use Rattle.inst.specs.declared.index.MaybeBlock.{MaybeBlock}
+use Rattle.inst.specs.declared.index.MaybeBlock.the-variants as blocks
+use Rattle.sizes.specs.declared.Room.{Room}
 use Rattle.sizes.specs.declared.Sizes.{Sizes}
+use Rattle.sizes.specs.Parts.{sizes-of}
 use Rattle.trial.specs.declared.block.MaybeMove.{MaybeMove}
 use Rattle.trial.specs.declared.block.MaybeMove.the-variants as tries
-use Rattle.chainwords.specs.Work.{chain-words}
-use Rattle.trial.specs.Trial.{tried, Following, Followed}
-use Rattle.search.specs.declared.find.Look.{Look}
+use Rattle.chainwords.specs.Work.{Shown, Held, chain-words}
 use Rattle.search.specs.declared.find.MaybeLook.{MaybeLook}
-use Rattle.search.specs.declared.find.MaybeLook.the-variants.{Is, Not}
+use Rattle.search.specs.declared.find.MaybeLook.the-variants as looks
+use Rattle.search.specs.Search.{looked}
+use Rattle.probe.specs.declared.attempt.Judged.{Judged}
 use Rattle.probe.specs.declared.attempt.Ready.{Ready}
 use Rattle.probe.specs.Heads.{with-four}
 
@@ -59,15 +64,9 @@ with-attempt out P w64 w32 nf x =
       | zero ↦ elim (ltb x (nblocks P)) [ true ↦ with-plan out (size P x - 1) (try-block P (facts P) x) | false ↦ out ]
     ]
 
--- ---- the work slices
+-- ---- what is left
 
--- after the search from block x of an accepted picture
-pub record Sought (P : Picture) (work64 work32 work64′ work32′ : List ℕ) (x : ℕ) (r : MaybeMove) : Type 0 where
-  pub size64 : length work64′ ≡ length work64
-  pub size32 : length work32′ ≡ length work32
-  pub is : tried P (facts P) x r (chain-words work32′)
-
--- they keep their lengths; where nothing was sought, their contents; of a move the chain's words stand for the plan
+-- the work slices keep their lengths; where nothing was sought, their contents; of a move the chain's words stand for the plan
 pub record Left (P : Picture) (x nf : ℕ) (work64 work32 work64′ work32′ : List ℕ) : Type 0 where
   pub size64 : length work64′ ≡ length work64
   pub size32 : length work32′ ≡ length work32
@@ -82,42 +81,48 @@ pub record Listed (P : Picture) (x w64 w32 : ℕ) (facts facts′ : List Fact) :
 
 -- ---- before the chain is tried
 
-abbrev pub sizes-of : Picture → Sizes
-sizes-of P = record { blocks = nblocks P; insts = length (P .locs); regs = P .regs; lent = length (P .types) }
+-- why nothing is sought from block x, with the answer n: the picture is refused, or x is no block
+pub data Stopped (P : Picture) (w64 w32 nf x n : ℕ) : Type 0 where
+  refused : (refusal P w64 w32 nf ≡ 0 → ⊥) → n ≡ 200 + refusal P w64 w32 nf → Stopped P w64 w32 nf x n
+  no-block : refusal P w64 w32 nf ≡ 0 → nblocks P ≤ x → n ≡ 300 → Stopped P w64 w32 nf x n
 
--- chain k is to be tried, and what that leaves is what the search from block x leaves
-pub record Trying (P : Picture) (work64 work32 work64′ work32′ : List ℕ) (x : ℕ) (k : Look) : Type 0 where
-  pub following : Following (P .bounds) (P .recs) (P .ops) (P .pairs) (P .targets) (P .replay) (sizes-of P) (k .x .0) (k .c) work64′ work32′
-  pub sought : (r : MaybeMove) (work64″ work32″ : List ℕ)
-      → Followed (P .bounds) (P .recs) (P .ops) (P .pairs) (P .targets) (P .replay) (sizes-of P) (k .x .0) (k .c) work64′ work32′ work64″ work32″ r → Sought P work64 work32 work64″ work32″ x r
+-- x is block b of an accepted picture, and s its sizes
+pub record Taken (P : Picture) (w64 w32 nf x : ℕ) (s : Sizes) (b : BlockId) : Type 0 where
+  pub accepted : refusal P w64 w32 nf ≡ 0
+  pub is-block : x < nblocks P
+  pub block-is : b .0 ≡ x
+  pub sizes-are : s ≡ sizes-of P
 
--- the chain from block x, or it has no move
-abbrev pub to-try : Picture → List ℕ → List ℕ → List ℕ → List ℕ → ℕ → MaybeLook → Type 0
-to-try P work64 work32 work64′ work32′ x (Is k) = Trying P work64 work32 work64′ work32′ x k
-to-try P work64 work32 work64′ work32′ x Not = Sought P work64 work32 work64′ work32′ x tries.Not
+abbrev pub judged : Picture → Room → ℕ → Judged → MaybeBlock → Type 0
+judged P r x j (blocks.Is b) = Taken P (r .w64) (r .w32) (r .records) x (j .sizes) b
+judged P r x j blocks.Not = Stopped P (r .w64) (r .w32) (r .records) x (j .number)
 
-pub record Seen (P : Picture) (work64 work32 work64′ work32′ : List ℕ) (x : ℕ) (o : MaybeLook) : Type 0 where
+pub record Judges (P : Picture) (r : Room) (x : ℕ) (j : Judged) : Type 0 where
+  pub is : judged P r x j (j .block)
+
+-- there is an accepted picture whose lists and sizes these are, and x is one of its blocks
+pub record Asking (bounds recs ops pairs targets replay : List ℕ) (s : Sizes) (w64 w32 x : ℕ) : Type 0 where
+  pub P : Picture
+  pub shown : Shown P bounds recs ops pairs targets replay s w64 w32
+  pub is-block : x < nblocks P
+
+-- of every such picture: the work slices hold what a round needs, and o is the chain from block x, or it has no move
+pub record Seen (bounds recs ops pairs targets replay : List ℕ) (s : Sizes) (work64 work32 work64′ work32′ : List ℕ) (x : ℕ) (o : MaybeLook) : Type 0 where
   pub size64 : length work64′ ≡ length work64
   pub size32 : length work32′ ≡ length work32
-  pub is : to-try P work64 work32 work64′ work32′ x o
+  pub held : (P : Picture) → Shown P bounds recs ops pairs targets replay s (length work64) (length work32) → Held P (facts P) work64′ work32′
+  pub is : (P : Picture) → Shown P bounds recs ops pairs targets replay s (length work64) (length work32) → looked P x o
 
--- nothing is to be tried, and the answer is n
-pub record Ended (P : Picture) (x nf : ℕ) (work64 work32 work64′ work32′ : List ℕ) (n : ℕ) : Type 0 where
-  pub number-is : n ≡ attempt P (length work64) (length work32) nf x
-  pub out-is : (out : List ℕ) → out ≡ with-attempt out P (length work64) (length work32) nf x
-  pub left : Left P x nf work64 work32 work64′ work32′
+-- the same of a block that there may be; where there is none, the answer stays and so do the work slices
+abbrev pub may-seek : (bounds recs ops pairs targets replay : List ℕ) (s : Sizes) (w64 w32 : ℕ) → MaybeBlock → Type 0
+may-seek bounds recs ops pairs targets replay s w64 w32 (blocks.Is b) = Asking bounds recs ops pairs targets replay s w64 w32 (b .0)
+may-seek bounds recs ops pairs targets replay s w64 w32 blocks.Not = Unit {0}
 
--- chain l is
-pub record Goes (P : Picture) (x nf : ℕ) (work64 work32 work64′ work32′ : List ℕ) (s : Sizes) (l : Look) : Type 0 where
-  pub accepted : refusal P (length work64) (length work32) nf ≡ 0
-  pub is-block : x < nblocks P
-  pub sizes-are : s ≡ sizes-of P
-  pub trying : Trying P work64 work32 work64′ work32′ x l
+abbrev pub sets : (bounds recs ops pairs targets replay : List ℕ) (j : Judged) (work64 work32 work64′ work32′ : List ℕ) (k : Ready) → MaybeBlock → Type 0
+sets bounds recs ops pairs targets replay j work64 work32 work64′ work32′ k (blocks.Is b) =
+    (k .number ≡ 0) × (k .sizes ≡ j .sizes) × Seen bounds recs ops pairs targets replay (j .sizes) work64 work32 work64′ work32′ (b .0) (k .next)
+sets bounds recs ops pairs targets replay j work64 work32 work64′ work32′ k blocks.Not =
+    (k .next ≡ looks.Not) × (k .number ≡ j .number) × (work64′ ≡ work64) × (work32′ ≡ work32)
 
--- with so many records lent, where the search from block x stands
-abbrev pub stands-at : Picture → ℕ → ℕ → List ℕ → List ℕ → List ℕ → List ℕ → Ready → MaybeLook → Type 0
-stands-at P x nf work64 work32 work64′ work32′ k (Is l) = Goes P x nf work64 work32 work64′ work32′ (k .sizes) l
-stands-at P x nf work64 work32 work64′ work32′ k Not = Ended P x nf work64 work32 work64′ work32′ (k .number)
-
-pub record SetOut (P : Picture) (x nf : ℕ) (work64 work32 work64′ work32′ : List ℕ) (k : Ready) : Type 0 where
-  pub is : stands-at P x nf work64 work32 work64′ work32′ k (k .next)
+pub record Sets (bounds recs ops pairs targets replay : List ℕ) (j : Judged) (work64 work32 work64′ work32′ : List ℕ) (k : Ready) : Type 0 where
+  pub is : sets bounds recs ops pairs targets replay j work64 work32 work64′ work32′ k (j .block)

@@ -1,28 +1,36 @@
 // The search from one block of a picture as lent (01, "A round"), with what it leaves: the facts along the chain in the lent list, and of
 // a move the chain's words.
+use acceptance::refusal;
 use facts::Fact;
 use flow::live::live_in;
 use inst::index::BlockId;
 use inst::index::MaybeBlock;
 use inst::table::table;
-use acceptance::refusal;
 use search::begin::begin;
 use search::find::MaybeLook;
 use search::find::look_from;
+use sizes::InUse;
+use sizes::Room;
 use sizes::Sizes;
 use trial::block::MaybeMove;
 use trial::block::try_chain;
 use words::numbers::wide;
 ghost use mathlib.Core.Path.{_≡_};
-ghost use Prim.Native.Nat.{_<_};
+ghost use mathlib.Core.List.{List};
+ghost use Prim.Native.Nat.{ℕ};
 ghost use lib.ListN.{length};
-ghost use Rattle.model.specs.Picture.{nblocks};
-ghost use Rattle.model.specs.Refusal.{records, refusal};
 ghost use Rattle.checks.specs.Causes.{picture-of};
-ghost use Rattle.search.specs.declared.find.MaybeLook.the-variants.{Not};
+ghost use Rattle.inst.specs.declared.index.MaybeBlock.the-variants.{Not};
 ghost use Rattle.inst.specs.Table.{rows};
 ghost use Rattle.probe.specs.Heads.{with-four};
-ghost use Rattle.probe.specs.Attempt.{move-number, with-move, attempt, with-attempt, sizes-of, Seen, SetOut, Left, Listed};
+ghost use Rattle.probe.specs.Attempt.{move-number, with-move, attempt, with-attempt, Left, Listed, Judges, Asking, Seen, may-seek, Sets};
+
+// Block x of an accepted picture, if it is one; the answer where nothing is sought; the picture's sizes.
+pub struct Judged {
+    pub block: MaybeBlock,
+    pub number: u32,
+    pub sizes: Sizes,
+}
 
 // The chain to be tried, if there is one; the answer where there is none; the picture's sizes.
 pub struct Ready {
@@ -56,34 +64,80 @@ fn put_move(out: &mut [usize], r: MaybeMove) -> u32
     1
 }
 
-// There is no chain to be tried.
-fn without(n: u32) -> Ready
-    ensures { λ r. ⌜ (r .next ≡ Not) × (r .number ≡ n) ⌝ }
+// The picture is refused, and that is the answer.
+fn stop(n: u32) -> Judged
+    ensures { λ r. ⌜ (r .block ≡ Not) × (r .number ≡ n) ⌝ }
 {
     let s = Sizes {
         blocks: 0,
         insts: 0,
         regs: 0,
         lent: 0,
+        opers: 0,
     };
-    Ready {
-        next: MaybeLook::Not,
+    Judged {
+        block: MaybeBlock::Not,
         number: n,
         sizes: s,
     }
 }
 
-// The chain from block x of an accepted picture, if it is worth a look; facts on registers, predecessors and live-in made for it.
-fn seek<'a>(
+// Refused; no block; or block x.
+fn judge<'a>(
     t: &[u32; 202],
     bounds: &[u32],
     recs: &'a [u32],
     locs: &[u32],
     vias: &[u32],
     types: &[u32],
-    registers: u32,
     ops: &[u32],
-    operands: u32,
+    pairs: &[u32],
+    targets: &'a [u32],
+    used: InUse,
+    room: Room,
+    x: u32,
+) -> Judged
+    requires { ⌜ now t ≡ rows ⌝ }
+    ensures { λ r. ⌜ ((replay : List ℕ) → Judges (picture-of (now (bounds .entry)) (now (recs .entry)) (now (locs .entry)) (now (vias .entry)) (now (types .entry)) (used .regs) (now (ops .entry)) (used .opers) (now (pairs .entry)) (now (targets .entry)) replay) room x r) ⌝ }
+{
+    let n = refusal(
+        bounds,
+        recs,
+        locs,
+        vias,
+        types,
+        ops,
+        pairs,
+        targets,
+        used,
+        room,
+        t,
+    );
+    if n != 0 {
+        return stop(200 + n);
+    }
+    let blocks = (bounds.len() / 2) as u32;
+    let b = BlockId::new(x, blocks);
+    let s = Sizes {
+        blocks: blocks,
+        insts: locs.len(),
+        regs: used.regs,
+        lent: types.len(),
+        opers: used.opers,
+    };
+    Judged {
+        block: b,
+        number: 300,
+        sizes: s,
+    }
+}
+
+// The chain from block x, if it is worth a look; facts on registers, predecessors and live-in made for it.
+fn seek<'a>(
+    t: &[u32; 202],
+    bounds: &[u32],
+    recs: &'a [u32],
+    ops: &[u32],
     pairs: &[u32],
     targets: &'a [u32],
     replay: &[u32],
@@ -92,75 +146,44 @@ fn seek<'a>(
     s: Sizes,
     x: BlockId,
 ) -> MaybeLook
-    requires { ⌜ (let P = picture-of (now bounds) (now recs) (now locs) (now vias) (now types) registers (now ops) operands (now pairs) (now targets) (now replay) in (now t ≡ rows) × (refusal P (length (now work64)) (length (now work32)) records ≡ 0) × (x .0 < nblocks P) × (s ≡ sizes-of P)) ⌝ }
-    ensures { λ r. ⌜ Seen (picture-of (now (bounds .entry)) (now (recs .entry)) (now (locs .entry)) (now (vias .entry)) (now (types .entry)) registers (now (ops .entry)) operands (now (pairs .entry)) (now (targets .entry)) (now (replay .entry))) (now (work64 .entry)) (now (work32 .entry)) (now (work64 .exit)) (now (work32 .exit)) (x .0) r ⌝ }
+    requires { ⌜ (now t ≡ rows) × Asking (now bounds) (now recs) (now ops) (now pairs) (now targets) (now replay) s (length (now work64)) (length (now work32)) (x .0) ⌝ }
+    ensures { λ r. ⌜ Seen (now (bounds .entry)) (now (recs .entry)) (now (ops .entry)) (now (pairs .entry)) (now (targets .entry)) (now (replay .entry)) s (now (work64 .entry)) (now (work32 .entry)) (now (work64 .exit)) (now (work32 .exit)) (x .0) r ⌝ }
 {
     begin(t, bounds, recs, ops, pairs, targets, work64, work32, s);
-    live_in(work64, t, bounds, recs, pairs, targets, wide(registers));
+    live_in(work64, t, bounds, recs, pairs, targets, wide(s.regs));
     look_from(bounds, recs, replay, work32, s, x)
 }
 
-// Refused; no block; or the chain from block x. So many records are lent.
+// The chain from the block that was judged, if there is one.
 fn set_out<'a>(
     t: &[u32; 202],
     bounds: &[u32],
     recs: &'a [u32],
-    locs: &[u32],
-    vias: &[u32],
-    types: &[u32],
-    registers: u32,
     ops: &[u32],
-    operands: u32,
     pairs: &[u32],
     targets: &'a [u32],
     replay: &[u32],
     work64: &mut [u64],
     work32: &mut [u32],
-    lent: usize,
-    x: u32,
+    j: Judged,
 ) -> Ready
-    requires { ⌜ now t ≡ rows ⌝ }
-    ensures { λ r. ⌜ SetOut (picture-of (now (bounds .entry)) (now (recs .entry)) (now (locs .entry)) (now (vias .entry)) (now (types .entry)) registers (now (ops .entry)) operands (now (pairs .entry)) (now (targets .entry)) (now (replay .entry))) x lent (now (work64 .entry)) (now (work32 .entry)) (now (work64 .exit)) (now (work32 .exit)) r ⌝ }
+    requires { ⌜ (now t ≡ rows) × may-seek (now bounds) (now recs) (now ops) (now pairs) (now targets) (now replay) (j .sizes) (length (now work64)) (length (now work32)) (j .block) ⌝ }
+    ensures { λ r. ⌜ Sets (now (bounds .entry)) (now (recs .entry)) (now (ops .entry)) (now (pairs .entry)) (now (targets .entry)) (now (replay .entry)) j (now (work64 .entry)) (now (work32 .entry)) (now (work64 .exit)) (now (work32 .exit)) r ⌝ }
 {
-    let n = refusal(
-        bounds,
-        recs,
-        locs,
-        vias,
-        types,
-        registers,
-        ops,
-        operands,
-        pairs,
-        targets,
-        work64.len(),
-        work32.len(),
-        lent,
-        t,
-    );
-    if n != 0 {
-        return without(200 + n);
-    }
-    let blocks = (bounds.len() / 2) as u32;
-    let MaybeBlock::Is(b) = BlockId::new(x, blocks) else {
-        return without(300);
-    };
-    let s = Sizes {
-        blocks: blocks,
-        insts: locs.len(),
-        regs: registers,
-        lent: types.len(),
+    let block = j.block;
+    let s = j.sizes;
+    let MaybeBlock::Is(b) = block else {
+        return Ready {
+            next: MaybeLook::Not,
+            number: j.number,
+            sizes: s,
+        };
     };
     let r = seek(
         t,
         bounds,
         recs,
-        locs,
-        vias,
-        types,
-        registers,
         ops,
-        operands,
         pairs,
         targets,
         replay,
@@ -205,23 +228,40 @@ pub extern "C" fn virdzeba_try<'a>(
         (r ≡ attempt P n64 n32 lent x) × (now (out .exit) ≡ with-attempt (now (out .entry)) P n64 n32 lent x) × Left P x lent (now (work64 .entry)) (now (work32 .entry)) (now (work64 .exit)) (now (work32 .exit)) × Listed P x n64 n32 (now (facts .entry)) (now (facts .exit))) ⌝ }
 {
     let t = table();
-    let k = set_out(
+    let used = InUse {
+        regs: registers,
+        opers: operands,
+    };
+    let room = Room {
+        w64: work64.len(),
+        w32: work32.len(),
+        records: facts.len(),
+    };
+    let j = judge(
         &t,
         bounds,
         recs,
         locs,
         vias,
         types,
-        registers,
         ops,
-        operands,
+        pairs,
+        targets,
+        used,
+        room,
+        x,
+    );
+    let k = set_out(
+        &t,
+        bounds,
+        recs,
+        ops,
         pairs,
         targets,
         replay,
         work64,
         work32,
-        facts.len(),
-        x,
+        j,
     );
     let MaybeLook::Is(l) = k.next else {
         return k.number;
@@ -238,8 +278,7 @@ pub extern "C" fn virdzeba_try<'a>(
         work32,
         facts,
         k.sizes,
-        l.x,
-        l.c,
+        l,
     );
     put_move(out, r)
 }

@@ -3,11 +3,13 @@
 pub mod whole; // whole.rt: the whole call
 pub mod attempt; // attempt.rt: the search from one block
 
+use acceptance::refusal;
 use cfg::graph::find_preds;
 use flow::live::live_in;
 use flow::rows::all_rows;
 use inst::table::table;
-use acceptance::refusal;
+use sizes::InUse;
+use sizes::Room;
 use words::numbers::wide;
 ghost use mathlib.Core.Path.{_≡_};
 ghost use mathlib.Core.List.{[]};
@@ -38,20 +40,26 @@ pub extern "C" fn virdzeba_refusal(
     ensures { λ r. ⌜ r ≡ refusal (picture-of (now (bounds .entry)) (now (recs .entry)) (now (locs .entry)) (now (vias .entry)) (now (types .entry)) registers (now (ops .entry)) operands (now (pairs .entry)) (now (targets .entry)) []) w64 w32 records ⌝ }
 {
     let t = table();
+    let used = InUse {
+        regs: registers,
+        opers: operands,
+    };
+    let room = Room {
+        w64: w64,
+        w32: w32,
+        records: records,
+    };
     refusal(
         bounds,
         recs,
         locs,
         vias,
         types,
-        registers,
         ops,
-        operands,
         pairs,
         targets,
-        w64,
-        w32,
-        records,
+        used,
+        room,
         &t,
     )
 }
@@ -79,20 +87,26 @@ pub extern "C" fn virdzeba_preds<'a>(
     ensures { λ r. ⌜ (r ≡ 0 → Preds (picture-of (now (bounds .entry)) (now (recs .entry)) (now (locs .entry)) (now (vias .entry)) (now (types .entry)) registers (now (ops .entry)) operands (now (pairs .entry)) (now (targets .entry)) []) (now (words .exit))) ⌝ }
 {
     let t = table();
+    let used = InUse {
+        regs: registers,
+        opers: operands,
+    };
+    let room = Room {
+        w64: w64,
+        w32: words.len(),
+        records: records,
+    };
     let r = refusal(
         bounds,
         recs,
         locs,
         vias,
         types,
-        registers,
         ops,
-        operands,
         pairs,
         targets,
-        w64,
-        words.len(),
-        records,
+        used,
+        room,
         &t,
     );
     if r != 0 {
@@ -125,20 +139,26 @@ pub extern "C" fn virdzeba_live<'a>(
     ensures { λ r. ⌜ (r ≡ 0 → Live (picture-of (now (bounds .entry)) (now (recs .entry)) (now (locs .entry)) (now (vias .entry)) (now (types .entry)) registers (now (ops .entry)) operands (now (pairs .entry)) (now (targets .entry)) []) (width registers) (now (bits .exit))) ⌝ }
 {
     let t = table();
+    let used = InUse {
+        regs: registers,
+        opers: operands,
+    };
+    let room = Room {
+        w64: bits.len(),
+        w32: w32,
+        records: records,
+    };
     let r = refusal(
         bounds,
         recs,
         locs,
         vias,
         types,
-        registers,
         ops,
-        operands,
         pairs,
         targets,
-        bits.len(),
-        w32,
-        records,
+        used,
+        room,
         &t,
     );
     if r != 0 {

@@ -1,5 +1,4 @@
 // The text of `sinkrounds` as a function from bytes to bytes (01, "One listing whole").
-use rounds::state::Ran;
 use host::run::sink_bytes;
 use layout::OPERANDS;
 use layout::PICTURE_BYTES;
@@ -10,6 +9,7 @@ use layout::text::put_line;
 use layout::text::put_round_heading;
 use layout::text::put_unread;
 use model::Answer;
+use rounds::state::Ran;
 ghost use mathlib.Core.Path.{_≡_};
 ghost use Prim.Native.Nat.{_+_, _*_, _≤_, _<_};
 ghost use lib.ListN.{length};
