@@ -87,7 +87,3 @@ is-look k l on is = EL.owed M.the-type M′.the-laws (may.Is l) _ (subst (λ (o 
 
 pub is-sizes : (k : Ready) → Is D.the-row k (D′.lowered k ∷ []) → Is Z.the-row (k .sizes) (Z′.lowered (k .sizes) ∷ [])
 is-sizes k is = LL.owed D.the-type D′.the-laws k _ is .1 .1 .0
-
--- with another chain, or none
-abbrev pub with-next : Ready → MaybeLook → Ready
-with-next k o = record { next = o; number = k .number; sizes = k .sizes }
