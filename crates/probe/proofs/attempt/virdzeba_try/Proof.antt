@@ -188,6 +188,10 @@ module _ {M : Type 1} (𝓤 : URA M) (H : Heap 𝓤) (A : Atoms 𝓤) (W : Given
         abbrev set-places : Cell → Cell → Cell → Cell → Cell → List Cell → List Cell
         set-places w j k c r cs = places w j k c r (has (vptr (l 17) 0) ∷ twice work64 (twice work32 cs))
 
+        -- what is held before the chain is tried, with the lists that `set_out` has left
+        abbrev at-lend : Judged → Ready → Look → List ℕ → List ℕ → List (Item 𝓤)
+        at-lend j k c bits words = Held bits words (facts .list) (out .list) ++ cells 𝓤 H En (set-places room (has (J′.lowered j)) (has (D′.lowered k)) (has (S′.lowered c)) room [])
+
         -- `set_out` has left these lists, and a chain is to be tried
         module _ (j : Judged) (k : Ready) (k-is : Is D.the-row k (D′.lowered k ∷ [])) (bits words : List ℕ) (e-bits : length bits ≡ length (work64 .list)) (e-words : length words ≡ length (work32 .list)) (so : SetOut (Lends vs) (bx .it) (length (facts .list)) (work64 .list) (work32 .list) bits words k) (c : Look) (on : k .next ≡ may.Is c) where
           abbrev tried : List (Arg 𝓤 H A)
@@ -224,9 +228,9 @@ module _ {M : Type 1} (𝓤 : URA M) (H : Heap 𝓤) (A : Atoms 𝓤) (W : Given
               by ! (puts (last-of 𝓤 H A tried 7 (r .1)) (last-of 𝓤 H A tried 8 (r .1)) (last-of 𝓤 H A tried 9 (r .1)) (fit-of 𝓤 H A tried 7 (r .1) (a .1 .1) ∙ e-bits) (fit-of 𝓤 H A tried 8 (r .1) (a .1 .1) ∙ e-words) (fit-of 𝓤 H A tried 9 (r .1) (a .1 .1)) (r .0) v (a .0) (a .1 .0)))
 
           -- what is lent to it
-          lends-then : ent 𝓤 (⋆ 𝓤 H A (Held bits words (facts .list) (out .list) ++ cells 𝓤 H En (set-places room (has (J′.lowered j)) (has (D′.lowered k)) (has (S′.lowered c)) room []))) (Wp 𝓤 H C Λ En m.t-17 (atReturn 𝓤 H En Post))
+          lends-then : ent 𝓤 (⋆ 𝓤 H A (at-lend j k c bits words)) (Wp 𝓤 H C Λ En m.t-17 (atReturn 𝓤 H En Post))
           lends-then =
-              qed W (Held bits words (facts .list) (out .list) ++ cells 𝓤 H En (set-places room (has (J′.lowered j)) (has (D′.lowered k)) (has (S′.lowered c)) room [])) ∵ exec ! C Λ En m.t-17 (atRet En Post) $
+              qed W (at-lend j k c bits words) ∵ exec ! C Λ En m.t-17 (atRet En Post) $
               assigns ! (addr ! (from ! (stop !))) (from ! (stop !)) (init ! 29 refl (tt, tt)) $ lends-on ! 97 work64 refl refl $ lends-on ! 97 work32 refl refl $ lends-on ! 97 facts refl refl $ by ! tries
 
         -- nothing is to be tried, or the chain is
@@ -248,7 +252,7 @@ module _ {M : Type 1} (𝓤 : URA M) (H : Heap 𝓤) (A : Atoms 𝓤) (W : Given
               first ! $ switches-on ! (load ! (from ! (fld ! refl (vrt ! refl (fld ! refl (stop !))))) (look-tag ! 55 (sub ! 0 refl (whole !)))) $ exec ! C Λ En (one-arm m.s-16) then $
               assigns-last ! (of-opd ! (load ! (from ! (fld ! refl (vrt ! refl (fld ! refl (stop !))))) (look-in ! 55 (in-variant ! 0 0 refl refl (sub ! 0 refl (whole !)))))) (from ! (stop !))
               (init ! 53 refl (LL.lawful S.the-type S′.the-laws 𝓤 H A W .typed c _ (is-look (stands-with (may.Is c)) c refl k-is) .0)) $
-              by ! (lends-then j (stands-with (may.Is c)) k-is bits words e-bits e-words so c refl)
+              cut (at-lend j (stands-with (may.Is c)) c bits words) (at-lend j (stands-with (may.Is c)) c bits words) [] (id⊢ 𝓤 _) $ by ! (lends-then j (stands-with (may.Is c)) k-is bits words e-bits e-words so c refl)
           tests may.Not k-is so =
               qed W (Held bits words (facts .list) (out .list) ++ cells 𝓤 H En (at-test room may.Not)) ∵ exec ! C Λ En m.t-16 (atRet En Post) $
               first ! $ switches-on ! (load ! (from ! (fld ! refl (vrt ! refl (fld ! refl (stop !))))) (look-tag ! 55 (sub ! 0 refl (whole !)))) $ exec ! C Λ En (none-arm m.s-16) then $
