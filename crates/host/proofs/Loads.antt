@@ -8,13 +8,14 @@ use lib.ListN.{length, take, drop, replicate, length-append, length-take, length
 use lib.Seq.{length-take-le, take-at}
 use Rattle.words.specs.Bytes.{words-of}
 use Rattle.model.specs.Picture.{Picture}
+use Rattle.model.specs.Refusal.{records}
 use Rattle.model.specs.Pass.{sink}
 use Rattle.checks.specs.Causes.{picture-of}
 use Rattle.layout.specs.declared.Counts.{Counts}
 use Rattle.layout.specs.Layout.{readable, held, room, picture-in}
 use Rattle.layout.proofs.Reading.{Sizes, sizes, whole, drop-zeros}
 use Rattle.rounds.specs.declared.state.Ran.{Ran}
-use Rattle.host.specs.Host.{Ran-as, Loaded, Roomy}
+use Rattle.host.specs.Host.{work64, work32, sunk-of, Ran-as, Loaded, Roomy}
 
 -- ---- the head of a list
 
@@ -107,8 +108,9 @@ in-picture bs k u c e b r l v t o p g y eb er el ev et eo ep eg ey =
       replay = ey z;
     }
 
-pub ran-same : (P Q : Picture) (w64 w32 nf : ℕ) {result result′ : List ℕ} {ran : Ran} → P ≡ Q → Ran-as (sink P w64 w32 nf) result ran result′ → Ran-as (sink Q w64 w32 nf) result ran result′
-ran-same P Q w64 w32 nf {result} {result′} {ran} e r = subst (λ (P : Picture). Ran-as (sink P w64 w32 nf) result ran result′) e r
+pub ran-same : (P Q : Picture) {result result′ : List ℕ} {ran : Ran} → P ≡ Q → Ran-as (sunk-of P) result ran result′ → Ran-as (sink Q work64 work32 records) result ran result′
+unfolding sunk-of
+ran-same P Q {result} {result′} {ran} e r = subst (λ (P : Picture). Ran-as (sunk-of P) result ran result′) e r
 
 -- ---- slices of the same lengths
 

@@ -25,6 +25,10 @@ work64 = 3072
 abbrev pub work32 : ℕ
 work32 = 13120
 
+-- the call on a picture, with as many records of facts as it takes; shut, since it would be computed at these numbers wherever it is named
+unfoldable pub sunk-of : Picture → Outcome
+sunk-of P = sink P work64 work32 records
+
 -- the call on the picture in these bytes, with so many registers and operands lent, and as many records of facts as it takes
 abbrev pub sunk : List ℕ → ℕ → ℕ → Outcome
 sunk bs registers operands = sink (picture-in (words-of bs) registers operands) work64 work32 records

@@ -20,15 +20,14 @@ use model::Answer;
 use model::CHAIN_WORDS;
 use rounds::state::Ran;
 use sink::here::sink_here;
+use sizes::InUse;
 ghost use mathlib.Core.Path.{_≡_};
 ghost use mathlib.Core.Bool.{true};
 ghost use Prim.Native.Nat.{_≤_};
 ghost use lib.ListN.{length};
 ghost use Rattle.layout.specs.Layout.{readable, picture-bytes, Fitting};
-ghost use Rattle.model.specs.Refusal.{records};
-ghost use Rattle.model.specs.Pass.{sink};
 ghost use Rattle.checks.specs.Causes.{picture-of};
-ghost use Rattle.host.specs.Host.{sunk, put-by, put-left, Ran-as, left-by, Roomy, unread, replied, written};
+ghost use Rattle.host.specs.Host.{sunk-of, sunk, put-by, put-left, Ran-as, left-by, Roomy, unread, replied, written};
 
 // The program's work slices: 64-bit words, eight a row of registers, and 32-bit words.
 const WORK64: usize = 4 * BLOCKS * 8 + 2 * REGISTERS;
@@ -95,7 +94,7 @@ fn put_left(
     }
 }
 
-// The call on lent slices, its facts in a list of its own, and the picture left.
+// The call on lent slices, its facts and work words in lists of its own, and the picture left.
 fn sink_into(
     result: &mut [u8],
     bounds: &mut [u32],
@@ -103,34 +102,33 @@ fn sink_into(
     locs: &mut [u32],
     vias: &mut [u32],
     types: &mut [u32],
-    regs: u32,
     ops: &mut [u32],
-    opers: u32,
     pairs: &[u32],
     targets: &[u32],
     replay: &[u32],
-    work64: &mut [u64],
-    work32: &mut [u32],
+    used: InUse,
 ) -> Ran
     requires { ⌜ Roomy (now bounds) (now recs) (now locs) (now vias) (now types) (now ops) (now pairs) (now targets) (now replay) (length (now result)) ⌝ }
     ensures { λ r. ⌜ (
-        let P = picture-of (now (bounds .entry)) (now (recs .entry)) (now (locs .entry)) (now (vias .entry)) (now (types .entry)) regs (now (ops .entry)) opers (now (pairs .entry)) (now (targets .entry)) (now (replay .entry)) in
-        Ran-as (sink P (length (now (work64 .entry))) (length (now (work32 .entry))) records) (now (result .entry)) r (now (result .exit))) ⌝ }
+        let P = picture-of (now (bounds .entry)) (now (recs .entry)) (now (locs .entry)) (now (vias .entry)) (now (types .entry)) (used .regs) (now (ops .entry)) (used .opers) (now (pairs .entry)) (now (targets .entry)) (now (replay .entry)) in
+        Ran-as (sunk-of P) (now (result .entry)) r (now (result .exit))) ⌝ }
 {
+    let mut words64 = [0u64; WORK64];
+    let mut words32 = [0u32; WORK32];
     let r = sink_here(
         bounds,
         recs,
         locs,
         vias,
         types,
-        regs,
+        used.regs,
         ops,
-        opers,
+        used.opers,
         pairs,
         targets,
         replay,
-        work64,
-        work32,
+        &mut words64,
+        &mut words32,
     );
     let answer = r.answer;
     put_left(
@@ -171,8 +169,12 @@ fn run(picture: &[u8], result: &mut [u8], registers: usize, operands: usize) -> 
     let pairs = load_pairs(picture, np);
     let targets = load_targets(picture, ng);
     let replay = load_replay(picture, ny);
-    let mut work64 = [0u64; WORK64];
-    let mut work32 = [0u32; WORK32];
+    let regs = c.registers as u32;
+    let opers = c.operands as u32;
+    let used = InUse {
+        regs: regs,
+        opers: opers,
+    };
     sink_into(
         result,
         &mut bounds[..nb],
@@ -180,14 +182,11 @@ fn run(picture: &[u8], result: &mut [u8], registers: usize, operands: usize) -> 
         &mut locs[..ni],
         &mut vias[..nv],
         &mut types[..registers],
-        c.registers as u32,
         &mut ops[..operands],
-        c.operands as u32,
         &pairs[..np],
         &targets[..ng],
         &replay[..ny],
-        &mut work64,
-        &mut work32,
+        used,
     )
 }
 

@@ -79,7 +79,7 @@ module _ (P : Picture) (k : Look) (e : chain P (k .x .0) ≡ some (chain-in (k .
       moved-is = z .moved-is;
       in-x = z .inside-is;
       stands = subst (λ (i : ℕ). Stands P (z .a) i (mv .places) w) (sym (z .inside-is)) (subst (λ (i : ℕ). Stands P (z .a) (size P x - 1) i w) (sym (z .places-is)) (z .marked .stands));
-      places = λ i l. ap (λ (j : ℕ). getD w j 0) (sym (add-zero (10 * i))) ∙ z .numbers i (subst (λ (y : ℕ). i < y) (z .places-is) l);
+      places = λ i l. z .numbers i (subst (λ (y : ℕ). i < y) (z .places-is) l);
       lasts = λ p l. z .marked .lasts p (subst (λ (y : ℕ). p < y) (z .inside-is) l);
       wrotes = λ p l. z .marked .wrotes p (subst (λ (y : ℕ). p < y) (z .inside-is) l);
     }

@@ -44,97 +44,97 @@ load-targets-requires c κs = (c .before .before .before .before .before .before
 load-replay-requires : tie.Need-load-replay-requires
 load-replay-requires c κs = (c .before .before .before .before .before .before .before .before .before .before .before .before .before .pre .0, ap (λ (k : Counts). k .replay) (c .before .before .before .before .before .before .before .before .before .before .counts .ensures))
 
+cast-regs : tie.Need-cast-regs
+cast-regs c =
+    let at-counts = c .before .before .before .before .before .before .before .before .before .before .before .before in
+    let at-args = at-counts .before .before .before in
+    let h = n-regs (at-args .args .picture .now) (at-args .pre .0) (at-counts .counts .result) (at-counts .counts .ensures) in omega arith
+
+cast-opers : tie.Need-cast-opers
+cast-opers c =
+    let at-counts = c .before .before .before .before .before .before .before .before .before .before .before .before .before in
+    let at-args = at-counts .before .before .before in
+    let h = n-opers (at-args .args .picture .now) (at-args .pre .0) (at-counts .counts .result) (at-counts .counts .ensures) in omega arith
+
 array-borrow-prefix-bounds : tie.Need-array-borrow-prefix-bounds
 array-borrow-prefix-bounds c =
-    let at-load-bounds = c .before .before .before .before .before .before .before .before .before in
+    let at-load-bounds = c .before .before .before .before .before .before .before .before .before .before .before in
     let at-counts = at-load-bounds .before .before .before in
     let at-args = at-counts .before .before .before in
     head-fits (2 * at-counts .counts .result .blocks) 128 (at-load-bounds .load-bounds .result) (at-load-bounds .load-bounds .ensures .size) (n-bounds (at-args .args .picture .now) (at-args .pre .0) (at-counts .counts .result) (at-counts .counts .ensures))
 
 slice-aggregate-sink-into : tie.Need-slice-aggregate-sink-into
 slice-aggregate-sink-into c =
-    let at-load-bounds = c .before .before .before .before .before .before .before .before .before .before in
+    let at-load-bounds = c .before .before .before .before .before .before .before .before .before .before .before .before in
     let at-counts = at-load-bounds .before .before .before in
     let at-args = at-counts .before .before .before in
     sym (head-long (2 * at-counts .counts .result .blocks) 128 (at-load-bounds .load-bounds .result) (at-load-bounds .load-bounds .ensures .size) (n-bounds (at-args .args .picture .now) (at-args .pre .0) (at-counts .counts .result) (at-counts .counts .ensures)))
 
 array-borrow-prefix-recs : tie.Need-array-borrow-prefix-recs
 array-borrow-prefix-recs c =
-    let at-load-recs = c .before .before .before .before .before .before .before .before .before in
+    let at-load-recs = c .before .before .before .before .before .before .before .before .before .before .before in
     let at-counts = at-load-recs .before .before .before .before in
     let at-args = at-counts .before .before .before in
     head-fits (16 * at-counts .counts .result .insts) 8192 (at-load-recs .load-recs .result) (at-load-recs .load-recs .ensures .size) (n-recs (at-args .args .picture .now) (at-args .pre .0) (at-counts .counts .result) (at-counts .counts .ensures))
 
 slice-aggregate-sink-into-2 : tie.Need-slice-aggregate-sink-into-2
 slice-aggregate-sink-into-2 c =
-    let at-load-recs = c .before .before .before .before .before .before .before .before .before .before in
+    let at-load-recs = c .before .before .before .before .before .before .before .before .before .before .before .before in
     let at-counts = at-load-recs .before .before .before .before in
     let at-args = at-counts .before .before .before in
     sym (head-long (16 * at-counts .counts .result .insts) 8192 (at-load-recs .load-recs .result) (at-load-recs .load-recs .ensures .size) (n-recs (at-args .args .picture .now) (at-args .pre .0) (at-counts .counts .result) (at-counts .counts .ensures)))
 
 array-borrow-prefix-locs : tie.Need-array-borrow-prefix-locs
 array-borrow-prefix-locs c =
-    let at-load-locs = c .before .before .before .before .before .before .before .before .before in
+    let at-load-locs = c .before .before .before .before .before .before .before .before .before .before .before in
     let at-counts = at-load-locs .before .before .before .before .before in
     let at-args = at-counts .before .before .before in
     head-fits (at-counts .counts .result .insts) 512 (at-load-locs .load-locs .result) (at-load-locs .load-locs .ensures .size) (n-locs (at-args .args .picture .now) (at-args .pre .0) (at-counts .counts .result) (at-counts .counts .ensures))
 
 slice-aggregate-sink-into-3 : tie.Need-slice-aggregate-sink-into-3
 slice-aggregate-sink-into-3 c =
-    let at-load-locs = c .before .before .before .before .before .before .before .before .before .before in
+    let at-load-locs = c .before .before .before .before .before .before .before .before .before .before .before .before in
     let at-counts = at-load-locs .before .before .before .before .before in
     let at-args = at-counts .before .before .before in
     sym (head-long (at-counts .counts .result .insts) 512 (at-load-locs .load-locs .result) (at-load-locs .load-locs .ensures .size) (n-locs (at-args .args .picture .now) (at-args .pre .0) (at-counts .counts .result) (at-counts .counts .ensures)))
 
 array-borrow-prefix-vias : tie.Need-array-borrow-prefix-vias
 array-borrow-prefix-vias c =
-    let at-load-vias = c .before .before .before .before .before .before .before .before .before in
+    let at-load-vias = c .before .before .before .before .before .before .before .before .before .before .before in
     let at-counts = at-load-vias .before .before .before .before .before .before in
     let at-args = at-counts .before .before .before in
     head-fits (at-counts .counts .result .vias) 512 (at-load-vias .load-vias .result) (at-load-vias .load-vias .ensures .size) (n-vias (at-args .args .picture .now) (at-args .pre .0) (at-counts .counts .result) (at-counts .counts .ensures))
 
 slice-aggregate-sink-into-4 : tie.Need-slice-aggregate-sink-into-4
 slice-aggregate-sink-into-4 c =
-    let at-load-vias = c .before .before .before .before .before .before .before .before .before .before in
+    let at-load-vias = c .before .before .before .before .before .before .before .before .before .before .before .before in
     let at-counts = at-load-vias .before .before .before .before .before .before in
     let at-args = at-counts .before .before .before in
     sym (head-long (at-counts .counts .result .vias) 512 (at-load-vias .load-vias .result) (at-load-vias .load-vias .ensures .size) (n-vias (at-args .args .picture .now) (at-args .pre .0) (at-counts .counts .result) (at-counts .counts .ensures)))
 
 array-borrow-prefix-types : tie.Need-array-borrow-prefix-types
 array-borrow-prefix-types c =
-    let at-load-types = c .before .before .before .before .before .before .before .before .before in
+    let at-load-types = c .before .before .before .before .before .before .before .before .before .before .before in
     let at-args = at-load-types .before .before .before .before .before .before .before .before .before .before in
     head-fits (at-args .args .registers) 512 (at-load-types .load-types .result) (at-load-types .load-types .ensures .size) (at-args .pre .2)
 
 slice-aggregate-sink-into-5 : tie.Need-slice-aggregate-sink-into-5
 slice-aggregate-sink-into-5 c =
-    let at-load-types = c .before .before .before .before .before .before .before .before .before .before in
+    let at-load-types = c .before .before .before .before .before .before .before .before .before .before .before .before in
     let at-args = at-load-types .before .before .before .before .before .before .before .before .before .before in
     sym (head-long (at-args .args .registers) 512 (at-load-types .load-types .result) (at-load-types .load-types .ensures .size) (at-args .pre .2))
 
-cast-sink-into : tie.Need-cast-sink-into
-cast-sink-into c =
-    let at-counts = c .before .before .before .before .before .before .before .before .before .before .before .before .before .before .before .before .before .before in
-    let at-args = at-counts .before .before .before in
-    let h = n-regs (at-args .args .picture .now) (at-args .pre .0) (at-counts .counts .result) (at-counts .counts .ensures) in omega arith
-
 array-borrow-prefix-ops : tie.Need-array-borrow-prefix-ops
 array-borrow-prefix-ops c =
-    let at-load-ops = c .before .before .before .before .before .before .before .before .before .before in
+    let at-load-ops = c .before .before .before .before .before .before .before .before .before .before .before in
     let at-args = at-load-ops .before .before .before .before .before .before .before .before .before .before .before in
     head-fits (at-args .args .operands) 2048 (at-load-ops .load-ops .result) (at-load-ops .load-ops .ensures .size) (at-args .pre .3)
 
 slice-aggregate-sink-into-6 : tie.Need-slice-aggregate-sink-into-6
 slice-aggregate-sink-into-6 c =
-    let at-load-ops = c .before .before .before .before .before .before .before .before .before .before .before in
+    let at-load-ops = c .before .before .before .before .before .before .before .before .before .before .before .before in
     let at-args = at-load-ops .before .before .before .before .before .before .before .before .before .before .before in
     sym (head-long (at-args .args .operands) 2048 (at-load-ops .load-ops .result) (at-load-ops .load-ops .ensures .size) (at-args .pre .3))
-
-cast-sink-into-2 : tie.Need-cast-sink-into-2
-cast-sink-into-2 c =
-    let at-counts = c .before .before .before .before .before .before .before .before .before .before .before .before .before .before .before .before .before .before .before .before in
-    let at-args = at-counts .before .before .before in
-    let h = n-opers (at-args .args .picture .now) (at-args .pre .0) (at-counts .counts .result) (at-counts .counts .ensures) in omega arith
 
 array-share-prefix-pairs : tie.Need-array-share-prefix-pairs
 array-share-prefix-pairs c =
@@ -184,15 +184,9 @@ slice-aggregate-sink-into-9 c =
     let args = at-args .args in
     sym (head-long (at-counts .counts .result .replay) 64 (at-load-replay .load-replay .result) (at-load-replay .load-replay .ensures .size) (n-replay (args .picture .now) (at-args .pre .0) (at-counts .counts .result) (at-counts .counts .ensures)))
 
-slice-aggregate-sink-into-10 : tie.Need-slice-aggregate-sink-into-10
-slice-aggregate-sink-into-10 c = search needs
-
-slice-aggregate-sink-into-11 : tie.Need-slice-aggregate-sink-into-11
-slice-aggregate-sink-into-11 c = search needs
-
 sink-into-requires : tie.Need-sink-into-requires
 sink-into-requires c κs =
-    let at-load-replay = c .before .before .before .before .before .before .before .before .before .before .before .before .before .before in
+    let at-load-replay = c .before .before .before .before .before .before .before .before .before .before .before .before in
     let at-load-targets = at-load-replay .before in
     let at-load-pairs = at-load-targets .before in
     let at-load-ops = at-load-pairs .before in
@@ -218,12 +212,12 @@ sink-into-requires c κs =
     }
 
 same-length : tie.Need-same-length
-same-length c = c .before .before .before .before .before .before .before .before .before .before .sink-into .kept .0
+same-length c = c .before .before .before .before .before .before .before .before .sink-into .kept .0
 
 returns : tie.Need-returns
 returns c =
-    let at-sink-into = c .before .before .before .before .before .before .before .before .before .before in
-    let at-load-replay = at-sink-into .before .before .before .before .before .before .before .before .before .before .before .before .before .before .before in
+    let at-sink-into = c .before .before .before .before .before .before .before .before in
+    let at-load-replay = at-sink-into .before .before .before .before .before .before .before .before .before .before .before .before .before in
     let at-load-targets = at-load-replay .before in
     let at-load-pairs = at-load-targets .before in
     let at-load-ops = at-load-pairs .before in
@@ -235,7 +229,7 @@ returns c =
     let at-counts = at-load-bounds .before .before .before in
     let at-args = at-counts .before .before .before in
     let args = at-args .args in
-    ran-same _ _ 3072 13120 800 (in-picture (args .picture .now) (args .registers) (args .operands) (at-counts .counts .result) (at-counts .counts .ensures) _ _ _ _ _ _ _ _ _ (loaded-head (at-load-bounds .load-bounds .ensures)) (loaded-head (at-load-recs .load-recs .ensures)) (loaded-head (at-load-locs .load-locs .ensures)) (loaded-head (at-load-vias .load-vias .ensures)) (loaded-head (at-load-types .load-types .ensures)) (loaded-head (at-load-ops .load-ops .ensures)) (loaded-head (at-load-pairs .load-pairs .ensures)) (loaded-head (at-load-targets .load-targets .ensures)) (loaded-head (at-load-replay .load-replay .ensures))) (at-sink-into .sink-into .ensures)
+    ran-same _ _ (in-picture (args .picture .now) (args .registers) (args .operands) (at-counts .counts .result) (at-counts .counts .ensures) _ _ _ _ _ _ _ _ _ (loaded-head (at-load-bounds .load-bounds .ensures)) (loaded-head (at-load-recs .load-recs .ensures)) (loaded-head (at-load-locs .load-locs .ensures)) (loaded-head (at-load-vias .load-vias .ensures)) (loaded-head (at-load-types .load-types .ensures)) (loaded-head (at-load-ops .load-ops .ensures)) (loaded-head (at-load-pairs .load-pairs .ensures)) (loaded-head (at-load-targets .load-targets .ensures)) (loaded-head (at-load-replay .load-replay .ensures))) (at-sink-into .sink-into .ensures)
 
 pub run-spec : {M : Type 1} → statement M
 run-spec =
@@ -253,6 +247,8 @@ run-spec =
     load-pairs-requires
     load-targets-requires
     load-replay-requires
+    cast-regs
+    cast-opers
     array-borrow-prefix-bounds
     slice-aggregate-sink-into
     array-borrow-prefix-recs
@@ -263,18 +259,14 @@ run-spec =
     slice-aggregate-sink-into-4
     array-borrow-prefix-types
     slice-aggregate-sink-into-5
-    cast-sink-into
     array-borrow-prefix-ops
     slice-aggregate-sink-into-6
-    cast-sink-into-2
     array-share-prefix-pairs
     slice-aggregate-sink-into-7
     array-share-prefix-targets
     slice-aggregate-sink-into-8
     array-share-prefix-replay
     slice-aggregate-sink-into-9
-    slice-aggregate-sink-into-10
-    slice-aggregate-sink-into-11
     sink-into-requires
     same-length
     returns)
