@@ -1,6 +1,7 @@
 pub mod Again
 pub mod Args
 pub mod Bare
+pub mod Bodies
 pub mod Both
 pub mod Cells
 pub mod Element

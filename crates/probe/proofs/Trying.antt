@@ -1,8 +1,8 @@
--- What the walk of `virdzeba_try` is made of: its arms, and what is read of where the search stands. Assumes nothing.
+-- What the walk of `virdzeba_try` is made of: what is read of where the search stands. Assumes nothing.
 use mathlib.Core.Path.{_≡_, refl, subst}
 use mathlib.Core.List.{[], _∷_}
 use Prim.Native.Nat.{ℕ, _<_, _^_}
-use mir.Syntax.{w32, w64, Body, skip, seq, assign, block, loop, cond, switch, exit, return, call, Arms, arm, default, noDefault}
+use mir.Syntax.{w32, w64}
 use mir.Val.{Val, vint}
 use denote.Builtin.{u32}
 use denote.Laws.{Is}
@@ -29,36 +29,6 @@ use Rattle.probe.proofs.attempt.Judged as J
 use Rattle.probe.proofs.attempt.Judged.Laws as J′
 use Rattle.probe.proofs.attempt.Ready as D
 use Rattle.probe.proofs.attempt.Ready.Laws as D′
-
--- ---- the first two arms of a switch: a chain is to be tried; none is
-
-abbrev arm-of : Arms → Body
-arm-of (arm ks b arms) = b
-arm-of (default b) = b
-arm-of noDefault = skip
-
-abbrev rest-of : Arms → Arms
-rest-of (arm ks b arms) = arms
-rest-of (default b) = noDefault
-rest-of noDefault = noDefault
-
-abbrev arms-of : Body → Arms
-arms-of skip = noDefault
-arms-of (seq a b) = noDefault
-arms-of (assign p r) = noDefault
-arms-of (block b) = noDefault
-arms-of (loop b) = noDefault
-arms-of (cond o a b) = noDefault
-arms-of (switch o arms) = arms
-arms-of (exit n) = noDefault
-arms-of return = noDefault
-arms-of (call f os p) = noDefault
-
-abbrev pub one-arm : Body → Body
-one-arm b = arm-of (arms-of b)
-
-abbrev pub none-arm : Body → Body
-none-arm b = arm-of (rest-of (arms-of b))
 
 -- ---- what is given to `judge`, and what it gives
 

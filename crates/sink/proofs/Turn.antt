@@ -2,9 +2,8 @@
 -- machine values that a turn reads. Assumes nothing.
 use mathlib.Core.Path.{_≡_, refl, subst}
 use mathlib.Core.List.{List, [], _∷_}
-use Prim.Native.Nat.{ℕ, zero, suc}
+use Prim.Native.Nat.{ℕ}
 use lib.ListN.{length}
-use mir.Syntax.{Body, skip, seq, assign, block, loop, cond, switch, exit, return, call}
 use mir.Val.{Val, vptr}
 use denote.RattleType.{RattleType}
 use denote.Builtin.{u32, u64}
@@ -87,21 +86,3 @@ stands q u is = subst (Is B.the-row q) (B′.lowers .val-is q (u ∷ []) is) is
 
 pub is-sizes : (q : Stand) → Is B.the-row q (B′.lowered q ∷ []) → Is Z.the-row (q .sizes) (Z′.lowered (q .sizes) ∷ [])
 is-sizes q is = LL.owed B.the-type B′.the-laws q _ is .1 .1 .1 .0
-
--- ---- what follows n statements of a sequence
-
-abbrev behind : Body → Body
-behind skip = skip
-behind (seq a b) = b
-behind (assign p r) = skip
-behind (block b) = skip
-behind (loop b) = skip
-behind (cond o a b) = skip
-behind (switch o a) = skip
-behind (exit n) = skip
-behind return = skip
-behind (call f os p) = skip
-
-abbrev pub after : ℕ → Body → Body
-after zero b = b
-after (suc n) b = after n (behind b)

@@ -64,7 +64,8 @@ use Rattle.find.specs.declared.stand.Stand.the-variants as stand
 use Rattle.find.specs.Find.{stands, answered, Searched, outcome, to-come}
 use Rattle.find.proofs.Onward.{running-open, running-more, running-end}
 use Rattle.find.proofs.Calls.{Tab, sizes-data, Lent, Asked, State, Holds, Tried, Goes, Opens, Tries, GoesOn, Answers, open-args, Open-says, open-call, outcome-args, Outcome-says, outcome-call, try-args, Try-says, try-call, go-args, Go-says, go-call}
-use Rattle.find.proofs.Turn.{after, first-arm, by-own-value, is-look}
+use Rattle.facts.proofs.Bodies.{after, first-arm}
+use Rattle.find.proofs.Turn.{by-own-value, is-look}
 use Rattle.trial.proofs.block.try_chain.Symbol as try-chain-def
 use Rattle.trial.proofs.block.try_chain.Symbol.{name as #try-chain}
 use Rattle.trial.proofs.block.try_chain.Met as try-chain-thm

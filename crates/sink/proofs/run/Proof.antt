@@ -66,7 +66,8 @@ use Rattle.rounds.specs.Going.{Between, to-come}
 use Rattle.rounds.proofs.Going.{opening, advancing, fewer}
 use Rattle.sink.specs.Sink.{Finished}
 use Rattle.sink.proofs.Looping.{Running, running-start, running-next, running-many, running-more, running-end}
-use Rattle.sink.proofs.Turn.{Tab, kinds, Asked, State, lists, twice, stands, is-sizes, after}
+use Rattle.facts.proofs.Bodies.{after}
+use Rattle.sink.proofs.Turn.{Tab, kinds, Asked, State, lists, twice, stands, is-sizes}
 use Rattle.oneround.proofs.round.round as round-fn
 use Rattle.oneround.proofs.round.round.Symbol as round-def
 use Rattle.oneround.proofs.round.round.Symbol.{name as #round}

@@ -80,7 +80,8 @@ use Rattle.probe.proofs.attempt.Judged.Laws as J′
 use Rattle.probe.proofs.attempt.Ready as D
 use Rattle.probe.proofs.attempt.Ready.Laws as D′
 use Rattle.probe.proofs.Attempts.{SetOut, out-set, ended-all, settled}
-use Rattle.probe.proofs.Trying.{one-arm, none-arm, is-judged, is-ready, is-number, is-look}
+use Rattle.facts.proofs.Bodies.{first-arm, second-arm}
+use Rattle.probe.proofs.Trying.{is-judged, is-ready, is-number, is-look}
 use Rattle.probe.proofs.attempt.Calls.{Tab, kinds, JudgesIt, SetsOut, Tries, Puts, Lends, used, used-is, lent, lent-is, judge-args, Judge-says, judge-call, set-args, Set-says, set-call, try-args, Try-says, try-call, put-args, Put-says, put-call}
 use Rattle.probe.proofs.attempt.judge as judge-fn
 use Rattle.probe.proofs.attempt.judge.Symbol as judge-fn-def
@@ -249,13 +250,13 @@ module _ {M : Type 1} (𝓤 : URA M) (H : Heap 𝓤) (A : Atoms 𝓤) (W : Given
               → ent 𝓤 (⋆ 𝓤 H A (Held bits words (facts .list) (out .list) ++ cells 𝓤 H En (at-test room o))) (Wp 𝓤 H C Λ En m.t-16 (atReturn 𝓤 H En Post))
           tests (may.Is c) k-is so =
               qed W (Held bits words (facts .list) (out .list) ++ cells 𝓤 H En (at-test room (may.Is c))) ∵ exec ! C Λ En m.t-16 (atRet En Post) $
-              first ! $ switches-on ! (load ! (from ! (fld ! refl (vrt ! refl (fld ! refl (stop !))))) (look-tag ! 55 (sub ! 0 refl (whole !)))) $ exec ! C Λ En (one-arm m.s-16) then $
+              first ! $ switches-on ! (load ! (from ! (fld ! refl (vrt ! refl (fld ! refl (stop !))))) (look-tag ! 55 (sub ! 0 refl (whole !)))) $ exec ! C Λ En (first-arm m.s-16) then $
               assigns-last ! (of-opd ! (load ! (from ! (fld ! refl (vrt ! refl (fld ! refl (stop !))))) (look-in ! 55 (in-variant ! 0 0 refl refl (sub ! 0 refl (whole !)))))) (from ! (stop !))
               (init ! 53 refl (LL.lawful S.the-type S′.the-laws 𝓤 H A W .typed c _ (is-look (stands-with (may.Is c)) c refl k-is) .0)) $
               cut (at-lend j (stands-with (may.Is c)) c bits words) (at-lend j (stands-with (may.Is c)) c bits words) [] (id⊢ 𝓤 _) $ by ! (lends-then j (stands-with (may.Is c)) k-is bits words e-bits e-words so c refl)
           tests may.Not k-is so =
               qed W (Held bits words (facts .list) (out .list) ++ cells 𝓤 H En (at-test room may.Not)) ∵ exec ! C Λ En m.t-16 (atRet En Post) $
-              first ! $ switches-on ! (load ! (from ! (fld ! refl (vrt ! refl (fld ! refl (stop !))))) (look-tag ! 55 (sub ! 0 refl (whole !)))) $ exec ! C Λ En (none-arm m.s-16) then $
+              first ! $ switches-on ! (load ! (from ! (fld ! refl (vrt ! refl (fld ! refl (stop !))))) (look-tag ! 55 (sub ! 0 refl (whole !)))) $ exec ! C Λ En (second-arm m.s-16) then $
               assigns ! (of-opd ! (load ! (from ! (fld ! refl (stop !))) (look-in ! 55 (sub ! 1 refl (whole !))))) (from ! (stop !)) (init ! 97 refl (tt, record { fits = is-number (stands-with may.Not) k-is .1 })) $
               returns-within ! Post refl (look ! 97 refl) $
               frees-all (Held bits words (facts .list) (out .list)) En (at-test (has (vint w32 n)) may.Not) !
