@@ -9,7 +9,7 @@ use inst::record::word;
 use words::numbers::wide;
 ghost use mathlib.Core.Path.{_≡_};
 ghost use mathlib.Core.List.{[], _∷_, _++_};
-ghost use Prim.Native.Nat.{_+_, _*_, _≤_, _<_};
+ghost use Prim.Native.Nat.{ℕ, _+_, _*_, _≤_, _<_};
 ghost use lib.ListN.{length, getD};
 ghost use mathlib.Core.Bool.{not, _&&_};
 ghost use Rattle.words.specs.Lists.{mem, same};
@@ -110,9 +110,9 @@ impl Chain {
     }
 
     // Is block b a target: not in the chain, and its sole predecessor the chain's end?
-    pub fn is_target(self, preds: &[u32], b: BlockId, blocks: u32) -> bool
-        requires { ⌜ Few self × (b .0 < blocks) × (2 * blocks ≤ length (now preds)) ⌝ }
-        ensures { λ r. ⌜ ((P : Picture) → Preds P (now (preds .entry)) blocks → r ≡ (not (mem (b .0) (blocks-of self)) && same (preds-of P (b .0)) (last-of self ∷ []))) ⌝ }
+    pub fn is_target(self, preds: &[u32], b: BlockId) -> bool
+        requires { ⌜ Few self × (2 * b .0 + 1 < length (now preds)) ⌝ }
+        ensures { λ r. ⌜ ((P : Picture) (n : ℕ) → b .0 < n → Preds P (now (preds .entry)) n → r ≡ (not (mem (b .0) (blocks-of self)) && same (preds-of P (b .0)) (last-of self ∷ []))) ⌝ }
     {
         if self.has(b) {
             return false;

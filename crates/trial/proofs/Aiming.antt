@@ -48,6 +48,9 @@ graph-lent {P} {bounds} {recs} {ops} {pairs} {targets} {s} {w64} {w32} l t =
 pub block-lent : {P : Picture} {bounds recs ops : List ℕ} {s : Sizes} {w64 w32 b : ℕ} → Lists P bounds recs ops s w64 w32 → b < nblocks P → b < length bounds / 2
 block-lent {b = b} l h = subst (λ (bs : List ℕ). b < length bs / 2) (sym (l .bounds-are)) h
 
+pub block-in : {P : Picture} {bounds recs ops : List ℕ} {s : Sizes} {w64 w32 b : ℕ} → Lists P bounds recs ops s w64 w32 → b < nblocks P → b < s .blocks
+block-in {b = b} l h = subst (λ (n : ℕ). b < n) (sym (l .blocks-are)) h
+
 pub row-lent : {P : Picture} {bounds recs ops : List ℕ} {s : Sizes} {w64 w32 b w : ℕ} → Lists P bounds recs ops s w64 w32 → b < nblocks P → w ≡ width (s .regs)
     → length bounds / 2 * w + length bounds / 2 * w + w ≤ w64
 row-lent {P} {bounds} {s = s} {w64 = w64} {w32 = w32} {w = w} l h e =

@@ -85,7 +85,7 @@ fn take_aim<'a>(
     let st = at_stamps(s);
     let end = COPIED + wide(s.regs);
     let k = at_preds(s);
-    let wanted = (g.least != 0) & c.is_target(&work32[k..], g.into, s.blocks);
+    let wanted = (g.least != 0) & c.is_target(&work32[k..], g.into);
     if !wanted {
         let none = from_start(o, st, 0, 0, 1);
         return Aim {

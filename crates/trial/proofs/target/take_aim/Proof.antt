@@ -6,7 +6,7 @@ use borrow.Author.Tests.{not-true, not-false}
 use lib.ListN.{length, take, drop}
 use Rattle.words.specs.Bits.{width}
 use Rattle.chainwords.proofs.Rooms.{room, preds-room}
-use Rattle.trial.proofs.Aiming.{graph-lent, block-lent, row-lent, preds-from, aim-off, aim-on}
+use Rattle.trial.proofs.Aiming.{graph-lent, block-lent, block-in, row-lent, preds-from, aim-off, aim-on}
 use borrow.Author.Needs.{needs}
 use Rattle.trial.proofs.target.take_aim.Statement.{statement}
 use Rattle.trial.proofs.target.take_aim.Tie as tie
@@ -44,10 +44,10 @@ is-target-requires c κs =
     let start = at-preds .before .before .before .before .before .before .before .before .before .before in
     let a = start .args in
     let p = start .pre .1 in
-    let low = subst (λ (y : ℕ). a .g .into .0 < y) (sym (p .lists .blocks-are)) (p .into-block) in
+    let low = block-in (p .lists) (p .into-block) in
     let ws = a .work32 .now in
     let long = subst (λ (i : ℕ). 2 * a .s .blocks ≤ length (take (length ws - i) (drop i ws))) (sym (at-preds .at-preds .ensures)) (preds-room ws (p .lists)) in
-    (p .few, low, long)
+    (p .few, omega (arith, low, long))
 
 from-start-requires : tie.Need-from-start-requires
 from-start-requires c κs = search needs
@@ -58,8 +58,9 @@ returns c =
     let at-preds = at-target .before .before .before in
     let at-stamps = at-preds .before .before in
     let at-needed = at-stamps .before in
-    let a = at-needed .before .before .before .before .before .before .before .args in
-    aim-off (record { is = λ P h. at-target .is-target .ensures P (preds-from (a .s) (a .work32 .now) P (at-preds .at-preds .ensures) h) }) (not-true _ (c .before .if1 .taken)) (at-needed .at-needed .ensures .0) (at-stamps .at-stamps .ensures .0) (c .from-start .ensures)
+    let start = at-needed .before .before .before .before .before .before .before in
+    let a = start .args in
+    aim-off (record { is = λ P h. at-target .is-target .ensures P (a .s .blocks) (block-in (start .pre .1 .lists) (start .pre .1 .into-block)) (preds-from (a .s) (a .work32 .now) P (at-preds .at-preds .ensures) h) }) (not-true _ (c .before .if1 .taken)) (at-needed .at-needed .ensures .0) (at-stamps .at-stamps .ensures .0) (c .from-start .ensures)
 
 wide-requires-2 : tie.Need-wide-requires-2
 wide-requires-2 c κs = search needs
@@ -94,7 +95,7 @@ returns-2 c =
     let at-needed = at-stamps .before in
     let start = at-needed .before .before .before .before .before .before .before in
     let a = start .args in
-    aim-on (start .pre .1) (record { is = λ P h. at-target .is-target .ensures P (preds-from (a .s) (a .work32 .now) P (at-preds .at-preds .ensures) h) }) (not-false _ (c .before .before .before .before .before .before .before .if1 .left)) (at-width .width .ensures ∙ ap width (at-width .before .wide2 .ensures)) (at-needed .at-needed .ensures .0) (at-stamps .at-stamps .ensures .0)
+    aim-on (start .pre .1) (record { is = λ P h. at-target .is-target .ensures P (a .s .blocks) (block-in (start .pre .1 .lists) (start .pre .1 .into-block)) (preds-from (a .s) (a .work32 .now) P (at-preds .at-preds .ensures) h) }) (not-false _ (c .before .before .before .before .before .before .before .if1 .left)) (at-width .width .ensures ∙ ap width (at-width .before .wide2 .ensures)) (at-needed .at-needed .ensures .0) (at-stamps .at-stamps .ensures .0)
     (ap (λ (x : ℕ). 8000 + x) (at-regs .wide .ensures)) (at-put .put-needed .ensures) (c .from-start2 .ensures)
 
 pub take-aim-spec : {M : Type 1} → statement M

@@ -9,7 +9,7 @@ has-requires : tie.Need-has-requires
 has-requires c κs = search needs
 
 returns : tie.Need-returns
-returns c = λ P q. target-in (c .before .before .before .args .self) q (c .before .before .before .pre .1) (c .before .has .ensures) (c .if1 .taken)
+returns c = λ P n h q. target-in (c .before .before .before .args .self) q h (c .before .has .ensures) (c .if1 .taken)
 
 at-requires : tie.Need-at-requires
 at-requires c κs = search needs
@@ -45,7 +45,7 @@ returns-2 : tie.Need-returns-2
 returns-2 c =
     let at-entry = c .before .before .before .before .before .before .before .before in
     let last = c .before .before .number .ensures ∙ c .before .before .before .last .ensures in
-    λ P q. target-out (at-entry .args .self) q (at-entry .pre .1) (c .before .before .before .before .before .before .has .ensures) (c .before .before .before .before .before .if1 .left) (c .before .before .before .before .at .ensures) last
+    λ P n h q. target-out (at-entry .args .self) q h (c .before .before .before .before .before .before .has .ensures) (c .before .before .before .before .before .if1 .left) (c .before .before .before .before .at .ensures) last
 
 pub is-target-spec : {M : Type 1} → statement M
 is-target-spec =
