@@ -99,5 +99,5 @@ pub fn back(
     if f.more {
         return back_looked(t, recs, ops, f, st, lasts, q);
     }
-    back_known(recs, ops, f, st, lasts, q)
+    back_known(f, st, lasts, q)
 }

@@ -16,7 +16,7 @@ use summary::stamps::ORIGIN;
 use summary::stamps::WRITER;
 ghost use mathlib.Core.Path.{_≡_};
 ghost use mathlib.Core.Logic.{_⊎_};
-ghost use mathlib.Core.Bool.{false, not, _||_};
+ghost use mathlib.Core.Bool.{not, _||_};
 ghost use Prim.Native.Nat.{ℕ, _+_, _/_, _%_, _<_, _≤_};
 ghost use lib.ListN.{length, getD};
 ghost use lib.Dec.{eqb, leb};
@@ -28,7 +28,7 @@ ghost use Rattle.inst.specs.Record.{Used};
 ghost use Rattle.regfacts.specs.Written.{Fits, Good};
 ghost use Rattle.legalset.specs.Chain.{picked};
 ghost use Rattle.legalset.specs.Rules.{still-fine};
-ghost use Rattle.summary.specs.Passes.{result-test, read-test, place-test, word-org, org-test, piece-test, from-test, memory-test, own-test, Near, Written, Readable};
+ghost use Rattle.summary.specs.Passes.{result-test, read-test, place-test, word-org, org-test, piece-test, from-test, memory-test, own-test, Near, Written, Readable, own-def};
 
 // The greatest word of a register that is not awaited.
 const NOT_AWAITED: u64 = AWAITED - 1;
@@ -62,10 +62,10 @@ fn free_slots(recs: &[u32], g: usize, uses: u32, st: &[u64]) -> bool
     true
 }
 
-// Rule 1 by the register that the position of fact f writes; there are no more.
-pub fn def_free(recs: &[u32], f: Fact, st: &[u64]) -> bool
-    requires { ⌜ Written (now recs) (length (now st)) (f .rec) (f .def) (f .more) × (f .more ≡ false) ⌝ }
-    ensures { λ b. ⌜ b ≡ all (λ x. leb (getD (now (st .entry)) x 0) 1023) (writes (inst (now (recs .entry)) (f .rec))) ⌝ }
+// Rule 1 for the register that fact f has as written.
+pub fn def_free(f: Fact, st: &[u64]) -> bool
+    requires { ⌜ length (now st) ≤ 65536 ⌝ }
+    ensures { λ b. ⌜ b ≡ all (λ x. leb (getD (now (st .entry)) x 0) 1023) (own-def (length (now (st .entry))) f) ⌝ }
 {
     free(st, Reg::new(f.def, st.len()))
 }
@@ -76,7 +76,7 @@ pub fn rule1(t: &[u32; 202], recs: &[u32], f: Fact, st: &[u64]) -> bool
     ensures { λ b. ⌜ b ≡ all (λ x. leb (getD (now (st .entry)) x 0) 1023) (writes (inst (now (recs .entry)) (f .rec))) ⌝ }
 {
     if !f.more {
-        return def_free(recs, f, st);
+        return def_free(f, st);
     }
     let g = words::numbers::wide(f.rec);
     free_slots(recs, g, inst::access::uses(t, recs, g), st)

@@ -135,7 +135,7 @@ pub record AsReg (count n : ℕ) (m : MaybeReg) : Type 0 where
   pub low : (word-of m ≡ absent) ⊎ (word-of m < count)
 
 -- R registers, as many as the list at hand has
-pub as-reg : {R count n : ℕ} → R ≤ 65536 → count ≡ R → (n ≡ absent) ⊎ (n < R) → {m : MaybeReg} → m ≡ reg-of n count → AsReg count n m
+as-reg : {R count n : ℕ} → R ≤ 65536 → count ≡ R → (n ≡ absent) ⊎ (n < R) → {m : MaybeReg} → m ≡ reg-of n count → AsReg count n m
 as-reg {R} {count} {n} few e l q =
     let low : (n ≡ absent) ⊎ (n < count) = subst (λ (x : ℕ). (n ≡ absent) ⊎ (n < x)) (sym e) l in
     let made = reg-made n count (omega (arith, few, e)) low q in

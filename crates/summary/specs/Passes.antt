@@ -11,6 +11,7 @@ use Rattle.words.specs.Bits.{is-in}
 use Rattle.model.specs.Picture.{Inst, inst, absent, reads, writes, list-of}
 use Rattle.model.specs.Analyse.{Fact}
 use Rattle.model.specs.Legal.{greatest}
+use Rattle.inst.specs.Index.{reg-of, word-of}
 use Rattle.inst.specs.Record.{Known, present, read-at}
 use Rattle.facts.specs.declared.Fact as F
 use Rattle.facts.specs.Marks.{fact-in, marked}
@@ -35,6 +36,13 @@ pub record Written (recs : List ℕ) (R g d : ℕ) (more : Bool) : Type 0 where
 pub record Readable (recs ops : List ℕ) (R : ℕ) (f : F.Fact) : Type 0 where
   pub good : Good recs ops R (f .rec)
   pub brief : f .more ≡ false → reads ops (inst recs (f .rec)) ≡ present (f .use0) ++ present (f .use1)
+
+-- what fact f itself has as written, and as read, among R registers: all of it where there are not more
+unfoldable pub own-def : ℕ → F.Fact → List ℕ
+own-def R f = present (word-of (reg-of (f .def) R))
+
+unfoldable pub own-uses : ℕ → F.Fact → List ℕ
+own-uses R f = present (word-of (reg-of (f .use0) R)) ++ present (word-of (reg-of (f .use1) R))
 
 -- the numbers of memory are small
 pub record Small (f : F.Fact) : Type 0 where

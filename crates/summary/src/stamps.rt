@@ -6,15 +6,14 @@ use facts::Fact;
 use inst::index::MaybeReg;
 use inst::index::Reg;
 ghost use mathlib.Core.Path.{_≡_};
-ghost use mathlib.Core.Bool.{false};
-ghost use Prim.Native.Nat.{_+_, _%_, _<_};
+ghost use Prim.Native.Nat.{_+_, _%_, _<_, _≤_};
 ghost use lib.ListN.{length};
 ghost use Rattle.model.specs.Picture.{inst, reads, writes};
 ghost use Rattle.inst.specs.Table.{rows};
 ghost use Rattle.inst.specs.Index.{word-of, Among};
 ghost use Rattle.inst.specs.Record.{Used};
 ghost use Rattle.regfacts.specs.Written.{Fits, Good};
-ghost use Rattle.summary.specs.Passes.{over, put-in, Stamped, Beside, Written, Readable};
+ghost use Rattle.summary.specs.Passes.{over, put-in, Stamped, Beside, Written, Readable, own-def, own-uses};
 
 // While the set is found, a register's word has its last kept writer and 1, and AWAITED if it is awaited. Of its last writer so far it
 // has WRITER, MEMBER_AT beside it if that is in the set, and over both its origin.
@@ -69,10 +68,10 @@ pub fn put_slots(recs: &[u32], g: usize, uses: u32, st: &mut [u64], d: Stamp)
     }
 }
 
-// Stamps the register that the position of fact f writes; there are no more.
-pub fn put_def(recs: &[u32], f: Fact, st: &mut [u64], d: Stamp)
-    requires { ⌜ Written (now recs) (length (now st)) (f .rec) (f .def) (f .more) × (f .more ≡ false) × Beside (d .keep) (d .lo) (d .v) ⌝ }
-    ensures { λ _. ⌜ Stamped (writes (inst (now (recs .entry)) (f .rec))) (d .keep) (d .lo) (d .v) (now (st .entry)) (now (st .exit)) ⌝ }
+// Stamps the register that fact f has as written.
+pub fn put_def(f: Fact, st: &mut [u64], d: Stamp)
+    requires { ⌜ (length (now st) ≤ 65536) × Beside (d .keep) (d .lo) (d .v) ⌝ }
+    ensures { λ _. ⌜ Stamped (own-def (length (now (st .entry))) f) (d .keep) (d .lo) (d .v) (now (st .entry)) (now (st .exit)) ⌝ }
 {
     put(st, Reg::new(f.def, st.len()), d);
 }
@@ -83,7 +82,7 @@ pub fn put_writes(t: &[u32; 202], recs: &[u32], f: Fact, st: &mut [u64], d: Stam
     ensures { λ _. ⌜ Stamped (writes (inst (now (recs .entry)) (f .rec))) (d .keep) (d .lo) (d .v) (now (st .entry)) (now (st .exit)) ⌝ }
 {
     if !f.more {
-        put_def(recs, f, st, d);
+        put_def(f, st, d);
         return;
     }
     let g = words::numbers::wide(f.rec);
@@ -103,10 +102,10 @@ fn put_places(ops: &[u32], recs: &[u32], g: usize, uses: u32, st: &mut [u64], d:
     }
 }
 
-// Stamps the registers that the position of fact f reads; there are no more.
-pub fn put_uses(ops: &[u32], recs: &[u32], f: Fact, st: &mut [u64], d: Stamp)
-    requires { ⌜ Readable (now recs) (now ops) (length (now st)) f × (f .more ≡ false) × Beside (d .keep) (d .lo) (d .v) ⌝ }
-    ensures { λ _. ⌜ Stamped (reads (now (ops .entry)) (inst (now (recs .entry)) (f .rec))) (d .keep) (d .lo) (d .v) (now (st .entry)) (now (st .exit)) ⌝ }
+// Stamps the registers that fact f has as read.
+pub fn put_uses(f: Fact, st: &mut [u64], d: Stamp)
+    requires { ⌜ (length (now st) ≤ 65536) × Beside (d .keep) (d .lo) (d .v) ⌝ }
+    ensures { λ _. ⌜ Stamped (own-uses (length (now (st .entry))) f) (d .keep) (d .lo) (d .v) (now (st .entry)) (now (st .exit)) ⌝ }
 {
     put(st, Reg::new(f.use0, st.len()), d);
     put(st, Reg::new(f.use1, st.len()), d);
@@ -118,7 +117,7 @@ pub fn put_reads(t: &[u32; 202], ops: &[u32], recs: &[u32], f: Fact, st: &mut [u
     ensures { λ _. ⌜ Stamped (reads (now (ops .entry)) (inst (now (recs .entry)) (f .rec))) (d .keep) (d .lo) (d .v) (now (st .entry)) (now (st .exit)) ⌝ }
 {
     if !f.more {
-        put_uses(ops, recs, f, st, d);
+        put_uses(f, st, d);
         return;
     }
     let g = words::numbers::wide(f.rec);

@@ -12,7 +12,7 @@ returns : tie.Need-returns
 returns c = awaited-none _ _ (c .if1 .taken)
 
 put-uses-requires : tie.Need-put-uses-requires
-put-uses-requires c κs = (c .before .before .before .before .before .pre .0, c .before .before .before .before .before .pre .1, awaited-stamp)
+put-uses-requires c κs = (c .before .before .before .pre, awaited-stamp)
 
 same-length : tie.Need-same-length
 same-length c = search needs

@@ -1,9 +1,8 @@
 -- `legality::known::back_known` meets its contract. Assumes nothing.
-use mathlib.Core.Path.{subst, sym}
-use Prim.Native.Nat.{ℕ}
+use native.Mathlib.Omega.{arith}
 use Rattle.summary.proofs.Stamping.{kept-stamp}
-use Rattle.summary.proofs.Backing.{backed, kept-few}
-use Rattle.summary.specs.Passes.{Readable}
+use Rattle.summary.proofs.Backing.{kept-few}
+use Rattle.summary.proofs.Wording.{backed-by}
 use borrow.Author.Needs.{needs}
 use Rattle.legality.proofs.known.back_known.Statement.{statement}
 use Rattle.legality.proofs.known.back_known.Tie as tie
@@ -26,25 +25,24 @@ kept-at-requires c κs = search needs
 
 put-def-requires : tie.Need-put-def-requires
 put-def-requires c κs =
-    let at-entry = c .before .before .before .before .before .before .before .before .before in
-    (at-entry .pre .0, at-entry .pre .2, kept-stamp _ (kept-few _ _ (at-entry .pre .4) (c .before .kept-at .ensures)))
+    let at-entry = c .before .before .before .before .before .before .before in
+    (at-entry .pre .0, kept-stamp _ (kept-few _ _ (at-entry .pre .2) (c .before .kept-at .ensures)))
 
 await-uses-requires : tie.Need-await-uses-requires
 await-uses-requires c κs =
-    let at-entry = c .before .before .before .before .before .before .before .before .before .before .before .before .before in
-    let a = at-entry .args in
-    (subst (λ (m : ℕ). Readable (a .recs .now) (a .ops .now) m (a .f)) (sym (c .before .before .before .put-def .ensures .size)) (at-entry .pre .1), at-entry .pre .2)
+    let at-entry = c .before .before .before .before .before .before .before .before .before .before .before in
+    omega (arith, c .before .before .before .put-def .ensures .size, at-entry .pre .0)
 
 same-length : tie.Need-same-length
 same-length c = search needs
 
 returns : tie.Need-returns
-returns c =
+returns c recs ops w r e =
     let at-put = c .before .before .before .before .before .before in
     let at-kept = at-put .before .before in
     let at-note = at-kept .before in
     let at-stays = at-note .before .before in
-    backed (at-stays .may-stay .ensures) (at-kept .kept-at .ensures) (at-put .put-def .ensures) (c .before .before .await-uses .ensures) (at-note .note-at .ensures)
+    backed-by (at-stays .before .before .before .args .f) w r e (at-stays .may-stay .ensures) (at-kept .kept-at .ensures) (at-put .put-def .ensures) (c .before .before .await-uses .ensures) (at-note .note-at .ensures)
 
 pub back-known-spec : {M : Type 1} → statement M
 back-known-spec =

@@ -1,10 +1,8 @@
 -- `legality::rules::def_free` meets its contract. Assumes nothing.
-use mathlib.Core.Path.{refl, ap}
-use mathlib.Core.Bool.{not}
 use Prim.Native.Nat.{ℕ}
 use lib.Dec.{leb}
-use lib.ListN.{getD}
-use Rattle.summary.proofs.Wording.{word-made, word-tested}
+use lib.ListN.{getD, length}
+use Rattle.summary.proofs.Wording.{own-among, def-tested}
 use borrow.Author.Needs.{needs}
 use Rattle.legality.proofs.rules.def_free.Statement.{statement}
 use Rattle.legality.proofs.rules.def_free.Tie as tie
@@ -13,14 +11,12 @@ new-requires : tie.Need-new-requires
 new-requires c κs = search needs
 
 free-requires : tie.Need-free-requires
-free-requires c κs = let at-entry = c .before .before .before in word-made (at-entry .pre .0) (ap not (at-entry .pre .1)) refl (c .new .ensures) .among
+free-requires c κs = let at-entry = c .before .before in own-among (at-entry .args .f .def) (at-entry .pre) (c .new .ensures)
 
 returns : tie.Need-returns
 returns c =
-    let at-entry = c .before .before .before .before in
-    let brief = ap not (at-entry .pre .1) in
-    let made = word-made (at-entry .pre .0) brief refl (c .before .new .ensures) in
-    word-tested (at-entry .pre .0) brief (λ (x : ℕ). leb (getD (at-entry .args .st .now) x 0) 1023) made (c .free .ensures)
+    let a = c .before .before .before .args in
+    def-tested (a .f) (length (a .st .now)) (λ (x : ℕ). leb (getD (a .st .now) x 0) 1023) (c .before .new .ensures) (c .free .ensures)
 
 pub def-free-spec : {M : Type 1} → statement M
 def-free-spec = tie.close (tie.spec new-requires free-requires returns)

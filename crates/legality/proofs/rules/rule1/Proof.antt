@@ -1,18 +1,23 @@
 -- `legality::rules::rule1` meets its contract. Assumes nothing.
+use mathlib.Core.Path.{ap, _∙_}
 use Prim.Native.Nat.{ℕ}
 use lib.Dec.{leb}
 use lib.ListN.{getD}
-use Rattle.summary.proofs.Wording.{known-at, slots-at, slots-tested}
+use Rattle.words.specs.Lists.{all}
+use Rattle.summary.proofs.Wording.{def-all, known-at, slots-at, slots-tested}
 use borrow.Author.Tests.{not-true}
 use borrow.Author.Needs.{needs}
 use Rattle.legality.proofs.rules.rule1.Statement.{statement}
 use Rattle.legality.proofs.rules.rule1.Tie as tie
 
 def-free-requires : tie.Need-def-free-requires
-def-free-requires c κs = (c .before .before .before .before .pre .1, not-true _ (c .if1 .taken))
+def-free-requires c κs = c .before .before .before .before .pre .1 .fits .room
 
 returns : tie.Need-returns
-returns c = c .def-free .ensures
+returns c =
+    let at-entry = c .before .before .before .before .before in
+    let a = at-entry .args in
+    c .def-free .ensures ∙ ap (all (λ (x : ℕ). leb (getD (a .st .now) x 0) 1023)) (def-all (a .f) (at-entry .pre .1) (not-true _ (c .before .if1 .taken)))
 
 wide-requires : tie.Need-wide-requires
 wide-requires c κs = search needs

@@ -1,7 +1,10 @@
 -- `legality::rules::rule2` meets its contract. Assumes nothing.
-use mathlib.Core.Path.{refl}
+use mathlib.Core.Path.{ap, _∙_}
+use lib.ListN.{length}
+use Rattle.words.specs.Lists.{all}
 use Rattle.summary.specs.Passes.{result-test}
-use Rattle.summary.proofs.Wording.{known-at, slots-at, slots-tested, word-made, word-tested}
+use Rattle.summary.proofs.Wording.{own-among, def-tested, def-all, known-at, slots-at, slots-tested}
+use borrow.Author.Tests.{not-true}
 use borrow.Author.Needs.{needs}
 use Rattle.legality.proofs.rules.rule2.Statement.{statement}
 use Rattle.legality.proofs.rules.rule2.Tie as tie
@@ -12,15 +15,14 @@ new-requires c κs = search needs
 unneeded-requires : tie.Need-unneeded-requires
 unneeded-requires c κs =
     let at-entry = c .before .before .before .before .before .before in
-    (word-made (at-entry .pre .1) (c .before .if1 .taken) refl (c .new .ensures) .among, at-entry .pre .2, at-entry .pre .3)
+    (own-among (at-entry .args .f .def) (at-entry .pre .1 .fits .room) (c .new .ensures), at-entry .pre .2, at-entry .pre .3)
 
 returns : tie.Need-returns
 returns c =
     let at-entry = c .before .before .before .before .before .before .before in
     let a = at-entry .args in
-    let brief = c .before .before .if1 .taken in
-    let made = word-made (at-entry .pre .1) brief refl (c .before .new .ensures) in
-    word-tested (at-entry .pre .1) brief (result-test (a .regs .now) (a .bits .now) (a .o) (a .p)) made (c .unneeded .ensures)
+    let test = result-test (a .regs .now) (a .bits .now) (a .o) (a .p) in
+    def-tested (a .f) (length (a .regs .now)) test (c .before .new .ensures) (c .unneeded .ensures) ∙ ap (all test) (def-all (a .f) (at-entry .pre .1) (not-true _ (c .before .before .if1 .taken)))
 
 wide-requires : tie.Need-wide-requires
 wide-requires c κs = search needs

@@ -1,9 +1,11 @@
 -- `legality::rules::rule3` meets its contract. Assumes nothing.
-use mathlib.Core.Path.{refl}
-use native.Mathlib.Omega.{arith}
+use mathlib.Core.Path.{ap, _∙_}
+use lib.ListN.{length}
+use Rattle.words.specs.Lists.{all}
 use Rattle.summary.specs.Passes.{read-test}
 use Rattle.legality.proofs.Testing.{place-is}
-use Rattle.summary.proofs.Wording.{good-at, places-at, places-tested, words-made, words-tested}
+use Rattle.summary.proofs.Wording.{own-among, uses-tested, uses-all, good-at, places-at, places-tested}
+use borrow.Author.Tests.{not-true}
 use borrow.Author.Needs.{needs}
 use Rattle.legality.proofs.rules.rule3.Statement.{statement}
 use Rattle.legality.proofs.rules.rule3.Tie as tie
@@ -14,7 +16,7 @@ new-requires c κs = search needs
 read-ok-requires : tie.Need-read-ok-requires
 read-ok-requires c κs =
     let at-entry = c .before .before .before .before .before .before in
-    (words-made (at-entry .pre .1) (c .before .if1 .taken) 0 (omega arith) refl (c .new .ensures) .among, at-entry .pre .2)
+    (own-among (at-entry .args .f .use0) (at-entry .pre .1 .good .fits .room) (c .new .ensures), at-entry .pre .2)
 
 new-requires-2 : tie.Need-new-requires-2
 new-requires-2 c κs = search needs
@@ -22,16 +24,16 @@ new-requires-2 c κs = search needs
 read-ok-requires-2 : tie.Need-read-ok-requires-2
 read-ok-requires-2 c κs =
     let at-entry = c .before .before .before .before .before .before .before .before in
-    (words-made (at-entry .pre .1) (c .before .before .before .if1 .taken) 1 (omega arith) refl (c .new2 .ensures) .among, at-entry .pre .2)
+    (own-among (at-entry .args .f .use1) (at-entry .pre .1 .good .fits .room) (c .new2 .ensures), at-entry .pre .2)
 
 returns : tie.Need-returns
 returns c =
     let at-entry = c .before .before .before .before .before .before .before .before .before in
     let a = at-entry .args in
-    let brief = c .before .before .before .before .if1 .taken in
-    let first = words-made (at-entry .pre .1) brief 0 (omega arith) refl (c .before .before .before .new .ensures) in
-    let second = words-made (at-entry .pre .1) brief 1 (omega arith) refl (c .before .new2 .ensures) in
-    words-tested (at-entry .pre .1) brief (read-test (a .st .now) (a .p)) first second (place-is _ _ _ (c .before .before .read-ok .ensures)) (place-is _ _ _ (c .read-ok2 .ensures))
+    let test = read-test (a .st .now) (a .p) in
+    uses-tested (a .f) (length (a .st .now)) test (c .before .before .before .new .ensures) (c .before .new2 .ensures)
+    (place-is _ _ _ (c .before .before .read-ok .ensures)) (place-is _ _ _ (c .read-ok2 .ensures))
+    ∙ ap (all test) (uses-all (a .f) (at-entry .pre .1) (not-true _ (c .before .before .before .before .if1 .taken)))
 
 wide-requires : tie.Need-wide-requires
 wide-requires c κs = search needs
