@@ -7,7 +7,7 @@ use lib.ListN.{length, set}
 use Rattle.model.specs.declared.Used.{Used}
 use Rattle.model.specs.declared.Answer.{Answer}
 use Rattle.model.specs.declared.Answer.the-variants.{Done, Short, Refused}
-use Rattle.model.specs.Pass.{Outcome, number}
+use Rattle.model.specs.Pass.{number}
 use Rattle.apply.specs.declared.moves.Move.{Move}
 use Rattle.trial.specs.declared.block.MaybeMove.{MaybeMove}
 use Rattle.trial.specs.declared.block.MaybeMove.the-variants.{Is}
@@ -56,13 +56,6 @@ short-told out e h = (sym (ap number e), h ∙ sym (ap (with-used out) e))
 
 pub refused-told : (out : List ℕ) {answer : Answer} {n : ℕ} → answer ≡ Refused n → (200 + n ≡ number answer) × (out ≡ with-used out answer)
 refused-told out e = (sym (ap number e), sym (ap (with-used out) e))
-
--- the answer of an outcome
-pub told-number : (o : Outcome) {n : ℕ} {answer : Answer} → n ≡ number answer → answer ≡ o .answer → n ≡ number (o .answer)
-told-number o h e = h ∙ ap number e
-
-pub told-out : (o : Outcome) (out : List ℕ) {out′ : List ℕ} {answer : Answer} → out′ ≡ with-used out answer → answer ≡ o .answer → out′ ≡ with-used out (o .answer)
-told-out o out h e = h ∙ ap (with-used out) e
 
 -- ---- of a move
 
