@@ -34,7 +34,7 @@ fn flags_org(f: u64) -> u32
 }
 
 // What is known of a register's value: where it points, whether it is a length, and whether it points to a layout.
-#[derive(Drop)]
+#[derive(Clone, Copy)]
 pub struct Value {
     pub org: u32,
     pub len: bool,

@@ -6,7 +6,7 @@ use words::numbers::wide;
 
 // From and into which block; the positions of the chain that are in the first one, but for its last, and of the whole chain; how
 // many of them move.
-#[derive(Drop)]
+#[derive(Clone, Copy)]
 pub struct Move {
     pub from: BlockId,
     pub into: BlockId,

@@ -11,7 +11,7 @@ use rename::all::count_all;
 use rename::parts::{Head, Span};
 
 // Registers and operands in use.
-#[derive(Drop)]
+#[derive(Clone, Copy)]
 pub struct Counts {
     pub regs: u32,
     pub opers: usize,

@@ -11,7 +11,7 @@ use inst::record::{kind, word};
 use words::numbers::wide;
 
 // The blocks in use come first; t and f are where the last of them goes.
-#[derive(Drop)]
+#[derive(Clone, Copy)]
 pub struct Chain {
     pub b0: BlockId,
     pub b1: BlockId,
@@ -24,14 +24,14 @@ pub struct Chain {
     pub f: BlockId,
 }
 
-#[derive(Drop)]
+#[derive(Clone, Copy)]
 pub enum MaybeChain {
     Is(Chain),
     Not,
 }
 
 // How a block ends, for a chain.
-#[derive(Drop)]
+#[derive(Clone, Copy)]
 pub enum Ending {
     Goes(u32),
     Parts(u32, u32),

@@ -10,7 +10,7 @@ use crate::chain::Chain;
 use crate::places::part_of;
 
 // Block k of the chain, and the records from g up to past that are left of it.
-#[derive(Drop)]
+#[derive(Clone, Copy)]
 pub struct Cursor {
     pub k: u32,
     pub g: usize,

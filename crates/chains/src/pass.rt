@@ -3,7 +3,7 @@ ghost use Rattle.std.specs.Prelude.{◌≡◌};
 ghost use Rattle.model.specs.Move.{minimum};
 
 // The pass (01: "The thresholds 8, 3, 800 and 8 rounds belong to the pass itself").
-#[derive(Drop)]
+#[derive(Clone, Copy)]
 pub struct Sink;
 
 impl Sink {

@@ -9,7 +9,7 @@ use crate::chain::Chain;
 use words::numbers::wide;
 
 // The records from one number up to another.
-#[derive(Drop)]
+#[derive(Clone, Copy)]
 pub struct Part {
     pub from: usize,
     pub past: usize,

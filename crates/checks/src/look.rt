@@ -12,7 +12,7 @@ use crate::records::{bad_kind, bad_regs_at, long_cat};
 use words::numbers::wide;
 
 // Whether one of the records is bad in its kind (4), registers (5), list (6), branch (7), or is a long Cat (8).
-#[derive(Drop)]
+#[derive(Clone, Copy)]
 pub struct Found {
     pub kinds: bool,
     pub regs: bool,

@@ -14,7 +14,7 @@ use inst::index::{MaybeReg, Reg};
 use words::bits::{set_in, unset_in};
 
 // The two rows of a block: the words where what it reads first and what it writes begin, and of how many registers they are.
-#[derive(Drop)]
+#[derive(Clone, Copy)]
 pub struct Pair {
     pub u: usize,
     pub d: usize,

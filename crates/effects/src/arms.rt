@@ -9,7 +9,7 @@ use crate::origin::{address, agree, inside, is_sized};
 pub const PIECES: u32 = 4294967295;
 
 // Class 0 No, 1 Movable, 2 Free; the memory written and the memory read as 0 for none or an origin and 1, or PIECES.
-#[derive(Drop)]
+#[derive(Clone, Copy)]
 pub struct Effect {
     pub class: u32,
     pub org: u32,
@@ -24,7 +24,7 @@ pub struct Effect {
 // What an arm asks: form, length of the list, position; of the first three registers read, where they point and whether they
 // are lengths; whether the second is a constant above 0; whether its own constant is a length; whether the first points to
 // a layout, and the second.
-#[derive(Drop)]
+#[derive(Clone, Copy)]
 pub struct Input {
     pub form: u32,
     pub list: u32,

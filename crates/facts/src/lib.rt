@@ -1,4 +1,6 @@
 // The facts of a chain (01, "What changes shape": "`Run`'s facts become one record per position, in a lent list marked in place").
+#![tactic(auto)]
+
 ghost use Rattle.std.specs.Prelude.{◌≡◌, ◌<◌, length, get_or, set};
 ghost use Rattle.facts.specs.Marks.{no_fact, marked, cleared};
 
@@ -8,7 +10,7 @@ ghost use Rattle.facts.specs.Marks.{no_fact, marked, cleared};
 // it a layout; whether it creates, is a barrier, may suspend; and whether it is in the set. Laid out as C does, 40 bytes, so that a
 // caller that is not Rattle can lend the list too.
 #[repr(C)]
-#[derive(Drop)]
+#[derive(Clone, Copy)]
 pub struct Fact {
     pub rec: u32,
     pub class: u32,

@@ -9,7 +9,7 @@ use search::find::{Look, MaybeLook, first_look, seek};
 use sizes::Sizes;
 use trial::block::MaybeMove;
 
-#[derive(Drop)]
+#[derive(Clone, Copy)]
 pub enum Stand {
     Looks(Look),
     Moves(Move),

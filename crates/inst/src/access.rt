@@ -104,7 +104,7 @@ fn nth_of(xs: &[u32], k: usize) -> u32
 
 // The first three registers that a record reads, slots first and then its list, and the first two that it writes, as the words
 // that stand there; absent where there is none. Whoever goes by one makes it a `Reg` first.
-#[derive(Drop)]
+#[derive(Clone, Copy)]
 pub struct Firsts {
     pub r0: u32,
     pub r1: u32,

@@ -24,7 +24,7 @@ const FRACTION: u64 = 4503599627370496;
 
 const NO_NUMBER: u64 = 2047;
 
-#[derive(Drop)]
+#[derive(Clone, Copy)]
 pub enum Constant {
     Whole(i64),
     Float(f64),

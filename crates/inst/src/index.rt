@@ -3,19 +3,19 @@
 ghost use Rattle.std.specs.Prelude.{◌≡◌};
 ghost use Rattle.inst.specs.Index.{reg_of, block_of};
 
-#[derive(Drop)]
+#[derive(Clone, Copy)]
 pub struct Reg(u32);
 
-#[derive(Drop)]
+#[derive(Clone, Copy)]
 pub struct BlockId(u32);
 
-#[derive(Drop)]
+#[derive(Clone, Copy)]
 pub enum MaybeReg {
     Is(Reg),
     Not,
 }
 
-#[derive(Drop)]
+#[derive(Clone, Copy)]
 pub enum MaybeBlock {
     Is(BlockId),
     Not,

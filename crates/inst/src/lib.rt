@@ -1,5 +1,7 @@
 // The record of an instruction, as document 01, "The call", lays it down: its words, and by the table of roles which
 // registers it reads and writes.
+#![tactic(auto)]
+
 pub mod table; // table.rt: the table of roles, and a row of it
 pub mod kinds; // kinds.rt: the kinds that code names
 pub mod record; // record.rt: a record's words

@@ -80,7 +80,7 @@ module _ (P : Picture) (G : Facts) (a : Plan) (mv : Moving P G a) where
     laid : (b : ℕ) → b < nblocks P → prog was_now Q b ≡ zipW (λ o m. ins Q (was o) m) (order_of P a b) (new_code P a js b)
     laid b h =
         map_zip (λ o m. ins Q (was o) m) (λ p. get_or (concat (order P a)) p 0) (inst Q.recs) (places Q b)
-        ∙ ap₂ (zipW (λ o m. ins Q (was o) m)) (A.places-after P G a mv b h) (A.code-after P G a mv b h)
+        ∙ ap₂ (zipW (λ o m. ins Q (was o) m)) (A.places_after P G a mv b h) (A.code_after P G a mv b h)
 
     -- a block that only keeps
     laid_kept : (b : ℕ) → b < nblocks P → (b ≡ a.into → ⊥) → prog was_now Q b ≡ map (placed was P) (order_of P a b)
@@ -109,7 +109,7 @@ module _ (P : Picture) (G : Facts) (a : Plan) (mv : Moving P G a) where
     pub after_at_t : prog was_now Q a.into
         ≡ map (λ p. ins_of P (was (shift p)) (member_job P a (A.given P G a mv) p)) (members P a) ++ zipW (λ o j. ins_of P (was o) j) (places P a.into) (own_jobs (A.behind P G a mv) (code P a.into))
     after_at_t =
-        laid a.into (into_block P G a mv) ∙ ap₂ (zipW (λ o m. ins Q (was o) m)) (order_into P G a mv) (A.code-into P G a mv)
+        laid a.into (into_block P G a mv) ∙ ap₂ (zipW (λ o m. ins Q (was o) m)) (order_into P G a mv) (A.code_into P G a mv)
         ∙ zip_made (map shift (members P a) ++ places P a.into) (made_all P.ops P.opers js) js (A.sound P G a mv) (A.made_here P G a mv)
         ∙ zip_split (λ o j. ins_of P (was o) j) shift (member_job P a (A.given P G a mv)) (members P a) (places P a.into) (own_jobs (A.behind P G a mv) (code P a.into))
 
@@ -131,14 +131,14 @@ module _ (P : Picture) (G : Facts) (a : Plan) (mv : Moving P G a) where
 
   into_bares : map bare (new_code P a js a.into) ≡ map bare_at (order_of P a a.into)
   into_bares =
-      ap (map bare) (A.code-into P G a mv)
+      ap (map bare) (A.code_into P G a mv)
       ∙ made_bares (made_all P.ops P.opers js) js (A.sound P G a mv) (A.made_here P G a mv)
       ∙ map_append (λ k. bare k.old) (map (member_job P a (A.given P G a mv)) (members P a)) (own_jobs (A.behind P G a mv) (code P a.into))
       ∙ ap₂ ◌++◌ (map_map (λ k. bare k.old) (member_job P a (A.given P G a mv)) (members P a) ∙ sym (map_map bare_at shift (members P a))) (own_bares (A.behind P G a mv) (places P a.into))
       ∙ sym (map_append bare_at (map shift (members P a)) (places P a.into)) ∙ sym (ap (map bare_at) (order_into P G a mv))
 
   pub block_bares : (b : ℕ) → b < nblocks P → map bare (code Q b) ≡ map bare_at (order_of P a b)
-  block_bares b h = ap (map bare) (A.code-after P G a mv b h) ∙ ⊎_elim
+  block_bares b h = ap (map bare) (A.code_after P G a mv b h) ∙ ⊎_elim
       (λ (e : b ≡ a.into). subst (λ (y : ℕ). map bare (new_code P a js y) ≡ map bare_at (order_of P a y)) (sym e) into_bares)
       (λ (n : b ≡ a.into → ⊥). ap (map bare) (A.code_else P G a mv b n) ∙ map_map bare (inst P.recs) (order_of P a b))
       (eq? b a.into)
@@ -147,5 +147,5 @@ module _ (P : Picture) (G : Facts) (a : Plan) (mv : Moving P G a) where
   pub bares_in : (b p : ℕ) → b < nblocks P → In p (places Q b) → bare (inst Q.recs p) ≡ bare_at (get_or (concat (order P a)) p 0)
   bares_in b p h i =
       on_map (λ p. bare (inst Q.recs p)) (λ p. bare_at (get_or (concat (order P a)) p 0)) (places Q b)
-      (sym (map_map bare (inst Q.recs) (places Q b)) ∙ block_bares b h ∙ ap (map bare_at) (sym (A.places-after P G a mv b h)) ∙ map_map bare_at (λ p. get_or (concat (order P a)) p 0) (places Q b))
+      (sym (map_map bare (inst Q.recs) (places Q b)) ∙ block_bares b h ∙ ap (map bare_at) (sym (A.places_after P G a mv b h)) ∙ map_map bare_at (λ p. get_or (concat (order P a)) p 0) (places Q b))
       p i

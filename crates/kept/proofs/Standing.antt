@@ -93,7 +93,7 @@ module _ (L : Picture) (G : Facts) where
         subst (Sunk (before L))
         (prog_same (apply P a) ok (Round.was_now u P G a mv) (λ p. spot L (get_or (carried was ps) p 0))
         (λ p h. ap (spot L) (sym (old p (subst (λ (m : ℕ). p < m) (same_locs P G a mv ∙ sym (order_length P G a mv)) h)))))
-        (again P.regs (s.sunk n) (Round.full-round u P G a mv (still_clear P was s n)));
+        (again P.regs (s.sunk n) (Round.full_round u P G a mv (still_clear P was s n)));
   }
     where
       ok : Accepted (apply P a)

@@ -31,7 +31,7 @@ module _ (P : Picture) (G : Facts) (a : Plan) (mv : Moving P G a) where
 
   module _ (b : ℕ) (low : b < nblocks P) (not_x : b ≡ a.x → ⊥) (not_into : b ≡ a.into → ⊥) where
     pub code_kept : code Q b ≡ code P b
-    code_kept = Applied.code-after P G a mv b low ∙ Applied.code_else P G a mv b not_into ∙ ap (map (inst P.recs)) (order_else P G a mv b not_x not_into)
+    code_kept = Applied.code_after P G a mv b low ∙ Applied.code_else P G a mv b not_into ∙ ap (map (inst P.recs)) (order_else P G a mv b not_x not_into)
 
     pub first_kept : (r : ℕ) → read_first Q.ops r (code Q b) ≡ read_first P.ops r (code P b)
     first_kept r = ap (read_first Q.ops r) code_kept ∙ first_on r (code P b) (λ i u.

@@ -90,7 +90,7 @@ module _ (P : Picture) (G : Facts) (a : Plan) (mv : Moving P G a) where
   -- the members, which end nothing, stand before the target's own code
   at_into : last_end (map end_of (new_code P a js a.into)) ≡ last_end (map end_of (code P a.into))
   at_into =
-      ap (λ (l : List Inst). last_end (map end_of l)) (Applied.code-into P G a mv)
+      ap (λ (l : List Inst). last_end (map end_of l)) (Applied.code_into P G a mv)
       ∙ ap last_end (ends_made (made_all P.ops P.opers js) js (Applied.sound P G a mv) (Applied.made_here P G a mv)
       ∙ map_append (λ k. end_of k.old) (map (member_job P a (Applied.given P G a mv)) (members P a)) (own_jobs (Applied.behind P G a mv) (code P a.into))
       ∙ ap₂ ◌++◌ (map_map (λ k. end_of k.old) (member_job P a (Applied.given P G a mv)) (members P a)) (own_olds (Applied.behind P G a mv) (code P a.into)))
@@ -135,7 +135,7 @@ module _ (P : Picture) (G : Facts) (a : Plan) (mv : Moving P G a) where
   pub ending_kept : (b : ℕ) → ending Q b ≡ ending P b
   ending_kept b =
       ending_code Q b
-      ∙ ⊎_elim (λ (h : b < nblocks P). ap (λ (l : List Inst). last_end (map end_of l)) (Applied.code-after P G a mv b h) ∙ new_end b)
+      ∙ ⊎_elim (λ (h : b < nblocks P). ap (λ (l : List Inst). last_end (map end_of l)) (Applied.code_after P G a mv b h) ∙ new_end b)
       (λ (h : nblocks P ≤ b). ap (λ (l : List ℕ). last_end (map end_of (map (inst Q.recs) l))) (places_past Q b (subst (λ (m : ℕ). m ≤ b) (sym (Applied.same_blocks P G a mv)) h))
       ∙ sym (ap (λ (l : List ℕ). last_end (map end_of (map (inst P.recs) l))) (places_past P b h)))
       (lt? b (nblocks P))

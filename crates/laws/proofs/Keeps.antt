@@ -126,7 +126,7 @@ module _ (P : Picture) (G : Facts) (a : Plan) (mv : Moving P G a) where
   in_block : (b : ℕ) (i : Inst) → In i (new_code P a (Applied.js P G a mv) b) → Admitted Q i
   in_block b i j = ⊎_elim
       (λ (e : b ≡ a.into). all_made (made_all P.ops P.opers (Applied.js P G a mv)) (Applied.js P G a mv) (Applied.sound P G a mv) (Applied.made_here P G a mv) i
-      (subst (In i) (ap (new_code P a (Applied.js P G a mv)) e ∙ Applied.code-into P G a mv) j))
+      (subst (In i) (ap (new_code P a (Applied.js P G a mv)) e ∙ Applied.code_into P G a mv) j))
       (λ (n : b ≡ a.into → ⊥). let z = in_map (inst P.recs) i (order_of P a b) (subst (In i) (Applied.code_else P G a mv b n) j) in
       subst (Admitted Q) (sym z.2) (admitted_kept (inst P.recs z.0) (ok.each z.0 (order_place P G a mv b z.0 z.1))))
       (eq? b a.into)
@@ -182,7 +182,7 @@ module _ (P : Picture) (G : Facts) (a : Plan) (mv : Moving P G a) where
         (le-ltb (length Q.ops) Q.opers (opers_more P G a mv).1);
     even = ap₂ ◌||◌ (ap₂ ◌||◌ (ap₂ ◌||◌ (ap not (eq-eqb (length Q.recs) (16 * length Q.locs) (recs_after P G a mv))) (ap not vias_fit)) bounds_even)
         (ne_eqb (length P.pairs % 2) 1 (λ e. let l = pairs_length P ok in omega arith));
-    laid = ap (gaps 0 (length Q.locs)) (Applied.bounds-order P G a mv) ∙ gaps_spans 0 (length Q.locs) (order P a) (zero-add (length (concat (order P a))) ∙ sym (locs_order P G a mv));
+    laid = ap (gaps 0 (length Q.locs)) (Applied.bounds_order P G a mv) ∙ gaps_spans 0 (length Q.locs) (order P a) (zero-add (length (concat (order P a))) ∙ sym (locs_order P G a mv));
     each = each_after;
     operands = no_any (leb Q.regs) (take Q.opers Q.ops)
         (λ r i. lt-leb Q.regs r (⊎_elim (λ j. le_trans (operand_low P ok r j) (regs_more P G a mv).0) (extra_low r) (in_split r (take P.opers P.ops) (Applied.extra P G a mv) (subst (In r) ops_after i))));

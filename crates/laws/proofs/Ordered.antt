@@ -80,12 +80,12 @@ module _ (P : Picture) (G : Facts) (a : Plan) (mv : Moving P G a) where
       order_place y.0 (get_or (concat (order P a)) p 0) (subst (In (get_or (concat (order P a)) p 0)) y.2 z.1)
 
   pub order_length : length (concat (order P a)) ≡ length P.locs
-  order_length = Once.order-length P mv.ok.laid a (apart P G a mv) (x_block P G a mv) (into_block P G a mv)
+  order_length = Once.order_length P mv.ok.laid a (apart P G a mv) (x_block P G a mv) (into_block P G a mv)
 
   pub order_has : (o : ℕ) → o < length P.locs → In o (concat (order P a))
-  order_has o h = once_in o (concat (order P a)) (Once.order-once P mv.ok.laid a (apart P G a mv) (x_block P G a mv) (into_block P G a mv) o h)
+  order_has o h = once_in o (concat (order P a)) (Once.order_once P mv.ok.laid a (apart P G a mv) (x_block P G a mv) (into_block P G a mv) o h)
 
   pub order_inj : (p q : ℕ) → p < length (concat (order P a)) → q < length (concat (order P a)) → get_or (concat (order P a)) p 0 ≡ get_or (concat (order P a)) q 0 → p ≡ q
   order_inj p q h k e =
       let o = get_or (concat (order P a)) p 0 in
-      once_place o (concat (order P a)) (Once.order-once P mv.ok.laid a (apart P G a mv) (x_block P G a mv) (into_block P G a mv) o (order_low p h)) p q h k refl (sym e)
+      once_place o (concat (order P a)) (Once.order_once P mv.ok.laid a (apart P G a mv) (x_block P G a mv) (into_block P G a mv) o (order_low p h)) p q h k refl (sym e)

@@ -1,1 +1,2 @@
 // What is proved of `model`'s definitions (proofs/): theory only.
+#![tactic(auto)]

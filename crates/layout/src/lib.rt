@@ -34,7 +34,7 @@ pub const PICTURE_BYTES: usize = 4
     * (HEAD + BOUNDS + RECS + INSTS + VIAS + REGISTERS + OPERANDS + PAIRS + TARGETS + REPLAY);
 
 // How many blocks, instructions, registers and operands in use, pair words, target words, replay words and via words.
-#[derive(Drop)]
+#[derive(Clone, Copy)]
 pub struct Counts {
     pub blocks: usize,
     pub insts: usize,
@@ -47,7 +47,7 @@ pub struct Counts {
 }
 
 // Where each slice begins, in words; the block bounds begin at HEAD.
-#[derive(Drop)]
+#[derive(Clone, Copy)]
 pub struct Places {
     pub recs: usize,
     pub locs: usize,

@@ -1,5 +1,6 @@
 // The plain types that contracts name, and the paper's numbers that several crates use. What the pass is to do is defined in specs/, one file for each section of
 // document 01, and proofs/ holds what is proved of those definitions.
+#![tactic(auto)]
 
 // What a slot holds that names no register (document 01, "The call": "absent").
 pub const ABSENT: u32 = 4294967295;
@@ -11,7 +12,7 @@ pub const RECORDS: usize = 800;
 pub const CHAIN_WORDS: usize = 8000;
 
 // What was done, and what is in use then: rounds, registers, operands.
-#[derive(Drop)]
+#[derive(Clone, Copy)]
 pub struct Used {
     pub rounds: u32,
     pub registers: u32,
@@ -20,7 +21,7 @@ pub struct Used {
 
 // The answer of the call (document 01, "The call"): no move is left or the rounds are up; the next move needs more room than
 // is lent; or a refusal, with the number of its cause. specs/Pass gives the paper's number and values for each case.
-#[derive(Drop)]
+#[derive(Clone, Copy)]
 pub enum Answer {
     Done(Used),
     Short(Used),

@@ -13,7 +13,7 @@ use trial::block::MaybeMove;
 use words::numbers::wide;
 
 // A move that fits, with the registers and operands in use after it.
-#[derive(Drop)]
+#[derive(Clone, Copy)]
 pub struct Line {
     pub moved: Move,
     pub registers: u32,
@@ -21,7 +21,7 @@ pub struct Line {
 }
 
 // What a round comes to: no move is left; one fits; one needs more room than is lent.
-#[derive(Drop)]
+#[derive(Clone, Copy)]
 pub enum Step {
     Ends,
     Goes(Line),

@@ -12,7 +12,7 @@ use summary::notes::{BARRIER, MEMBER, SUSPENSION};
 
 // `go`: there is a sweep to come; `first` the start, else `ahead` that forward. `quiet`: the last dropped nothing; `done`: nor did the one
 // before. `left` members are left; with fewer than `least` no more sweeps are made. The rest is as in `Sweep`.
-#[derive(Drop)]
+#[derive(Clone, Copy)]
 pub struct Cycle {
     pub go: bool,
     pub first: bool,

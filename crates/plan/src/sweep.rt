@@ -13,7 +13,7 @@ use legality::start::begins_in;
 
 // Which sweep it is: `first` the start, else `ahead` that forward. The row of registers needed elsewhere begins at word `o` of the work,
 // the words of the registers at `s`; `n` positions, of which the first `m` are in x; `k` turns; the last kept suspension and barrier, and 1.
-#[derive(Drop)]
+#[derive(Clone, Copy)]
 pub struct Sweep {
     pub first: bool,
     pub ahead: bool,
@@ -27,7 +27,7 @@ pub struct Sweep {
 }
 
 // Whether the position at hand is in the set; how many begin in it, or were dropped.
-#[derive(Drop)]
+#[derive(Clone, Copy)]
 pub struct Tally {
     pub keep: bool,
     pub count: u32,

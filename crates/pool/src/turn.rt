@@ -10,7 +10,7 @@ use inst::index::MaybeReg;
 use model::ABSENT;
 
 // How many registers are held, and free, and which is the next.
-#[derive(Drop)]
+#[derive(Clone, Copy)]
 pub struct Count {
     pub nh: usize,
     pub nf: usize,
@@ -18,7 +18,7 @@ pub struct Count {
 }
 
 // A member's position, and its last use.
-#[derive(Drop)]
+#[derive(Clone, Copy)]
 pub struct Member {
     pub at: u32,
     pub until: u32,
@@ -26,7 +26,7 @@ pub struct Member {
 
 // A register that was given, or absent, and the counts then. It is a word and no `Reg`: a new one is not below the count in use, and
 // until its type is written nothing goes by it.
-#[derive(Drop)]
+#[derive(Clone, Copy)]
 pub struct Given {
     pub reg: u32,
     pub n: Count,

@@ -1,5 +1,6 @@
 // The ten work words that a position of the chain has for the move (01, "Port order and sizes"), position p from PLACE * p on. The
 // first one is the number of its record.
+#![tactic(auto)]
 
 // How many words a position has.
 pub const PLACE: usize = 10;

@@ -19,7 +19,7 @@ use trial::block::{MaybeMove, try_chain};
 use words::numbers::wide;
 
 // Block x of an accepted picture, if it is one; the answer where nothing is sought; the picture's sizes.
-#[derive(Drop)]
+#[derive(Clone, Copy)]
 pub struct Judged {
     pub block: MaybeBlock,
     pub number: u32,
@@ -27,7 +27,7 @@ pub struct Judged {
 }
 
 // The chain to be tried, if there is one; the answer where there is none; the picture's sizes.
-#[derive(Drop)]
+#[derive(Clone, Copy)]
 pub struct Ready {
     pub next: MaybeLook,
     pub number: u32,

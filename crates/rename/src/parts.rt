@@ -7,7 +7,7 @@ use position::{DEF, MARK, NEW, PLACE};
 
 // A position of x: its mark, the register that it writes, and the word of the one that it gets in its place. That one is no `Reg`:
 // it is written, and nothing goes by it.
-#[derive(Drop)]
+#[derive(Clone, Copy)]
 pub struct Part {
     pub mark: u32,
     pub def: MaybeReg,
@@ -15,14 +15,14 @@ pub struct Part {
 }
 
 // The positions of x: `count` records from `from` on.
-#[derive(Drop)]
+#[derive(Clone, Copy)]
 pub struct Head {
     pub from: usize,
     pub count: usize,
 }
 
 // Records, or positions of the chain, from one to before another.
-#[derive(Drop)]
+#[derive(Clone, Copy)]
 pub struct Span {
     pub from: usize,
     pub past: usize,

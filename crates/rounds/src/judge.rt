@@ -9,7 +9,7 @@ use model::{Answer, Used};
 use sizes::{InUse, Room};
 
 // The answer, where no round is tried.
-#[derive(Drop)]
+#[derive(Clone, Copy)]
 pub enum Verdict {
     Ends(Answer),
     Opens,

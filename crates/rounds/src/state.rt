@@ -9,14 +9,14 @@ use oneround::weigh::{Line, Step};
 use sizes::Sizes;
 
 // The answer, and a line of six words for each round: its number, from, into, moved, then registers and operands in use. Zeros behind.
-#[derive(Drop)]
+#[derive(Clone, Copy)]
 pub struct Ran {
     pub answer: Answer,
     pub lines: [u32; 48],
 }
 
 // Is a round to be tried? The answer, where none is; rounds done; sizes, with the registers and operands in use; the lines so far.
-#[derive(Drop)]
+#[derive(Clone, Copy)]
 pub struct At {
     pub more: bool,
     pub answer: Answer,

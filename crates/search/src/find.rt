@@ -14,13 +14,13 @@ use words::numbers::wide;
 use worth::look::worth_a_look;
 
 // A block and the chain from it, which is worth a look.
-#[derive(Drop)]
+#[derive(Clone, Copy)]
 pub struct Look {
     pub x: BlockId,
     pub c: Chain,
 }
 
-#[derive(Drop)]
+#[derive(Clone, Copy)]
 pub enum MaybeLook {
     Is(Look),
     Not,

@@ -1,4 +1,6 @@
 // The sizes of what is lent, and where each part lies in the two work slices (docs/DESIGN.md, "The words of a chain, and its facts").
+#![tactic(auto)]
+
 ghost use Rattle.std.specs.Prelude.{◌≡◌, ◌≤◌};
 ghost use Rattle.sizes.specs.Parts.{regs_at, stamps_at, needed_at, preds_at};
 
@@ -7,14 +9,14 @@ use words::bits::width;
 use words::numbers::wide;
 
 // Registers and operands in use.
-#[derive(Drop)]
+#[derive(Clone, Copy)]
 pub struct InUse {
     pub regs: u32,
     pub opers: u32,
 }
 
 // The lengths of the two work slices, and the records lent.
-#[derive(Drop)]
+#[derive(Clone, Copy)]
 pub struct Room {
     pub w64: usize,
     pub w32: usize,
@@ -22,7 +24,7 @@ pub struct Room {
 }
 
 // Blocks; instructions; registers in use and lent; operands in use.
-#[derive(Drop)]
+#[derive(Clone, Copy)]
 pub struct Sizes {
     pub blocks: u32,
     pub insts: usize,

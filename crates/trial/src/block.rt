@@ -14,7 +14,7 @@ use sizes::Sizes;
 use words::numbers::wide;
 use worth::look::replays;
 
-#[derive(Drop)]
+#[derive(Clone, Copy)]
 pub enum MaybeMove {
     Is(Move),
     Not,

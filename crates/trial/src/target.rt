@@ -17,7 +17,7 @@ use words::numbers::wide;
 
 // What one target is tried with: the block that members are to move into, and the other branch; the fewest members that a move has, or
 // 0 where none is wanted; the positions in the first block, but for its last, and all positions of the chain.
-#[derive(Drop)]
+#[derive(Clone, Copy)]
 pub struct Goal {
     pub into: BlockId,
     pub other: BlockId,
@@ -28,7 +28,7 @@ pub struct Goal {
 
 // What is asked of the set: the fewest members that move, or 0 where there is nothing to do; where the copied words of the registers
 // end; the sweeps.
-#[derive(Drop)]
+#[derive(Clone, Copy)]
 pub struct Aim {
     pub least: u32,
     pub end: usize,
@@ -36,7 +36,7 @@ pub struct Aim {
 }
 
 // How many members move, and of how many positions the words are written.
-#[derive(Drop)]
+#[derive(Clone, Copy)]
 pub struct Sunk {
     pub moved: u32,
     pub places: usize,
