@@ -1,5 +1,7 @@
 // Acceptance of a picture (01, "The call"): the lowest number whose cause is present, and the three gates. Nothing is
 // changed. Crate `checks` has causes 4 to 9.
+#![tactic(auto)]
+
 pub mod lengths; // lengths.rt: causes 1, 2 and 10
 pub mod blocks; // blocks.rt: cause 3
 pub mod gates; // gates.rt: the three gates

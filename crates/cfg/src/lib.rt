@@ -1,2 +1,4 @@
 // The graph of the blocks (01, "The walk" and "A round"): successors, and sole predecessors.
+#![tactic(auto)]
+
 pub mod graph; // graph.rt: successors and sole predecessors

@@ -1,4 +1,6 @@
 // The chain from a block, and its positions (01, "A round").
+#![tactic(auto)]
+
 pub mod chain; // chain.rt: the chain search
 pub mod places; // places.rt: the positions of a chain, inner Brs dropped
 pub mod cursor; // cursor.rt: the positions of a chain one by one

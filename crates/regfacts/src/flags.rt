@@ -117,6 +117,7 @@ fn is_positive(z: i64) -> bool
 }
 
 // Is the constant a length?
+#[tactic(auto, unfolding(crate::specs::Flags::is_length))]
 pub fn is_length(c: Constant) -> bool
     ensures { result ≡ is_length c }
 {
@@ -129,6 +130,7 @@ pub fn is_length(c: Constant) -> bool
 }
 
 // The flags of a constant.
+#[tactic(auto, unfolding(crate::specs::Flags::flags_in, effects::specs::Origin::num))]
 fn constant_flags(c: Constant) -> u64
     ensures { result ≡ flags_in c }
 {

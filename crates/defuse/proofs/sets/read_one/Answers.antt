@@ -1,0 +1,9 @@
+-- `defuse::sets::read_one` meets its contract. Assumes nothing.
+use Rattle.defuse.proofs.Runs.{none_held, one_read}
+use Rattle.defuse.proofs.sets.read_one.Goals as goal
+
+pub returns-in_default : goal.returns-in_default
+returns-in_default c = none_held _ _ c.in_default.is
+
+pub returns : goal.returns
+returns c = one_read _ _ _ c.in-Is.is c.at.ensures c.set_in.ensures
