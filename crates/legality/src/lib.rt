@@ -1,4 +1,6 @@
 // The six rules of the legal set (01, "The legal set"), a function of a fact each, and what a sweep decides of one position by them.
+#![tactic(auto)]
+
 pub mod rules; // rules.rt: the six rules
 pub mod forward; // forward.rt: the sweep by rules 3 to 6
 pub mod backward; // backward.rt: the sweep by rule 1, which makes the notes

@@ -1,0 +1,15 @@
+-- `flow::live::sweep_up` meets its contract. Assumes nothing.
+use Prim.Native.Nat.{◌-◌, ◌*◌, ◌/◌, ◌≤◌}
+use mathlib.Core.Path.{◌≡◌}
+use mathlib.Core.List.{[]}
+use lib.ListN.{length, drop}
+use Rattle.model.specs.Picture.{succs}
+use Rattle.cfg.specs.Drawn.{drawn}
+use Rattle.flow.specs.Progress.{Edges, Progress}
+use Rattle.flow.proofs.live.sweep_up.Given as goal
+
+abbrev pub invariant-loop-k : goal.invariant-loop-k
+invariant-loop-k l = (l.n ≡ length l.bounds / 2) × (l.k ≤ l.n) × Progress l.n l.w (drop (l.n * l.w) l.initial.bits) (Edges l.k l.w (succs (drawn l.bounds l.recs [] l.pairs l.targets))) l.initial.bits l.bits l.changed
+
+abbrev pub decreases-loop-k : goal.decreases-loop-k
+decreases-loop-k l = l.n - l.k

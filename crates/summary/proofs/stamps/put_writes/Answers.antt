@@ -1,0 +1,26 @@
+-- `summary::stamps::put_writes` meets its contract. Assumes nothing.
+use Rattle.summary.proofs.Wording.{stamped_is, def_all, known_at, slots_at, slots_stamped}
+use borrow.Author.Tests.{not-true}
+use mathlib.Core.Path.{ap}
+use mathlib.Core.Bool.{not}
+use Rattle.summary.proofs.stamps.put_writes.Goals as goal
+
+pub put_def-requires : goal.put_def-requires
+put_def-requires c =
+    (c.requires.1.fits.room, c.requires.2)
+
+pub returns-then-not-f : goal.returns-then-not-f
+returns-then-not-f c =
+    stamped_is (def_all c.args.f c.requires.1 (not-true _ c.if-not-f.true)) c.put_def.ensures
+
+pub uses-requires : goal.uses-requires
+uses-requires c = (c.requires.0, known_at c.requires.1 c.wide-g.ensures)
+
+pub put_slots-requires : goal.put_slots-requires
+put_slots-requires c =
+    let k = slots_at c.requires.1 c.wide-g.ensures c.uses.ensures in
+    (k.0, k.1, c.requires.2)
+
+pub returns : goal.returns
+returns c =
+    slots_stamped c.requires.1 c.wide-g.ensures c.put_slots.ensures
