@@ -1,0 +1,9 @@
+-- `legality::forward::stamp_of` meets its contract. Assumes nothing.
+use Rattle.summary.proofs.Forwarding.{stamp_in, stamp_out}
+use Rattle.legality.proofs.forward.stamp_of.Goals as goal
+
+pub returns-then-member : goal.returns-then-member
+returns-then-member c = stamp_in _ _ c.if-member.true
+
+pub returns : goal.returns
+returns c = stamp_out _ _ c.if-member.false

@@ -1,0 +1,20 @@
+-- `legality::rules::free` meets its contract. Assumes nothing.
+use mathlib.Core.Path.{sym, ap, ◌∙◌}
+use native.Mathlib.Omega.{arith}
+use Rattle.inst.specs.Index.{word_of}
+use Rattle.inst.proofs.Indices.{a_reg}
+use Rattle.summary.proofs.Backing.{free_absent, free_there}
+use Rattle.legality.proofs.rules.free.Goals as goal
+
+pub returns-in_default : goal.returns-in_default
+returns-in_default c = free_absent c.args.st.now _ (ap word_of c.in_default.is)
+
+pub bounds-st-at : goal.bounds-st-at
+bounds-st-at c =
+    let is = c.in-Is.is in
+    omega (arith, (a_reg is c.requires).0, ap word_of is, c.at.ensures)
+
+pub returns : goal.returns
+returns c =
+    let is = c.in-Is.is in
+    free_there c.args.st.now _ (a_reg is c.requires).1 (c.at.ensures ∙ sym (ap word_of is))
