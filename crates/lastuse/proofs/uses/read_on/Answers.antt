@@ -1,0 +1,18 @@
+-- `lastuse::uses::read_on` meets its contract. Assumes nothing.
+use native.Mathlib.Omega.{arith}
+use Rattle.summary.proofs.Stamping.{whole_stamp}
+use Rattle.summary.proofs.Summing.{used_at}
+use Rattle.lastuse.proofs.uses.read_on.Goals as goal
+
+pub uses-u-requires : goal.uses-u-requires
+uses-u-requires c = (c.requires.0, c.requires.1.known)
+
+pub note_places-requires : goal.note_places-requires
+note_places-requires c = let p = c.requires in (used_at p.1 c.uses-u.ensures, p.1, p.2, p.3)
+
+pub put_slots-requires : goal.put_slots-requires
+put_slots-requires c =
+    let p = c.requires in (used_at p.1 c.uses-u.ensures, p.1.fits, whole_stamp _ (omega (arith, p.4)))
+
+pub returns : goal.returns
+returns c = record { noticed = c.note_places.ensures; stamped = c.put_slots.ensures }
