@@ -1,4 +1,6 @@
 // A picture as bytes and the text of `sinkrounds` (document 01, "One listing whole"): specs/Layout and specs/Text define them.
+#![tactic(auto)]
+
 pub mod read;
 pub mod text;
 pub mod write;

@@ -1,5 +1,5 @@
 -- 01, "The move", new registers: their types, written behind those in use. Assumes nothing.
-use Rattle.std.specs.Prelude.{◌≡◌, List, ◌++◌, ℕ, ◌+◌, ◌*◌, ◌≤◌, ◌<◌, eqb, get_or, length, take, drop}
+use Rattle.std.specs.Prelude.{◌≡◌, List, ◌++◌, ℕ, ◌*◌, ◌≤◌, ◌<◌, eqb, get_or, length, take, drop}
 use Rattle.pool.specs.Pool.{grow_if, typed, new_at, wrote_at}
 
 -- ts, and behind it what T has there

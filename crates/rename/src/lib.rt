@@ -1,6 +1,8 @@
 // Renaming in place (01, "The move": "Reads in the target before the target's own write are renamed. Changed lists are appended
 // to the operands"). One word a register, its new name or absent, does it all: walking x in order, a member's old register
 // gets its new name and a kept write sets it back; for the target the words stand as they are after the whole chain.
+#![tactic(auto)]
+
 pub mod all;
 pub mod count;
 pub mod lists;

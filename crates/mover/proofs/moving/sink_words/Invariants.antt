@@ -1,0 +1,10 @@
+-- `mover::moving::sink_words` meets its contract. Assumes nothing.
+use Prim.Native.Nat.{◌*◌}
+use Rattle.mover.proofs.Sinking.{Sinking}
+use Rattle.mover.proofs.moving.sink_words.Given as goal
+
+abbrev pub invariant-loop-q : goal.invariant-loop-q
+invariant-loop-q l = Sinking l.w l.chain l.lo l.m (l.w * l.t) l.initial.xs l.xs l.initial.saved l.saved l.q l.e
+
+abbrev pub decreases-loop-q : goal.decreases-loop-q
+decreases-loop-q l = l.q
