@@ -3,12 +3,12 @@ use mathlib.Core.Path.{◌≡◌, refl, sym, ap, ◌∙◌, subst}
 use mathlib.Core.Bool.{Bool, true, false, ◌&&◌, ◌||◌}
 use mathlib.Core.List.{List, [], ◌∷◌}
 use mathlib.Core.Option.{Option, none, some}
-use Prim.Native.Nat.{ℕ, zero, suc, ◌-◌, ◌≤◌, ◌<◌}
+use Prim.Native.Nat.{ℕ, zero, suc, ◌≤◌, ◌<◌}
 use native.Mathlib.Nat.{zero-add, le_trans, le_of_eq, lt_of_not-le, le_of_suc-le-suc}
 use native.Mathlib.Decide.{dec_lt}
 use lib.Dec.{T}
 use lib.ListN.{length}
-use Rattle.words.specs.Lists.{upto, all, conj, iterate, member, count, ◌implies◌}
+use Rattle.words.specs.Lists.{upto, all, conj, iterate, member, count}
 use Rattle.words.proofs.Bools.{both, left, right, T_true, true_T, and_mono, implies_mono, or_mono, or_first, or_second}
 use Rattle.words.proofs.Lists.{get_or-made, get_d_past, length_made}
 use Rattle.words.proofs.Alls.{all_mono}

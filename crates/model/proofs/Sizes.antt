@@ -1,6 +1,6 @@
 -- The bounds that no short list shows, as laws of any picture of that size: those of cause 1, the budget, and a chain's 800.
 -- Assumes nothing.
-use mathlib.Core.Path.{◌≡◌, refl}
+use mathlib.Core.Path.{◌≡◌}
 use mathlib.Core.Bool.{Bool, true, false, ◌&&◌, or-true, and-false}
 use mathlib.Core.List.{List, ◌∷◌}
 use Prim.Native.Nat.{ℕ, ◌-◌, ◌*◌}

@@ -1,10 +1,10 @@
 -- 01, "A round" and "The legal set": 000's facts on registers, `analyse`, `writes_nothing` and `alias`, over a chain's
 -- instructions. Assumes nothing.
-use Rattle.std.specs.Prelude.{Bool, true, false, not, ◌&&◌, ◌||◌, cond, List, [], ◌∷◌, ◌++◌, map, ℕ, zero, suc, ◌+◌, ◌-◌, ◌*◌, ◌/◌, ◌%◌, ◌^◌, ℤ, pos, negsuc, nat_abs, eqb, ltb, leb, get_or, length, drop}
+use Rattle.std.specs.Prelude.{Bool, true, false, ◌&&◌, ◌||◌, cond, List, [], ◌∷◌, ◌++◌, map, ℕ, suc, ◌+◌, ◌-◌, ◌*◌, ◌/◌, ◌%◌, ◌^◌, ℤ, pos, negsuc, nat_abs, eqb, ltb, leb, get_or, length, drop}
 use Rattle.std.proofs.Math.Option.{Option, none, some}
 use Rattle.std.specs.Int.Signed.{lt_z}
 use Rattle.words.specs.Lists.{upto, mem, filter, same}
-use Rattle.model.specs.Kinds.{Kind, Arm, Row, row, Const, AddrOf, CallNative, Suspend, CallIndirect, Call, CallProt, const, constF, addr_of, move, select, truth, bin, index, check, dopeLen, load, alloc, layout_of, signal, fills, store, cat, native, stops, deref, writes, other}
+use Rattle.model.specs.Kinds.{Arm, row, Const, AddrOf, CallNative, Suspend, CallIndirect, Call, CallProt, const, constF, addr_of, move, select, truth, bin, index, check, dopeLen, load, alloc, layout_of, signal, fills, store, cat, native, stops, deref, writes, other}
 use Rattle.model.specs.Picture.{Picture, Inst, absent, kind, form, is_kind, reads}
 use Rattle.model.specs.Picture as Pic
 use Rattle.model.specs.Refusal.{all_code}

@@ -1,9 +1,9 @@
 -- 01, "The legal set": the six rules over any set L of positions, as a statement and as tests in order; legal sets; and the
 -- greatest one. Assumes nothing.
 use Rattle.std.specs.Prelude.{◌≡◌, Bool, true, false, not, ◌&&◌, ◌||◌, List, [], ◌∷◌, map, ℕ, suc, ◌-◌, ◌<◌, eqb, get_or, length}
-use Rattle.std.proofs.Math.Option.{Option, none, some}
+use Rattle.std.proofs.Math.Option.{none, some}
 use Rattle.words.specs.Lists.{In, range, upto, any, all, mem, conj, ◌implies◌, iterate, member}
-use Rattle.model.specs.Analyse.{Org, Unknown, Ro, Heap, Frame, Temp, Img, movable, Read, Effect, Fact, no_fact, alias, is_some, when_some, unless_some}
+use Rattle.model.specs.Analyse.{Org, Unknown, Ro, Heap, Frame, Temp, Img, movable, Read, Fact, no_fact, alias, is_some, when_some, unless_some}
 
 -- rule 5: p's reads are Ro, Frame, Img or Temp
 abbrev pub readable : Org → Bool

@@ -1,7 +1,7 @@
 -- 01, "A round": live_in, the least solution of: read before written, or live into a successor and not written.
 -- One register at a time: the set of blocks that it is live into grows from none, as many times as there are blocks.
 -- Assumes nothing.
-use Rattle.std.specs.Prelude.{Bool, true, false, not, ◌&&◌, ◌||◌, List, [], ◌∷◌, ◌++◌, map, ℕ, zero, suc}
+use Rattle.std.specs.Prelude.{Bool, false, not, ◌&&◌, ◌||◌, List, [], ◌∷◌, map, ℕ}
 use Rattle.words.specs.Lists.{upto, any, mem, iterate, member}
 use Rattle.model.specs.Picture.{Picture, Inst, nblocks, code, succs, reads, writes}
 

@@ -1,11 +1,11 @@
 -- 01, "A round" and "The move": the chain from a block, the plan for it, and 000's `apply`. Assumes nothing.
 use Rattle.std.specs.Prelude.{Bool, true, false, not, ◌&&◌, ◌||◌, cond, List, [], ◌∷◌, ◌++◌, map, ℕ, zero, suc, ◌+◌, ◌-◌, max, eqb, ltb, leb, get_or, length, take, drop}
 use Rattle.std.proofs.Math.Option.{Option, none, some}
-use Rattle.words.specs.Lists.{range, upto, any, all, mem, filter, concat, same, lookup, spans, member, count}
+use Rattle.words.specs.Lists.{upto, any, mem, filter, concat, same, lookup, spans, member, count}
 use Rattle.model.specs.Kinds.{Role, reading, writing, Cat}
-use Rattle.model.specs.Picture.{Picture, Inst, inst, absent, form, slots, roles, is_kind, list_of, writes, nblocks, starts, places, code, size, End, goes, parts, cases, stops, ending, succs, preds}
+use Rattle.model.specs.Picture.{Picture, Inst, inst, absent, form, slots, roles, is_kind, list_of, writes, nblocks, starts, places, code, size, goes, parts, cases, stops, ending, preds}
 use Rattle.model.specs.Live.{live_in, live_out, written}
-use Rattle.model.specs.Analyse.{Facts, Fact, Read, analyse, last_writer}
+use Rattle.model.specs.Analyse.{Facts, Fact, analyse, last_writer}
 use Rattle.model.specs.Legal.{fact_at, reads_from, writes_last, greatest}
 
 -- ---- the thresholds, which belong to the pass: 000's MIN_SUNK, MIN_REPLAY and MAX_SEQ

@@ -1,8 +1,8 @@
 -- 01, "The call": the table of causes, cause by cause in its order and words; the sizes of the work slices, and the records
 -- ("What changes shape"); and the lowest number whose cause is present. Assumes nothing.
-use Rattle.std.specs.Prelude.{Bool, true, false, not, ◌&&◌, ◌||◌, cond, List, [], ◌∷◌, ◌++◌, map, ℕ, zero, suc, ◌+◌, ◌-◌, ◌*◌, ◌/◌, ◌%◌, eqb, ltb, leb, get_or, length, take, drop}
-use Rattle.words.specs.Lists.{range, upto, any, all}
-use Rattle.model.specs.Kinds.{Kind, Role, Row, Arm, off, wr, rd, wr?, rd?, row, Br, CondBr, Case, Cat, SigGather, const, constF, addr_of, move, select, truth, bin, index, check, dopeLen, load, alloc, layout_of, signal, fills, store, cat, native, stops, deref, writes, other}
+use Rattle.std.specs.Prelude.{Bool, true, false, not, ◌&&◌, ◌||◌, cond, List, [], ◌∷◌, map, ℕ, suc, ◌+◌, ◌*◌, ◌/◌, ◌%◌, eqb, ltb, leb, get_or, length, take}
+use Rattle.words.specs.Lists.{upto, any}
+use Rattle.model.specs.Kinds.{Role, Arm, off, wr, rd, wr?, rd?, row, Br, CondBr, Cat, SigGather, const, constF, addr_of, move, select, truth, bin, index, check, dopeLen, load, alloc, layout_of, signal, fills, store, cat, native, stops, deref, writes, other}
 use Rattle.model.specs.Picture.{Picture, Inst, inst, absent, kind, form, slots, roles, is_kind, nblocks, starts, ends}
 use Rattle.model.specs.Picture as Pic
 

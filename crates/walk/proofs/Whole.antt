@@ -12,7 +12,6 @@ use Rattle.walk.specs.Rules.{Round}
 use Rattle.walk.specs.Demand.{succs, IsWalk, block_at, Sunk, none_yet, again, OwnPlaces, Claim, Alike, Demand3}
 use Rattle.walk.proofs.Scan.{ScanRounds, begin, round}
 use Rattle.walk.proofs.Alike.{alike_rounds}
-use Rattle.walk.proofs.Compose.{along}
 use Rattle.walk.proofs.Claim.{OldPlacesUnique, claim}
 use Rattle.walk.proofs.Places.{once_ident, once_unique, rounds_once, places}
 use Rattle.walk.proofs.FromRules.{X, scan_round}

@@ -1,6 +1,6 @@
 -- One round as document 01 states it: the chain, live-in, the rules on registers of the legal set (1 to 3), the new registers, the move.
 -- Rules 4 to 6, the thresholds and the facts on registers are not used by the walk. Assumes nothing.
-use Rattle.std.specs.Prelude.{◌≡◌, Bool, true, false, cond, List, [], ◌∷◌, ◌++◌, map, ◌⊎◌, ℕ, zero, suc, ◌≤◌, ◌<◌, T, length, get_or}
+use Rattle.std.specs.Prelude.{◌≡◌, Bool, true, false, cond, List, [], ◌∷◌, ◌++◌, map, ◌⊎◌, ℕ, zero, suc, ◌≤◌, ◌<◌, length, get_or}
 use Rattle.words.specs.Lists.{In, mem}
 use Rattle.walk.specs.Machine.{Instr, with_registers, Prog, no_instr}
 

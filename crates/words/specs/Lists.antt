@@ -1,5 +1,5 @@
 -- Lists of numbers: what the other pages need and the library lacks. Assumes nothing.
-use Rattle.std.specs.Prelude.{◌≡◌, ◌⊎◌, Bool, true, false, not, ◌&&◌, ◌||◌, cond, List, [], ◌∷◌, ◌++◌, map, ℕ, zero, suc, ◌+◌, max, eqb, get_or, length}
+use Rattle.std.specs.Prelude.{◌≡◌, ◌⊎◌, Bool, true, false, ◌&&◌, ◌||◌, cond, List, [], ◌∷◌, ◌++◌, ℕ, zero, suc, ◌+◌, eqb, get_or, length}
 use Rattle.std.proofs.Math.Option.{Option, none, some}
 
 -- s, s + 1, .., n numbers in all

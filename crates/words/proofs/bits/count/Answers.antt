@@ -1,6 +1,5 @@
 -- `bits::count` meets its contract: n is the ones of the words before i. Assumes nothing.
 use mathlib.Core.Path.{◌≡◌, refl}
-use Prim.Native.Nat.{◌-◌}
 use native.Mathlib.Omega.{arith}
 use lib.ListN.{length, get_or}
 use lib.Seq.{take-length}

@@ -1,6 +1,5 @@
 -- `bytes::get_words` meets its contract: the words before i are read, the others as they were. Assumes nothing.
 use mathlib.Core.Path.{◌≡◌, refl, ◌∙◌, ap}
-use Prim.Native.Nat.{◌-◌}
 use native.Mathlib.Omega.{arith}
 use lib.ListN.{length, length-set, set}
 use Rattle.words.specs.Bytes.{words_of}

@@ -1,6 +1,5 @@
 -- `copy::copy` meets its contract: the first i words are copied. Assumes nothing.
 use mathlib.Core.Path.{◌≡◌, refl}
-use Prim.Native.Nat.{◌-◌}
 use native.Mathlib.Omega.{arith}
 use lib.ListN.{length-set}
 use Rattle.words.proofs.Copying.{copy_more}

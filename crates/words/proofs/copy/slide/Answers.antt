@@ -1,6 +1,5 @@
 -- `copy::slide` meets its contract: the first i words are copied; the word read next is as it was. Assumes nothing.
 use mathlib.Core.Path.{◌≡◌, refl}
-use Prim.Native.Nat.{◌-◌}
 use native.Mathlib.Omega.{arith}
 use lib.ListN.{length-set}
 use Rattle.words.proofs.Copying.{slide_more}
