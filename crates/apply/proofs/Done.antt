@@ -160,10 +160,10 @@ module _ {x t m n R u K lo a e c o : ℕ} {bounds bounds' recs ys recs' locs loc
       ∙ ap₂ ◌+◌ (length-map (members P b) (member_job P b (fresh P b).given) ∙ ap length (sym (W.taken_are P b m n w s g k.chain k.inside)))
       (length_own _ (code P t) ∙ length-map (places P t) (inst recs) ∙ length_range (starts P t) (size P t)) in
       record {
-        bounds_are = D.bounds-moved P b N k.laid w m said k.x_in k.t_in k.apart k.inside js long (subst (λ (z : ℕ). Shifted x t z bounds bounds') ec sh);
+        bounds_are = D.bounds_moved P b N k.laid w m said k.x_in k.t_in k.apart k.inside js long (subst (λ (z : ℕ). Shifted x t z bounds bounds') ec sh);
         recs_are = D.recs_moved P b N k.laid w m said k.x_in k.t_in k.apart k.inside js ys ops' o run' k.whole k.some (mv.recs_are ∙ ap (cells 16 ys) moved_is);
-        locs_are = D.words-moved P b N k.laid w m said k.x_in k.t_in k.apart k.inside k.some locs refl (mv.locs_are ∙ ap (cells 1 locs) moved_is);
-        vias_are = vias_law P b w lo m a N vias' mv.vias_are (λ f. ap (cells 1 vias) moved_is ∙ D.words-moved P b N k.laid w m said k.x_in k.t_in k.apart k.inside k.some vias (sym (each f)) refl);
+        locs_are = D.words_moved P b N k.laid w m said k.x_in k.t_in k.apart k.inside k.some locs refl (mv.locs_are ∙ ap (cells 1 locs) moved_is);
+        vias_are = vias_law P b w lo m a N vias' mv.vias_are (λ f. ap (cells 1 vias) moved_is ∙ D.words_moved P b N k.laid w m said k.x_in k.t_in k.apart k.inside k.some vias (sym (each f)) refl);
         types_are = ty ∙ ap (λ (l : List ℕ). over l types) (sym g.types_are);
         ops_are = run_ops run';
       }

@@ -1,5 +1,7 @@
 // The move (01, "The move"), `apply` of 000: `needs` counts what it takes and writes nothing of the picture, so that Short
 // leaves the state of the last round; `apply` then does it in place.
+#![tactic(auto)]
+
 pub mod moves;
 pub mod needs;
 

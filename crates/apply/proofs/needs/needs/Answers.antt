@@ -1,0 +1,30 @@
+-- `apply::needs::needs` meets its contract. Assumes nothing.
+use native.Mathlib.Omega.{arith}
+use Rattle.apply.proofs.Asked.{x_words, t_words, ready}
+use Rattle.apply.proofs.Done.{asks_kept, ask_at, needs_law}
+use Rattle.apply.proofs.needs.needs.Goals as goal
+
+pub allot-regs-requires : goal.allot-regs-requires
+allot-regs-requires c = ready c.requires.1.is
+
+pub start-requires : goal.start-requires
+start-requires c = x_words c.requires.1.is
+
+pub start-requires-2 : goal.start-requires-2
+start-requires-2 c = t_words c.requires.1.is
+
+pub past-requires : goal.past-requires
+past-requires c = t_words c.requires.1.is
+
+pub count_all-more-requires : goal.count_all-more-requires
+count_all-more-requires c =
+    let l = c.allot-regs.ensures in
+    let kept = asks_kept _ _ l.all.keeps l.all.size c.requires.1.is in
+    (c.requires.0, record { u = c.args.c.opers; is = ask_at kept c.start.ensures c.start-2.ensures c.past.ensures })
+
+pub overflow_add-result : goal.overflow_add-result
+overflow_add-result c = let k = c.requires.1.is in omega (arith, c.count_all-more.ensures.1, k.operands.lent, k.operands.few)
+
+pub returns : goal.returns
+returns c =
+    needs_law c.requires.1.is c.allot-regs.ensures c.start.ensures c.start-2.ensures c.past.ensures c.count_all-more.ensures.0
