@@ -1,7 +1,6 @@
 -- Pictures at the bounds of document 01, page 13: what the Rust makes of them, and tests/rust's judgement of refused ones. Printed by
 -- `compare crossed` in tests/rust, and again by its compare.sh: not to be edited. Assumes nothing.
 use Rattle.std.specs.Prelude.{List, [], ◌∷◌, ◌++◌, replicate}
-use Rattle.words.specs.Lists.{range}
 use Rattle.model.specs.Kinds.{AddrOf, Bin, BoolOp, Call, CallNative, CallProt, Cat, Check, LNum, LayoutOf}
 use Rattle.model.specs.Kinds.{Load, LogicOp, Move, Ret, SigGather, Store}
 use Rattle.model.specs.Picture.{absent}

@@ -5,7 +5,7 @@ use Rattle.words.specs.Lists.{upto}
 use Rattle.model.specs.Kinds.{Alloc, Bin, CallNative, Cat, CondBr, Const, Index, Ret, SigVal, Store}
 use Rattle.model.specs.Picture.{absent}
 use Rattle.model.specs.Build.{op}
-use Rattle.crossed.specs.Row.{Row, pic, at, registers, operands, beside, op0, op1, op2, op3, stays, short, refused}
+use Rattle.crossed.specs.Row.{Row, pic, at, registers, operands, beside, op0, op1, op2, op3, stays, refused}
 
 -- seed 4, a Cat list of 34: refused 8
 abbrev pub d55 : Row

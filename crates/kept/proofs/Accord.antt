@@ -1,11 +1,11 @@
 -- The test of specs/Shown asks no more than the statement: where `Follows` holds the test does too, so a test that fails refutes it.
 -- Assumes nothing.
 use mathlib.Core.Path.{◌≡◌, sym, ap, subst}
-use mathlib.Core.Logic.{◌⊎◌, ⊎_elim}
+use mathlib.Core.Logic.{⊎_elim}
 use mathlib.Core.Bool.{true, false, ◌&&◌}
 use mathlib.Core.List.{List, [], ◌∷◌, map}
 use mathlib.Core.Option.{Option, none, some}
-use Prim.Native.Nat.{ℕ, ◌-◌}
+use Prim.Native.Nat.{ℕ}
 use native.Mathlib.Omega.{arith}
 use lib.Dec.{T, eqb, ltb, leb, eqb→eq, eqb_refl, ltb→lt, leb→le, lt→ltb, le→leb}
 use lib.ListN.{get_or, length}

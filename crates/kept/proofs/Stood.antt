@@ -1,7 +1,7 @@
 -- The test of specs/Stood asks no more than the statement: where `Once` holds the test does too. So each wrong picture after that is
 -- listed there is refuted. Assumes nothing.
 use mathlib.Core.Path.{◌≡◌, subst}
-use mathlib.Core.Bool.{Bool, true, false, not, ◌&&◌}
+use mathlib.Core.Bool.{Bool, true, false, not}
 use mathlib.Core.List.{List, [], ◌∷◌}
 use Prim.Native.Nat.{ℕ, ◌<◌}
 use native.Mathlib.Omega.{arith}

@@ -1,8 +1,5 @@
 -- `acceptance::gates::has_plain_cat` meets its contract. None of the records passed is one. Assumes nothing.
 use borrow.Author.Rules.{rules}
-use mathlib.Core.Bool.{false}
-use Prim.Native.Nat.{◌-◌}
-use Rattle.checks.specs.Causes.{plain_cat}
 use Rattle.checks.proofs.Insts.{code_none, code_yes, code_on, code_no}
 use Rattle.checks.proofs.Given.{within}
 use Rattle.acceptance.proofs.gates.has_plain_cat.Goals as goal

@@ -1,7 +1,7 @@
 -- `checks::branches::bad_pairs` meets its contract. What is left of the pairs has the answer that the whole has. Assumes nothing.
 use borrow.Author.Rules.{rules}
 use mathlib.Core.Path.{refl, sym, ◌∙◌}
-use Prim.Native.Nat.{◌+◌, ◌-◌}
+use Prim.Native.Nat.{◌+◌}
 use Rattle.checks.proofs.Twos.{pairs_yes, pairs_on, pairs_end}
 use native.Mathlib.Omega.{arith}
 use Rattle.checks.proofs.branches.bad_pairs.Goals as goal

@@ -1,8 +1,6 @@
 -- `checks::lists::any_from` meets its contract. None of the words passed is m or more. Assumes nothing.
 use borrow.Author.Rules.{rules}
 use mathlib.Core.Path.{refl, sym, ap, ◌∙◌}
-use mathlib.Core.Bool.{false}
-use Prim.Native.Nat.{◌-◌}
 use lib.Dec.{leb}
 use lib.ListN.{get_or}
 use Rattle.words.proofs.Alls.{any_places, find_yes, find_on, find_no}

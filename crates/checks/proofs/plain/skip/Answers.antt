@@ -1,5 +1,4 @@
 -- `checks::plain::skip` meets its contract: the records passed are plain, and the one where it stops is not. Assumes nothing.
-use Prim.Native.Nat.{◌-◌}
 use Rattle.checks.proofs.Given.{within}
 use Rattle.checks.proofs.Freed.{skip_none, skip_more, skip_stop, skip_end}
 use mathlib.Core.Path.{ap}
