@@ -1,5 +1,4 @@
 -- `cfg::graph::note_all` meets its contract. Assumes nothing.
-use Prim.Native.Nat.{◌-◌}
 use native.Mathlib.Omega.{arith}
 use mathlib.Core.Path.{refl, sym, ◌∙◌, ap}
 use Rattle.inst.proofs.Indices.{is_block, not_block}

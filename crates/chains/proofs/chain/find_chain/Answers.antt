@@ -1,6 +1,5 @@
 -- `chains::chain::find_chain` meets its contract. Assumes nothing.
 use mathlib.Core.Path.{refl, sym, ◌∙◌}
-use Prim.Native.Nat.{◌-◌}
 use native.Mathlib.Omega.{arith}
 use Rattle.chains.proofs.Search.{going_start, from_start, here, goes_below, going_not, going_more, more_blocks, parts_below, going_end, going_stops}
 use Rattle.chains.proofs.chain.find_chain.Goals as goal

@@ -1,5 +1,4 @@
 -- `chains::cursor::seek` meets its contract. Assumes nothing.
-use Prim.Native.Nat.{◌-◌}
 use native.Mathlib.Omega.{arith}
 use Rattle.chains.proofs.Seeking.{seeking_none, seeking_more}
 use Rattle.chains.proofs.cursor.seek.Goals as goal

@@ -1,5 +1,4 @@
 -- `chains::places::chain_len` meets its contract. Assumes nothing.
-use Prim.Native.Nat.{◌-◌}
 use native.Mathlib.Omega.{arith}
 use Rattle.chains.proofs.Struct.{blocks_long}
 use Rattle.chains.proofs.Laid.{counted_none, counted_more, counted_end}

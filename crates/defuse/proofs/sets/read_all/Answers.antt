@@ -1,5 +1,5 @@
 -- `defuse::sets::read_all` meets its contract. Assumes nothing.
-use Prim.Native.Nat.{◌-◌, ◌+◌}
+use Prim.Native.Nat.{◌+◌}
 use native.Mathlib.Omega.{arith}
 use mathlib.Core.Path.{refl, ◌∙◌}
 use Rattle.model.specs.Picture.{inst}

@@ -1,5 +1,4 @@
 -- `defuse::sets::read_list` meets its contract. Assumes nothing.
-use Prim.Native.Nat.{◌-◌}
 use native.Mathlib.Omega.{arith}
 use mathlib.Core.Path.{refl, ◌∙◌}
 use Rattle.words.proofs.Members.{in_get_or}

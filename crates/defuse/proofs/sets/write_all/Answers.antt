@@ -1,5 +1,5 @@
 -- `defuse::sets::write_all` meets its contract. Assumes nothing.
-use Prim.Native.Nat.{◌-◌, ◌+◌}
+use Prim.Native.Nat.{◌+◌}
 use native.Mathlib.Omega.{arith}
 use mathlib.Core.Path.{refl, ap, ◌∙◌}
 use Rattle.model.specs.Picture.{inst}

@@ -1,6 +1,5 @@
 -- `regfacts::flags::clear` meets its contract. Assumes nothing.
 use native.Mathlib.Omega.{arith}
-use Prim.Native.Nat.{◌-◌}
 use Rattle.regfacts.proofs.Turned.{cleared_none, cleared_more}
 use Rattle.regfacts.proofs.flags.clear.Goals as goal
 

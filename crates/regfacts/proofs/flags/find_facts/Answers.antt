@@ -1,7 +1,6 @@
 -- `regfacts::flags::find_facts` meets its contract. Assumes nothing.
 use mathlib.Core.Path.{◌∙◌, sym}
 use native.Mathlib.Omega.{arith}
-use Prim.Native.Nat.{◌-◌}
 use Rattle.regfacts.proofs.Turned.{turning_none, turning_more, turning_end, turning_fits}
 use Rattle.regfacts.proofs.flags.find_facts.Goals as goal
 

@@ -2,7 +2,6 @@
 use borrow.Author.Rules.{rules}
 use mathlib.Core.Path.{◌∙◌}
 use native.Mathlib.Omega.{arith}
-use Prim.Native.Nat.{◌-◌}
 use Rattle.regfacts.proofs.Soles.{soles_none, soles_more, soles_at}
 use Rattle.regfacts.proofs.flags.find_soles.Goals as goal
 

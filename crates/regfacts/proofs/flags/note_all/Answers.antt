@@ -1,6 +1,5 @@
 -- `regfacts::flags::note_all` meets its contract. Assumes nothing.
 use native.Mathlib.Omega.{arith}
-use Prim.Native.Nat.{◌-◌}
 use Rattle.regfacts.proofs.Soles.{noted_twice}
 use Rattle.regfacts.proofs.Writing.{slot_made, writing_none, writing_more, writing_end}
 use Rattle.regfacts.proofs.flags.note_all.Goals as goal

@@ -1,0 +1,19 @@
+-- `search::find::first_look` meets its contract. Assumes nothing.
+use native.Mathlib.Omega.{arith}
+use Rattle.search.proofs.Anew.{live_ask, seeking, opened}
+use Rattle.search.proofs.find.first_look.Goals as goal
+
+pub live_in-requires : goal.live_in-requires
+live_in-requires c =
+    let z = live_ask c.requires.1 _ c.wide.ensures in
+    (c.requires.0, z.0, z.1, z.2)
+
+pub seek-requires : goal.seek-requires
+seek-requires c = (seeking c.requires.1, omega arith)
+
+pub shape_of-work64 : goal.shape_of-work64
+shape_of-work64 c = c.work64-1.given
+
+pub returns : goal.returns
+returns c =
+    opened c.wide.ensures (record { size = c.work64-1.given; live = c.live_in.ensures.by_index; behind = c.live_in.ensures.bits_unchanged }) c.seek.ensures
