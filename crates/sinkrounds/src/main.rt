@@ -1,22 +1,25 @@
 // `sinkrounds` (01, "One listing whole"): a picture on standard input, its rounds on standard output.
+#![tactic(auto)]
+
+use input::read_full;
 use layout::PICTURE_BYTES;
-use libc::{STDIN_FILENO, STDOUT_FILENO};
+use std::io;
+use std::io::Input;
 
 // The first k bytes: `report` promises that there are as many.
-fn print(bytes: &[u8], k: usize) {
+fn print(to: &impl Print, bytes: &[u8], k: usize) -> io::Result<()> {
     if k <= bytes.len() {
-        io::write_all(STDOUT_FILENO, &bytes[..k]);
+        to.write_all(&bytes[..k])?;
     }
+    Ok(())
 }
 
 // Room for the largest picture, and for one byte more, which shows that the input is longer.
 const INPUT_BYTES: usize = PICTURE_BYTES + 1;
 
-fn main() {
-    let mut input = [0u8; INPUT_BYTES];
-    let n = io::read_full(STDIN_FILENO, &mut input);
-    let text = report::report(&input[..n]);
-    let k = text.len;
-    let bytes = text.bytes;
-    print(&bytes, k);
+fn main(rt: HostRuntime) -> io::Result<()> {
+    let mut bytes = [0u8; INPUT_BYTES];
+    let n = read_full(&mut rt.reader(), &mut bytes)?;
+    let text = report::report(&bytes[..n]);
+    print(&rt, &text.bytes, text.len)
 }
