@@ -1,5 +1,5 @@
 -- The bytes of one more read stand behind those that came before. Assumes nothing.
-use Rattle.std.proofs.Common.{◌≡◌, ◌+◌, ◌++◌, ap, drop, subst, sym, take, ◌∙◌}
+use Rattle.std.proofs.Common.{◌++◌, ap, drop, subst, sym, take, ◌∙◌}
 use Rattle.std.specs.Io.KnownBytes.{Consumes}
 use Rattle.std.proofs.KnownBytes.{Consumes-trans}
 use lib.Seq.{take-add}
