@@ -74,7 +74,8 @@ fn proofs(pages: std::ops::RangeInclusive<usize>) -> String {
 
 fn page(what: &str, number: usize, rows: &[Text]) -> String {
     let kinds: BTreeSet<&str> = rows.iter().flat_map(|r| r.kinds.iter().copied()).collect();
-    let words: BTreeSet<&str> = rows.iter().flat_map(|r| r.text.split([' ', '(', ')', '\n'])).collect();
+    let code = rows.iter().flat_map(|r| r.text.lines()).filter(|line| !line.starts_with("--"));
+    let words: BTreeSet<&str> = code.flat_map(|line| line.split([' ', '(', ')'])).collect();
     // those of the names that the page uses, behind commas
     let used = |names: &[&str]| names.iter().filter(|n| words.contains(**n)).map(|n| format!(", {n}")).collect::<String>();
     let mut t = format!("-- {what}. Printed by\n-- `compare crossed` in tests/rust, and again by its compare.sh: not to be edited. Assumes nothing.\n");
