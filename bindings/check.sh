@@ -47,6 +47,6 @@ fi
 if bindings/rust/target/debug/examples/sink - </dev/null >"$made/rust" 2>"$made/said"; then fails "an empty picture is sunk"; fi
 grep -q 'unread' "$made/said" && [ ! -s "$made/rust" ] || fails "an empty picture"
 if VIRDZEBA_LIB_DIR=$made crate build --target-dir "$made/none"; then fails "built without a library"; fi
-grep -qF "libhost.a is in $made. Run \`make lib\`" "$made/said" || fails "what is said without a library"
+grep -qF "libhost_c.a is in $made. Run \`make lib\`" "$made/said" || fails "what is said without a library"
 passed=$((passed + 2))
 echo "bindings: $passed checks passed"

@@ -54,52 +54,81 @@ wants 2 'There is no listing examples that can be read' tools/run.sh examples
 
 # ---- the library
 
-before=$(ls -l --time-style=full-iso target/staticlib/libhost.a)
+before=$(ls -l --time-style=full-iso target/lib/libvirdzeba.a)
 wants 0 'target/lib has libvirdzeba.a' make lib
-[ "$before" = "$(ls -l --time-style=full-iso target/staticlib/libhost.a)" ] || { echo "run: FAILED: the library was made again." >&2; exit 1; }
+[ "$before" = "$(ls -l --time-style=full-iso target/lib/libvirdzeba.a)" ] || { echo "run: FAILED: the library was made again." >&2; exit 1; }
 
-# A repository of two crates, and a toolchain that proves in a moment: its sum of crate host is crates.txt.
-mkdir -p "$made/repo/tools" "$made/bin"
-cp -r bindings "$made/repo/bindings"
-cp tools/prove.sh tools/lib.sh "$made/repo/tools"
-printf 'words:\nhost: words\n' >"$made/repo/crates.txt"
-cat >"$made/bin/rt" <<'RT'
+# A repository of two crates, and a toolchain that proves in a moment and notes what it is asked for, and where.
+repo=$made/repo
+mkdir -p "$repo/tools" "$repo/crates/words/src" "$repo/crates/host_c/src" "$made/bin" "$made/kit/bin"
+cp -r bindings "$repo/bindings"
+cp tools/build.sh tools/lib.sh "$repo/tools"
+printf 'words:\nhost_c staticlib: words\n' >"$repo/crates.txt"
+echo 'first' >"$repo/crates/words/src/lib.rt"
+cat >"$made/bin/rt" <<RT
 #!/bin/sh
-echo "$1 $2" >>asked
-case $1 in
-check)
-    sleep "${SLOW:-0}"
-    [ ! -e broken ] || { echo "rt: words NOT PROVED (exit 1, 2 s)"; exit 1; }
-    echo "rt: words proved (0 s)"
-    mkdir -p target/stamp && cp crates.txt target/stamp/host
-    ;;
-staticlib) mkdir -p target/staticlib && echo archive >target/staticlib/libhost.a ;;
+case \$1 in
+version) echo toolchain; exit ;;
+doc) echo "$made/kit/START-HERE.md"; exit ;;
 esac
+echo "\$1 in \${PWD##*/}" >>"$repo/asked"
+sleep "\${SLOW:-0}"
+[ ! -e "$repo/broken" ] || { echo "crate words: modules loaded=0 checked=1"; echo "logic=not-proved"; exit 1; }
+echo "crate words: modules loaded=0 checked=1"
+mkdir -p out && echo archive >"out/lib\${PWD##*/}.a"
 RT
-chmod +x "$made/bin/rt"
+cat >"$made/kit/bin/rattle" <<RATTLE
+#!/bin/sh
+echo "\$1 in \${PWD##*/}" >>"$repo/asked"
+for last; do :; done
+echo archive >"\$last"
+RATTLE
+chmod +x "$made/bin/rt" "$made/kit/bin/rattle"
 PATH=$made/bin:$PATH
 export PATH
 
-# asks WORDS: `make lib` asks the toolchain for this, and then the library stands.
+# asks WORDS WHY COMMAND..: it asks the toolchain for this, and then the library stands.
 asks() {
-    rm -f "$made/repo/asked"
-    "$made/repo/tools/lib.sh" >"$made/said" 2>&1 || { cat "$made/said" >&2; echo "run: FAILED: $2" >&2; exit 1; }
-    if [ "$(tr '\n' ' ' <"$made/repo/asked")" != "$1 " ] || ! [ -s "$made/repo/target/lib/libvirdzeba.a" ]; then
-        echo "run: FAILED: $2: it asked for $(tr '\n' ' ' <"$made/repo/asked")" >&2
+    words=$1 why=$2
+    shift 2
+    rm -f "$repo/asked"
+    "$@" >"$made/said" 2>&1 || { cat "$made/said" >&2; echo "run: FAILED: $why" >&2; exit 1; }
+    asked=$(cat "$repo/asked" 2>/dev/null || true)
+    if [ "$asked" != "$words" ] || ! [ -s "$repo/target/lib/libvirdzeba.a" ]; then
+        echo "run: FAILED: $why: it asked for: $asked" >&2
         exit 1
     fi
     passed=$((passed + 1))
 }
-asks 'check host staticlib host' 'no library'
-asks 'check host' 'nothing changed'
-echo '# changed' >>"$made/repo/crates.txt"
-asks 'check host staticlib host' 'what it is made of changed'
-asks 'check host' 'nothing changed since'
-echo other >"$made/repo/target/staticlib/libhost.a"
-asks 'check host staticlib host' 'another archive lies there'
-rm "$made/repo/target/staticlib/libhost.a"
-asks 'check host staticlib host' 'the archive is gone'
-wants 0 '2 of 2 crates are to be proved' env SLOW=4 "$made/repo/tools/prove.sh" check host
-touch "$made/repo/broken"
-wants 1 'words NOT PROVED' "$made/repo/tools/lib.sh"
+lib=$repo/tools/lib.sh
+asks 'lib in host_c' 'no library' "$lib"
+asks '' 'nothing changed' "$lib"
+echo '# changed' >>"$repo/crates.txt"
+asks 'lib in host_c' 'the list of crates changed' "$lib"
+echo 'changed' >>"$repo/crates/words/src/lib.rt"
+asks 'lib in host_c' 'a crate below changed' "$lib"
+asks '' 'nothing changed since' "$lib"
+echo other >"$repo/target/lib/libvirdzeba.a"
+asks 'lib in host_c' 'another archive lies there' "$lib"
+rm "$repo/target/lib/libvirdzeba.a"
+asks 'lib in host_c' 'the archive is gone' "$lib"
+
+# Over what `rt ci` left, where it left all.
+rm "$repo/target/lib/libvirdzeba.a"
+asks 'lib in host_c' 'no library below' "$repo/tools/build.sh" --after-ci host_c
+mkdir -p "$repo/crates/words/out/rlib/words.rlib"
+touch "$repo/crates/words/out/rlib/words.rlib/format"
+rm "$repo/target/lib/libvirdzeba.a"
+asks 'build in host_c' 'rt ci left the library below' "$repo/tools/build.sh" --after-ci host_c
+asks '' 'it stands' "$lib"
+touch "$repo/crates/words/out/rlib/stamp"
+rm "$repo/target/lib/libvirdzeba.a"
+asks 'lib in host_c' 'a check left the library below' "$repo/tools/build.sh" --after-ci host_c
+
+rm "$repo/target/lib/libvirdzeba.a"
+wants 0 'of the 1 crates below' env SLOW=4 "$lib"
+touch "$repo/broken"
+rm "$repo/target/lib/libvirdzeba.a"
+wants 1 'logic=not-proved' "$lib"
+[ ! -e "$repo/target/lib/libvirdzeba.a" ] || { echo "run: FAILED: a library of what is not proved." >&2; exit 1; }
 echo "run: $passed checks passed"

@@ -180,7 +180,7 @@ Stmt: the end of a statement and of its temporary memory
 ARMS = {
     'const': 'stays. Its value is a length from −2^40 to 2^40, both included',
     'constF': 'stays',
-    'addrOf': 'stays. Points to Ro at forms 2 and 4, to Frame at form 0, else to Unknown',
+    'addr_of': 'stays. Points to Ro at forms 2 and 4, to Frame at form 0, else to Unknown',
     'move': 'may move. Points where what it reads points, and is a length if that is one',
     'select': 'may move. Points where both values point if that is one origin; is a length if both are',
     'truth': 'may move. Is a length',
@@ -190,7 +190,7 @@ ARMS = {
     'dopeLen': 'may move. Reads memory where `desc` points. Is a length',
     'load': 'may move at forms 1 to 3. Reads memory where `at` points. Read from an image, it points into that image; read from what a LayoutOf made, it is a length',
     'alloc': 'may move if `size` is a length. Creates. Points to Temp of its own',
-    'layoutOf': 'may move at form 0. Creates; reads memory where `desc` points. Points to Temp of its own, which holds lengths',
+    'layout_of': 'may move at form 0. Creates; reads memory where `desc` points. Points to Temp of its own, which holds lengths',
     'signal': 'may move',
     'fills': 'may move. Writes memory where `at` points',
     'store': 'may move at forms 1 to 3. Writes memory where `at` points. At form 4 it writes to Unknown',

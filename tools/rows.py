@@ -7,7 +7,7 @@ sys.dont_write_bytecode = True
 from kinds import KINDS  # noqa: E402
 
 SLOT = {'Def': 1, 'Use': 2, 'Def?': 3, 'Use?': 4, 'Use-but-1': 5, 'Use-from-2': 6, 'Def-if-1': 7}
-ARM = 'const constF addrOf move select truth bin index check dopeLen load alloc layoutOf signal fills store cat native stops deref writes other'.split()
+ARM = 'const constF addr_of move select truth bin index check dopeLen load alloc layout_of signal fills store cat native stops deref writes other'.split()
 SHAPE = {'Br': 1, 'CondBr': 2, 'Case': 3}
 # what a slot does at forms 0, 1 and from 2 on: 0 nothing, 1 reads, 2 writes
 DOES = {'Def': '222', 'Use': '111', 'Def?': '222', 'Use?': '111', 'Use-but-1': '101', 'Use-from-2': '001', 'Def-if-1': '121'}

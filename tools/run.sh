@@ -16,7 +16,7 @@ trap 'rm -r "$made"' EXIT
 "$root/tools/listing.py" pack "$file" >"$made/before" || exit 1
 cd "$root"
 
-tools/prove.sh check sinkrounds || exit 2
+tools/build.sh sinkrounds || exit 2
 target/bin/sinkrounds <"$made/before" >"$made/text"
 cat "$made/text"
 answer=$(tail -n 1 "$made/text")
@@ -36,7 +36,7 @@ if ! command -v cc >/dev/null 2>&1; then
     echo "The listing after the pass needs a C compiler, cc." >&2
     exit 0
 fi
-tools/lib.sh --proved || exit 2
+tools/lib.sh || exit 2
 cc -O2 -I include tests/c/example.c target/lib/libvirdzeba.a -o "$made/sink"
 "$made/sink" <"$made/before" >"$made/after" 2>"$made/answer"
 echo

@@ -12,7 +12,7 @@ Each slip is put into a copy of crate `model`, outside the repository, and `mode
 names, if it names one, then the whole. Where that is still proved, so are `crossed` and the rows of `kept` (its specs/), above the
 slipped `model`. The answer is where a slip is refused first, or that it is still proved. A slip that a definition itself does not
 take (it no longer fits the text, or names what is not there) is broken. Ends with 0 if every slip is refused, with 1 if not. It is
-no part of the gate. It needs `rt`; with `words` proved in target/, and `model` checked there by `rt dev`, it starts faster."""
+no part of the gate. It needs `rt`, which begins with what `rt check` kept of `words` and `model` in any checkout of this machine."""
 import argparse
 import concurrent.futures
 import fnmatch
@@ -31,7 +31,7 @@ SLIPS = os.path.join(TOP, "tools", "slips.txt")
 DEFINITIONS = {"Kinds", "Picture", "Refusal", "Live", "Analyse", "Legal", "Move", "Pass", "Build"}
 CRATES = "words:\nmodel: words\ncrossed: words model\nkept: words model\n"
 # a table's theorem, in a page of rows
-TABLE = re.compile(r"^pub (\S+-cases) : .*\n\1 = refl\n", re.M)
+TABLE = re.compile(r"^pub (\S+_cases) : .*\n\1 = refl\n", re.M)
 ERROR = re.compile(r"\S*?((?:src|specs|proofs)/\S+?)\.\w+:\d+:\d+: (?:error: )?`([^`]+)`")
 
 
@@ -71,20 +71,18 @@ def copy(what, to):
 
 
 def repository(where):
-    """A small repository: `words`, `model`, `crossed`, and of `kept` the definitions and rows; with what is proved of `words`."""
+    """A small repository: `words`, `model`, `crossed`, and of `kept` the definitions and rows."""
     os.makedirs(where)
     with open(os.path.join(where, "crates.txt"), "w") as f:
         f.write(CRATES)
     for crate, parts in {"words": ("src", "specs", "proofs"), "model": ("src", "specs", "proofs"), "crossed": ("src", "specs", "proofs"), "kept": ("src", "specs")}.items():
         for part in parts:
             copy(os.path.join(TOP, "crates", crate, part), os.path.join(where, "crates", crate, part))
-    for made in ("rlib/words.rlib", "stamp/words", "log/words.res", "inc/model"):
-        copy(os.path.join(TOP, "target", made), os.path.join(where, "target", made))
 
 
-def rt(where, *words):
-    """What rt says, and whether all is proved."""
-    ran = subprocess.run(["rt", *words], cwd=where, capture_output=True, text=True, errors="replace")
+def check(where, crate):
+    """What `rt check` says of a crate, and whether it is proved."""
+    ran = subprocess.run(["rt", "check"], cwd=os.path.join(where, "crates", crate), capture_output=True, text=True, errors="replace")
     return ran.returncode == 0, ran.stdout + ran.stderr
 
 
@@ -113,16 +111,15 @@ def put(where, slip):
 
 def restore(where):
     """`model` as it stood at the start, with what was checked of it."""
-    for kept, at in (("whole", "crates/model"), ("checked", "target/inc/model")):
-        shutil.rmtree(os.path.join(where, at), ignore_errors=True)
-        copy(os.path.join(where, kept), os.path.join(where, at))
+    shutil.rmtree(os.path.join(where, "crates/model"), ignore_errors=True)
+    copy(os.path.join(where, "whole"), os.path.join(where, "crates/model"))
 
 
 def declare(where, table):
     """What is checked: the definitions and the page of one table or law, and of its tables that one; or all."""
     for part in ("specs", "proofs"):
         here, there = os.path.join(where, "whole", part), os.path.join(where, "crates", "model", part)
-        for file in os.listdir(here):
+        for file in filter(lambda it: it.endswith(".antt"), os.listdir(here)):
             text = open(os.path.join(here, file), encoding="utf-8").read()
             stem, page = file[:-5], os.path.join(there, file)
             if stem in DEFINITIONS or stem == "Lib":
@@ -145,16 +142,13 @@ def ask(where, slip, only_model):
         return "broken", wrong
     for table in [slip["table"], None] if slip["table"] else [None]:
         declare(where, table)
-        proved, said = rt(where, "dev", "model")
+        proved, said = check(where, "model")
         if not proved:
             return verdict("model", said)
     if only_model:
         return "proved", "by model"
-    proved, said = rt(where, "check", "model")
-    if not proved:
-        return verdict("model", said)
     for crate in ("kept", "crossed"):
-        proved, said = rt(where, "dev", crate)
+        proved, said = check(where, crate)
         if not proved:
             return verdict(crate, said)
     return "proved", "by model, crossed and kept"
@@ -176,11 +170,10 @@ def run(chosen, jobs, only_model):
         for home in homes:
             repository(home)
             if home is homes[0]:
-                proved, said = rt(home, "dev", "model")
+                proved, said = check(home, "model")
                 if not proved:
                     sys.exit("model is not proved as it stands:\n" + said)
-            copy(os.path.join(home, "crates", "model"), os.path.join(home, "whole"))
-            copy(os.path.join(homes[0], "target", "inc", "model"), os.path.join(home, "checked"))
+            copy(os.path.join(homes[0], "crates", "model"), os.path.join(home, "whole"))
         free, lock, answers = list(homes), threading.Lock(), {}
 
         def one(slip):

@@ -12,8 +12,8 @@
 In the text, a number is an instruction's place before. `-` marks one that leaves its block, `+` one that came, `~` one that
 stays and whose registers are renamed; `r2->r9` says that r9 stands there now for r2. What stops each block stands below.
 
-The pass is target/staticlib/libhost.a, which `make lib` or `rt staticlib host` writes, or libhost.a or libvirdzeba.a in the folder
-that VIRDZEBA_LIB_DIR names; a C compiler links it into target/view.
+The pass is target/lib/libvirdzeba.a, which `make lib` writes, or libvirdzeba.a or libhost_c.a in the folder that VIRDZEBA_LIB_DIR
+names; a C compiler links it into target/view.
 
 Ends with 0; with 1 where the picture is refused, or the input is wrong; with 2 where the command is."""
 import os

@@ -1,5 +1,5 @@
-//! Finds the library: in the folder that VIRDZEBA_LIB_DIR names, else in target/lib or target/staticlib of the repository that
-//! this crate stands in. It is libvirdzeba.a, which `make lib` makes, or libhost.a, which `rt staticlib host` writes.
+//! Finds the library: in the folder that VIRDZEBA_LIB_DIR names, else in target/lib or crates/host_c/out of the repository that
+//! this crate stands in. It is libvirdzeba.a, which `make lib` makes, or libhost_c.a, which `rt lib` writes in crates/host_c.
 
 use std::env;
 use std::path::{Path, PathBuf, absolute};
@@ -19,7 +19,7 @@ fn main() {
     let Some((folder, name)) = found(&folders) else {
         let looked: Vec<_> = folders.iter().map(|f| f.display().to_string()).collect();
         fail(&format!(
-            "neither libvirdzeba.a nor libhost.a is in {}. Run `make lib` at the root of the repository, or let VIRDZEBA_LIB_DIR name the folder that has one of them",
+            "neither libvirdzeba.a nor libhost_c.a is in {}. Run `make lib` at the root of the repository, or let VIRDZEBA_LIB_DIR name the folder that has one of them",
             looked.join(" or ")
         ));
     };
@@ -30,13 +30,13 @@ fn main() {
 
 /// The folders where the repository makes the library, this crate being in its bindings/rust.
 fn beside(here: &Path) -> Vec<PathBuf> {
-    let target = here.ancestors().nth(2).unwrap_or(here).join("target");
-    ["lib", "staticlib"].map(|folder| target.join(folder)).to_vec()
+    let root = here.ancestors().nth(2).unwrap_or(here);
+    ["target/lib", "crates/host_c/out"].map(|folder| root.join(folder)).to_vec()
 }
 
 /// The first library that is there.
 fn found(folders: &[PathBuf]) -> Option<(&Path, &'static str)> {
-    let named = folders.iter().flat_map(|folder| ["virdzeba", "host"].map(|name| (folder.as_path(), name)));
+    let named = folders.iter().flat_map(|folder| ["virdzeba", "host_c"].map(|name| (folder.as_path(), name)));
     named.into_iter().find(|(folder, name)| folder.join(format!("lib{name}.a")).is_file())
 }
 

@@ -1,15 +1,15 @@
 #!/bin/sh
 # Holds include/virdzeba.h and docs/REFERENCE.md to what they speak of: the header compiles alone, strictly, as C and C++; the kinds
-# in both are those of crates/model/specs/Kinds.antt; and over the host's archive, the two programs here give what they must, and so
+# in both are those of crates/model/specs/Kinds.antt; and over the library, the two programs here give what they must, and so
 # does each example of the reference (examples.py). Ends with 0 and a last line `c: N checks passed`, or with 1.
 #
-#   tests/c/check.sh [ARCHIVE]    else target/staticlib/libhost.a, which `rt staticlib host` writes
+#   tests/c/check.sh [ARCHIVE]    else target/lib/libvirdzeba.a, which `make lib` writes
 #
 # What is left out, for want of a compiler, of python3 or of the archive, is said. Where CI=true it fails without the archive or a C
 # compiler.
 set -u
 cd "$(dirname "$0")/../.."
-archive=${1:-target/staticlib/libhost.a}
+archive=${1:-target/lib/libvirdzeba.a}
 made=$(mktemp -d)
 trap 'rm -r "$made"' EXIT
 checks=0 failed=0

@@ -39,17 +39,17 @@ fn main() {
     write(&out.join("inst_mod.rs"), &mods("inst", "inst.rs"));
     write(&out.join("sink_mod.rs"), &mods("sink", "sink.rs"));
     if env::var_os("CARGO_FEATURE_PORT").is_some() {
-        link_port(&here.join("../../target/staticlib"));
+        link_port(&here.join("../../target/lib"));
     }
 }
 
-/// Crate `probe` of the repository as an archive in `folder`; `src/port.rs` names it.
+/// Crate `probe_c` of the repository as an archive in `folder`; `src/port.rs` names it.
 fn link_port(folder: &Path) {
     let archive = folder.join("libprobe.a");
     println!("cargo::rerun-if-changed={}", archive.display());
     if !archive.is_file() {
         eprintln!(
-            "The port was looked for at {} and is not there; `rt staticlib probe`, at the root of the repository, writes it.",
+            "The port was looked for at {} and is not there; `tools/build.sh probe_c`, at the root of the repository, writes it.",
             archive.display()
         );
         process::exit(1);

@@ -41,19 +41,14 @@ if [ "${1:-}" = --listing ]; then
     exec $compare listing
 fi
 
-# The port, proved where it is not yet; what is said of that is shown only if it fails.
+# The port, proved where it is not yet.
 made=$(mktemp -d)
 trap 'rm -r "$made"' EXIT
-proved() {
-    if ! (cd ../.. && rt "$1" "$2") >"$made/say" 2>&1; then
-        cat "$made/say" >&2
-        echo "compare: failed: rt $1 $2 gave nothing to compare." >&2
-        exit 1
-    fi
-    rm "$made/say"
+built() {
+    ../../tools/"$@" || { echo "compare: failed: tools/$* gave nothing to compare." >&2; exit 1; }
 }
-proved staticlib probe
-(cd ../.. && tools/lib.sh) || { echo "compare: failed: there is no library to compare." >&2; exit 1; }
+built build.sh probe_c
+built lib.sh
 VIRDZEBA_LIB_DIR=$(cd ../../target/lib && pwd)
 export VIRDZEBA_LIB_DIR
 cargo build --release --offline --locked --quiet --features port,host
@@ -78,7 +73,7 @@ listed() {
     grep -q "^$1:" ../../crates.txt || { echo "compare: $1 is not there yet"; return 1; }
 }
 if listed sinkrounds; then
-    proved check sinkrounds
+    built build.sh sinkrounds
     $compare program ../../target/bin/sinkrounds
 fi
 $compare vectors "$made"

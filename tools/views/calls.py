@@ -16,11 +16,11 @@ SHORT, REFUSED, UNREAD = 100, 200, 300
 
 
 def archive():
-    """The pass, in the folder that VIRDZEBA_LIB_DIR names, else where `rt staticlib host` writes it."""
-    folder = os.environ.get('VIRDZEBA_LIB_DIR') or os.path.join(ROOT, 'target/staticlib')
-    found = [path for name in ('libhost.a', 'libvirdzeba.a') if os.path.exists(path := os.path.join(folder, name))]
+    """The pass, in the folder that VIRDZEBA_LIB_DIR names, else where `make lib` writes it."""
+    folder = os.environ.get('VIRDZEBA_LIB_DIR') or os.path.join(ROOT, 'target/lib')
+    found = [path for name in ('libvirdzeba.a', 'libhost_c.a') if os.path.exists(path := os.path.join(folder, name))]
     if not found:
-        raise Wrong(f'the pass is not in {os.path.normpath(folder)}: `make lib` or `rt staticlib host` writes it')
+        raise Wrong(f'the pass is not in {os.path.normpath(folder)}: `make lib` writes it')
     return found[0]
 
 

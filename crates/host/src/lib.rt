@@ -1,5 +1,7 @@
 // The host's entry (01, "One listing whole": "The simulator's Rust host calls one entry over numbers and bytes"). specs/Host says
-// what it returns and writes.
+// what it returns and writes. Crate `host_c` exports it for C.
+#![tactic(auto)]
+
 mod load; // load.rt: a picture's slices from its bytes
 pub mod run; // run.rt: the call on a picture in bytes
 
@@ -26,14 +28,8 @@ fn number(answer: Answer) -> u32
 }
 
 // The rounds for done, 100 more for short, 200 plus the number for a refusal, 300 for anything unread or past the bounds. Done and
-// short write the new picture at the head of `result`; nothing else is written.
-#[unsafe(no_mangle)]
-pub extern "C" fn virdzeba_sink(
-    picture: &[u8],
-    res: &mut [u8],
-    registers: u32,
-    operands: u32,
-) -> u32
+// short write the new picture at the head of `res`; nothing else is written.
+pub fn virdzeba_sink(picture: &[u8], res: &mut [u8], registers: u32, operands: u32) -> u32
     ensures value { result ≡ returned picture.now (length res.old) registers operands }
     ensures res_after { res.new ≡ written picture.now res.old registers operands }
 {

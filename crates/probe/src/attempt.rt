@@ -177,8 +177,7 @@ fn set_out<'a>(
 // 1 if block x has a move, 0 if not; 200 and the number of a refusal; 300 where x is no block. Of a move, at the head of `out`, if it
 // has four words: the target, the positions in x but for its last, those of the chain, the members. The chain's facts are then the first
 // of `facts`, one a position, and its words the first 8,000 of `work32`, ten a position (docs/DESIGN.md).
-#[unsafe(no_mangle)]
-pub extern "C" fn virdzeba_try<'a>(
+pub fn virdzeba_try<'a>(
     bounds: &[u32],
     recs: &'a [u32],
     locs: &[u32],

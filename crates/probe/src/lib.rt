@@ -1,5 +1,7 @@
-// Single layers of the port under C names, for tests/rust to hold against the Rust: each function asks nothing of its
-// caller, and its contract is the layer's own.
+// Single layers of the port, for tests/rust to hold against the Rust: each function asks nothing of its caller, and its contract
+// is the layer's own. Crate `probe_c` exports them for C.
+#![tactic(auto)]
+
 pub mod whole; // whole.rt: the whole call
 pub mod attempt; // attempt.rt: the search from one block
 
@@ -19,8 +21,7 @@ use sizes::{InUse, Room};
 use words::numbers::wide;
 
 // The lowest number whose cause is present, or 0: `acceptance::refusal`, the table of roles made for this one call.
-#[unsafe(no_mangle)]
-pub extern "C" fn virdzeba_refusal(
+pub fn virdzeba_refusal(
     bounds: &[u32],
     recs: &[u32],
     locs: &[u32],
@@ -54,8 +55,7 @@ pub extern "C" fn virdzeba_refusal(
 
 // Predecessors of an accepted picture, two words a block: how many there are, up to two, and the first. The slice is as long
 // as the pass's work in 32-bit words; the answer is that of `virdzeba_refusal`, and unless it is 0 nothing is written.
-#[unsafe(no_mangle)]
-pub extern "C" fn virdzeba_preds<'a>(
+pub fn virdzeba_preds<'a>(
     words: &mut [u32],
     bounds: &[u32],
     recs: &'a [u32],
@@ -96,8 +96,7 @@ pub extern "C" fn virdzeba_preds<'a>(
 
 // Live-in of an accepted picture: a row of bits for each block, a word for each 64 registers in use. The slice is as long as the
 // pass's work in 64-bit words; the answer is that of `virdzeba_refusal`, and unless it is 0 nothing is written.
-#[unsafe(no_mangle)]
-pub extern "C" fn virdzeba_live<'a>(
+pub fn virdzeba_live<'a>(
     bits: &mut [u64],
     bounds: &[u32],
     recs: &'a [u32],

@@ -42,8 +42,7 @@ fn tell(out: &mut [u32], answer: Answer) -> u32
 
 // The number of the answer as the host is given it. At the head of `out`, if it has two words, the registers and operands then in
 // use; a refusal leaves it as it was.
-#[unsafe(no_mangle)]
-pub extern "C" fn virdzeba_sink_all(
+pub fn virdzeba_sink_all(
     bounds: &mut [u32],
     recs: &mut [u32],
     locs: &mut [u32],

@@ -1,9 +1,13 @@
 // Replays a stored list of pictures with the Rust's answers through the host's entry (tests/rust/README.md says how the list was
 // made), and prints how many came out as stored. Standard input, case by case: five words (bytes of the picture, registers lent,
 // operands lent, the number to be returned, bytes to be written), the picture, the bytes; a word 0 ends the list.
+#![tactic(auto)]
+
 ghost use Rattle.std.specs.Prelude.{◌≤◌};
 
-use libc::{STDIN_FILENO, STDOUT_FILENO};
+use input::read_full;
+use std::io;
+use std::io::{Input, Read};
 
 // What the result holds before a case.
 const FILL: u8 = 165;
@@ -25,12 +29,12 @@ fn as_stored(res: &[u8; 53024], bytes: &[u8]) -> bool {
     n <= 53024
 }
 
-// n bytes of standard input; false where there are fewer, or more than fit.
-fn get(out: &mut [u8], n: usize) -> bool {
+// n bytes of the input; false where there are fewer, or more than fit.
+fn get(input: &mut impl Read, out: &mut [u8], n: usize) -> io::Result<bool> {
     if n <= out.len() {
-        return io::read_full(STDIN_FILENO, &mut out[..n]) == n;
+        return Ok(read_full(input, &mut out[..n])? == n);
     }
-    false
+    Ok(false)
 }
 
 fn first(bytes: &[u8], n: usize) -> &[u8] {
@@ -53,33 +57,40 @@ fn agrees(head: &[u8; 20], picture: &[u8], stored: &[u8]) -> bool {
 }
 
 // A case of n and m bytes: 1 as stored, 2 otherwise or cut short.
-fn replay(head: &[u8; 20], n: usize, m: usize, picture: &mut [u8], stored: &mut [u8]) -> u32 {
-    if !get(picture, n) {
-        return 2;
+fn replay(
+    input: &mut impl Read,
+    head: &[u8; 20],
+    n: usize,
+    m: usize,
+    picture: &mut [u8],
+    stored: &mut [u8],
+) -> io::Result<u32> {
+    if !get(input, picture, n)? {
+        return Ok(2);
     }
-    if !get(stored, m) {
-        return 2;
+    if !get(input, stored, m)? {
+        return Ok(2);
     }
     if agrees(head, first(picture, n), first(stored, m)) {
-        return 1;
+        return Ok(1);
     }
-    2
+    Ok(2)
 }
 
 // The next case; 0 where the list is at its end.
-fn next() -> u32 {
+fn next(input: &mut impl Read) -> io::Result<u32> {
     let mut head = [0u8; 20];
-    if io::read_full(STDIN_FILENO, &mut head) < 4 {
-        return 0;
+    if read_full(input, &mut head)? < 4 {
+        return Ok(0);
     }
     let n = words::bytes::word_at(&head, 0) as usize;
     let m = words::bytes::word_at(&head, 16) as usize;
     if n == 0 {
-        return 0;
+        return Ok(0);
     }
     let mut picture = [0u8; 53024];
     let mut stored = [0u8; 53024];
-    replay(&head, n, m, &mut picture, &mut stored)
+    replay(input, &head, n, m, &mut picture, &mut stored)
 }
 
 fn one_if(r: u32, k: u32) -> u64
@@ -88,17 +99,17 @@ fn one_if(r: u32, k: u32) -> u64
     if r == k { 1 } else { 0 }
 }
 
-fn say(n: u64, text: &[u8]) {
-    io::print_decimal(STDOUT_FILENO, n);
-    io::write_all(STDOUT_FILENO, text);
+fn say(to: &impl Print, n: u64, text: &str) -> io::Result<()> {
+    println!(to; "{n} {text}")
 }
 
-fn main() {
+fn main(rt: HostRuntime) -> io::Result<()> {
+    let mut input = rt.reader();
     let mut right = 0u64;
     let mut wrong = 0u64;
     let mut i = 0u64;
     while i < 4096 {
-        let r = next();
+        let r = next(&mut input)?;
         if r == 0 {
             break;
         }
@@ -106,6 +117,6 @@ fn main() {
         wrong += one_if(r, 2);
         i += 1;
     }
-    say(right, b" as stored\n");
-    say(wrong, b" otherwise\n");
+    say(&rt, right, "as stored")?;
+    say(&rt, wrong, "otherwise")
 }

@@ -199,7 +199,7 @@ fn main() -> ExitCode {
         }
         #[cfg(not(feature = "port"))]
         ["refusals" | "flow" | "facts" | "large" | "bench" | "once", ..] => {
-            eprintln!("This was built without the port: `rt staticlib probe`, at the root of the repository, then `cargo build --features port`.");
+            eprintln!("This was built without the port: `tools/build.sh probe_c`, at the root of the repository, then `cargo build --features port`.");
             ExitCode::from(2)
         }
         _ => {

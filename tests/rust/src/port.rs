@@ -1,5 +1,5 @@
-//! The port, layer by layer: the functions of crate `probe`, each wrapped. They ask nothing of their caller, so the wrappers
-//! test nothing. A slice goes over as a pointer and a length; nothing checks these declarations against crates/probe/src.
+//! The port, layer by layer: the functions of crate `probe`, as `probe_c` exports them, each wrapped. They ask nothing of their caller,
+//! so the wrappers test nothing. A slice goes over as a pointer and a length; nothing checks these declarations against crates/probe_c/src.
 
 use crate::fact::Fact;
 use crate::picture::{Picture, Work};

@@ -185,15 +185,15 @@ fn arm(row: &Row, form: u32, list: u32, r: &Record, i: &Inst) -> Result<(), Stri
         "bin" => form > 0,
         "check" => form == 3,
         "load" | "store" => form != 4,
-        "layoutOf" => form == 0,
+        "layout_of" => form == 0,
         "native" => image,
-        "const" | "constF" | "addrOf" | "stops" | "deref" | "writes" | "other" => false,
+        "const" | "constF" | "addr_of" | "stops" | "deref" | "writes" | "other" => false,
         other => return Err(format!("no arm is called {other}")),
     };
     let barrier = row.arm == "stops" || (row.arm == "native" && !image && form != 2);
     let named = matches!(row.arm.as_str(), "fills" | "cat" | "writes") || (row.arm == "store" && form != 4);
     let unnamed = !movable && !barrier && !row.quiet && row.arm != "native";
-    let creates = row.arm == "alloc" || (row.arm == "layoutOf" && form == 0) || image;
+    let creates = row.arm == "alloc" || (row.arm == "layout_of" && form == 0) || image;
     let suspends = match i {
         Inst::Suspend { .. } | Inst::CallIndirect { .. } => true,
         Inst::Call { .. } | Inst::CallProt { .. } => form == 1,
@@ -203,7 +203,7 @@ fn arm(row: &Row, form: u32, list: u32, r: &Record, i: &Inst) -> Result<(), Stri
     i.visit(&mut |_, role, _| reads += usize::from(role == Role::Use));
     let memory = match row.arm.as_str() {
         "dopeLen" => 1,
-        "load" | "layoutOf" => usize::from(movable),
+        "load" | "layout_of" => usize::from(movable),
         "cat" => list as usize / 2,
         _ => 0,
     };
@@ -217,12 +217,12 @@ fn arm(row: &Row, form: u32, list: u32, r: &Record, i: &Inst) -> Result<(), Stri
     }
     let made = match row.arm.as_str() {
         "alloc" => TEMP + 2 * at,
-        "layoutOf" if form == 0 => TEMP + 2 * at,
+        "layout_of" if form == 0 => TEMP + 2 * at,
         "native" if form == 2 => TEMP + 2 * at,
         "native" if image => TEMP + 1 + 2 * at,
         "deref" => HEAP,
-        "addrOf" if form == 0 => FRAME,
-        "addrOf" if form == 2 || form == 4 => RO,
+        "addr_of" if form == 0 => FRAME,
+        "addr_of" if form == 2 || form == 4 => RO,
         _ => 0,
     };
     let len = movable && matches!(row.arm.as_str(), "move" | "select" | "truth" | "bin" | "dopeLen") || row.arm == "const";

@@ -57,48 +57,46 @@ fn proofs(pages: std::ops::RangeInclusive<usize>) -> String {
     let mut t = String::from(
         "-- What the definitions give for pictures that the Rust has run: the same answers, lines and whole pictures, by computation,\n\
          -- page by page. Printed with the pages by `compare crossed` in tests/rust. Assumes nothing.\n\
-         use mathlib.Core.Path.{_≡_, refl}\n\
+         use mathlib.Core.Path.{◌≡◌, refl}\n\
          use mathlib.Core.List.{map}\n\
-         use Rattle·model.specs.Pass.{Outcome, sink}\n\
-         use Rattle·crossed·specs.specs.Row.{Row}\n",
+         use Rattle.model.specs.Pass.{Outcome, sink}\n\
+         use Rattle.crossed.specs.Row.{Row}\n",
     );
     for k in pages.clone() {
-        let _ = writeln!(t, "use Rattle·crossed·specs.specs.Rows{k}.{{rows{k}}}");
+        let _ = writeln!(t, "use Rattle.crossed.specs.Rows{k}.{{rows{k}}}");
     }
-    t += "\nabbrev answered : Row → Outcome\nanswered w = sink (w .what) (w .w64) (w .w32) (w .nf)\n";
+    t += "\nabbrev answered : Row → Outcome\nanswered w = sink w.what w.w64 w.w32 w.nf\n";
     for k in pages {
-        let _ = writeln!(t, "\npub page{k} : map answered rows{k} ≡ map (λ w. w .gives) rows{k}\npage{k} = refl");
+        let _ = writeln!(t, "\npub page{k} : map answered rows{k} ≡ map (λ w. w.gives) rows{k}\npage{k} = refl");
     }
     t
 }
 
 fn page(what: &str, number: usize, rows: &[Text]) -> String {
     let kinds: BTreeSet<&str> = rows.iter().flat_map(|r| r.kinds.iter().copied()).collect();
-    let words: BTreeSet<&str> = rows.iter().flat_map(|r| r.text.split([' ', '(', ')', '\n'])).collect();
+    let code = rows.iter().flat_map(|r| r.text.lines()).filter(|line| !line.starts_with("--"));
+    let words: BTreeSet<&str> = code.flat_map(|line| line.split([' ', '(', ')'])).collect();
     // those of the names that the page uses, behind commas
     let used = |names: &[&str]| names.iter().filter(|n| words.contains(**n)).map(|n| format!(", {n}")).collect::<String>();
     let mut t = format!("-- {what}. Printed by\n-- `compare crossed` in tests/rust, and again by its compare.sh: not to be edited. Assumes nothing.\n");
-    let append = if words.contains("++") { ", _++_" } else { "" };
-    let _ = writeln!(t, "use mathlib.Core.List.{{List, [], _∷_{append}}}");
-    if words.contains("replicate") {
-        t += "use lib.ListN.{replicate}\n";
-    }
+    let append = if words.contains("++") { ", ◌++◌" } else { "" };
+    let _ = writeln!(t, "use Rattle.std.specs.Prelude.{{List, [], ◌∷◌{append}{}}}", used(&["replicate"]));
     let runs = used(&["range", "upto"]);
     if !runs.is_empty() {
-        let _ = writeln!(t, "use Rattle·words.specs.Lists.{{{}}}", &runs[2..]);
+        let _ = writeln!(t, "use Rattle.words.specs.Lists.{{{}}}", &runs[2..]);
     }
     let kinds: Vec<&str> = kinds.into_iter().collect();
     for some in kinds.chunks(10) {
-        let _ = writeln!(t, "use Rattle·model.specs.Kinds.{{{}}}", some.join(", "));
+        let _ = writeln!(t, "use Rattle.model.specs.Kinds.{{{}}}", some.join(", "));
     }
     if words.contains("absent") {
-        t += "use Rattle·model.specs.Picture.{absent}\n";
+        t += "use Rattle.model.specs.Picture.{absent}\n";
     }
     if words.contains("op") {
-        t += "use Rattle·model.specs.Build.{op}\n";
+        t += "use Rattle.model.specs.Build.{op}\n";
     }
     let short = used(&["op0", "op1", "op2", "op3", "op4", "op5", "br", "fork", "const", "bounded", "longer", "moves", "stays", "done", "short", "refused"]);
-    let _ = writeln!(t, "use Rattle·crossed·specs.specs.Row.{{Row, pic, at, registers, operands, beside{short}}}");
+    let _ = writeln!(t, "use Rattle.crossed.specs.Row.{{Row, pic, at, registers, operands, beside{short}}}");
     for r in rows {
         t += "\n";
         t += &r.text;
