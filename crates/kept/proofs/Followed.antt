@@ -1,4 +1,4 @@
--- From the walk's claim on programs to the claim on flat words: matched, apart, reads-match, unmatched. Assumes nothing.
+-- From the walk's claim on programs to the claim on flat words: matched, apart, reads_match, unmatched. Assumes nothing.
 use mathlib.Core.Path.{◌≡◌, refl, sym, ap, ap₂, ◌∙◌, subst}
 use mathlib.Core.Logic.{inl, inr}
 use mathlib.Core.Bool.{◌&&◌}

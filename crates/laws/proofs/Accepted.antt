@@ -1,5 +1,5 @@
 -- Acceptance: every cause of the table but 10 (what the pass works in) is absent. `accepted` gives it from a refusal of 0, and
--- `not-refused` goes back. What follows from it stands in Sizes and Admitted; that a round keeps it, in Keeps. Assumes nothing.
+-- `not_refused` goes back. What follows from it stands in Sizes and Admitted; that a round keeps it, in Keeps. Assumes nothing.
 use mathlib.Core.Path.{◌≡◌, refl, sym, ap, ap₂, ◌∙◌, subst}
 use mathlib.Core.Bool.{Bool, true, false, ◌&&◌, ◌||◌}
 use mathlib.Core.List.{List, [], ◌∷◌}

@@ -1,15 +1,15 @@
 -- The tests of the passes only get easier as the set grows. Assumes nothing.
-use mathlib.Core.Path.{◌≡◌, refl, sym, ap, ◌∙◌, subst}
-use mathlib.Core.Logic.{◌⊎◌, inl, inr, ⊎_elim}
+use mathlib.Core.Path.{◌≡◌}
+use mathlib.Core.Logic.{⊎_elim}
 use mathlib.Core.Bool.{Bool, true, false, not, ◌&&◌, ◌||◌}
-use mathlib.Core.List.{List, [], ◌∷◌}
-use Prim.Native.Nat.{ℕ, zero, suc, ◌+◌, ◌-◌, ◌/◌, ◌%◌, ◌≤◌, ◌<◌}
+use mathlib.Core.List.{[], ◌∷◌}
+use Prim.Native.Nat.{ℕ, zero, suc, ◌+◌, ◌-◌, ◌/◌, ◌%◌, ◌≤◌}
 use native.Mathlib.Nat.{le_trans}
 use lib.Dec.{T, eqb, leb, leb→le, le→leb}
-use Rattle.words.specs.Lists.{all, mem, conj}
-use Rattle.words.proofs.Bools.{Hold, hold, conj_of, or_mono, and_mono, T_true, true_T, T_false, false_T, clash, bool?}
+use Rattle.words.specs.Lists.{mem}
+use Rattle.words.proofs.Bools.{hold, conj_of, or_mono, and_mono, T_true, true_T, T_false, false_T, clash, bool?}
 use Rattle.words.proofs.Alls.{all_mono}
-use Rattle.legalset.specs.Chain.{View, writer}
+use Rattle.legalset.specs.Chain.{View}
 use Rattle.legalset.specs.Rules.{last_kept, when_in, own_memory, read_fine, org_fine, still_fine, reads_ok, origins_ok, suspends_ok, memory_ok, own_ok, forward_ok, pending, backward_ok}
 use Rattle.legalset.specs.Marks.{◌⊑◌}
 use Rattle.legalset.proofs.Lasting.{kept_mono}

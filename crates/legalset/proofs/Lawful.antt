@@ -12,7 +12,7 @@ use native.Mathlib.Omega.{arith}
 use borrow.Author.Tests.{eqb-true, eqb-false, leb-true, leb-false, eq-eqb, ne_eqb, le-leb, lt-leb}
 use lib.Dec.{T, eqb, leb, eqb→eq, leb→le}
 use lib.ListN.{get_or, length}
-use Rattle.words.specs.Lists.{In, upto, all, mem, any, conj}
+use Rattle.words.specs.Lists.{In, upto, all, mem, conj}
 use Rattle.words.proofs.Bools.{T_true, true_T, T_false, false_T, clash, bool?, bool_ext, both, left, right, or_first, or_second, or_of, or_rest, both_true, left_true, right_true, hold, conj_of, implied, implies_of, denied, denies, not_true_is_false}
 use Rattle.words.proofs.Members.{mem_in, in_mem, all_in, all_of, in_map, map_in}
 use Rattle.words.proofs.Alls.{all_range, range_all}

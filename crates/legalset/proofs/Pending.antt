@@ -2,20 +2,20 @@
 use mathlib.Core.Path.{◌≡◌, refl, sym, ap, ◌∙◌, subst}
 use mathlib.Core.Logic.{◌⊎◌, inl, inr, ⊎_elim}
 use mathlib.Core.Bool.{Bool, true, false, not, ◌&&◌, ◌||◌}
-use mathlib.Core.List.{List, [], ◌∷◌, map}
-use mathlib.Core.Option.{Option, none, some}
-use Prim.Native.Nat.{ℕ, zero, suc, ◌+◌, ◌-◌, ◌≤◌, ◌<◌}
+use mathlib.Core.List.{List}
+use mathlib.Core.Option.{Option}
+use Prim.Native.Nat.{ℕ, zero, suc, ◌+◌, ◌≤◌, ◌<◌}
 use native.Mathlib.Omega.{arith}
 use lib.Dec.{T, eqb, eqb→eq, eqb_refl}
-use lib.ListN.{length, take}
-use Rattle.words.specs.Lists.{In, mem, any}
-use Rattle.words.proofs.Bools.{T_true, true_T, T_false, false_T, clash, bool?, both, left, right, or_first, or_second, or_cases, eq?}
+use lib.ListN.{take}
+use Rattle.words.specs.Lists.{In, mem}
+use Rattle.words.proofs.Bools.{T_true, true_T, T_false, false_T, both, left, right, or_first, or_second, or_cases, eq?}
 use Rattle.words.proofs.Members.{mem_in, in_mem, any_in, any_of, in_map, map_in}
 use Rattle.model.specs.Analyse.{Fact, Read, last_writer, when_some}
 use Rattle.model.specs.Legal.{fact_at, reads_from}
 use Rattle.legalset.specs.Chain.{View, Stands, writer, place_at}
 use Rattle.legalset.specs.Rules.{pending}
-use Rattle.legalset.proofs.Lasting.{Wrote, writer_wrote, wrote_writer, writer_is}
+use Rattle.legalset.proofs.Lasting.{writer_is}
 
 module _ (C : View) (n : ℕ) (L : ℕ → Bool) (r : ℕ) where
   -- position z reads r, is kept, and no position from q on before it writes r

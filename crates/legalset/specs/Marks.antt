@@ -1,5 +1,5 @@
 -- A set of positions as marks, 0 for outside, and one mark dropped. Assumes nothing.
-use Rattle.std.specs.Prelude.{◌≡◌, Bool, true, false, not, ◌&&◌, cond, List, [], ◌∷◌, ℕ, zero, suc, ◌+◌, ◌≤◌, ◌<◌, T, eqb, get_or, length, set}
+use Rattle.std.specs.Prelude.{◌≡◌, Bool, not, ◌&&◌, cond, List, [], ◌∷◌, ℕ, ◌+◌, ◌≤◌, ◌<◌, T, eqb, get_or, length, set}
 use Rattle.words.specs.Lists.{hit}
 
 infix 20 ◌⊑◌

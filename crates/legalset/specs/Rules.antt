@@ -1,6 +1,6 @@
 -- 01, "The legal set", as the passes test it: the six rules for a member p over a chain of n positions. L₀ is the set that the
 -- summary was made of, L the set now. Assumes nothing.
-use Rattle.std.specs.Prelude.{Bool, true, false, not, ◌&&◌, ◌||◌, cond, List, [], ◌∷◌, ℕ, zero, suc, ◌+◌, ◌-◌, ◌/◌, ◌%◌, eqb, leb, ltb}
+use Rattle.std.specs.Prelude.{Bool, false, not, ◌&&◌, ◌||◌, cond, List, [], ◌∷◌, ℕ, zero, suc, ◌+◌, ◌-◌, ◌/◌, ◌%◌, eqb, leb, ltb}
 use Rattle.words.specs.Lists.{all, mem, conj}
 use Rattle.words.specs.Last.{last_below}
 use Rattle.legalset.specs.Chain.{View, writer}

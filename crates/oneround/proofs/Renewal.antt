@@ -114,7 +114,7 @@ module _ (P : Picture) (G : Facts) (a : Plan) (mv : Moving P G a) where
       subst (λ (n : ℕ). Seen G (length Q.types) (take (length Q.types) (drop (4 * n * width (length Q.types)) bits))) (sym (same_blocks P G a mv))
       (subst (λ (k : ℕ). Seen G k (take k (drop (4 * nblocks P * width k) bits))) (sym (same_types P G a mv)) s)
 
-  -- new names were put from at-stamps on, and the rows made anew
+  -- new names were put from at_stamps on, and the rows made anew
   pub begun_after : {bounds recs ops : List ℕ} (work64 mid work64' work32 : List ℕ) → Accepted Q → bounds ≡ Q.bounds → recs ≡ Q.recs → ops ≡ Q.ops
       → take (at_stamps P) mid ≡ take (at_stamps P) work64 → Renewed bounds recs ops mid (width P.regs) (width Q.regs) a.x a.into work64'
       → Begun P G work64 work32 → Begun Q G work64' work32

@@ -1,5 +1,5 @@
 -- Sweeps in turn: the start, then backward and forward until both drop nothing, or too few are left (01, "The legal set"). Assumes nothing.
-use Rattle.std.specs.Prelude.{◌≡◌, Bool, true, false, not, ◌&&◌, cond, List, ℕ, ◌+◌, ◌-◌, ◌%◌, ◌≤◌, eqb, leb, get_or, length, replicate}
+use Rattle.std.specs.Prelude.{◌≡◌, true, false, not, ◌&&◌, cond, List, ℕ, ◌+◌, ◌-◌, ◌%◌, ◌≤◌, eqb, leb, get_or, length, replicate}
 use Rattle.facts.specs.declared.Fact.{Fact}
 use Rattle.facts.specs.Marks.{bare}
 use Rattle.legalset.specs.Chain.{Safe, Brief}

@@ -1,6 +1,6 @@
 -- A sweep over a chain's facts: the start, which marks the positions to begin with, that backward and that forward (01, "The legal set").
 -- Assumes nothing.
-use Rattle.std.specs.Prelude.{◌≡◌, Bool, true, false, not, ◌&&◌, cond, List, map, ℕ, ◌+◌, ◌-◌, ◌≤◌, ◌<◌, ltb, get_or, length, set, take, drop}
+use Rattle.std.specs.Prelude.{◌≡◌, true, false, not, ◌&&◌, cond, List, map, ℕ, ◌+◌, ◌-◌, ◌≤◌, ◌<◌, ltb, get_or, length, set, take, drop}
 use Rattle.words.specs.Lists.{hit}
 use Rattle.facts.specs.declared.Fact.{Fact}
 use Rattle.facts.specs.Marks.{no_fact, marked, bare}

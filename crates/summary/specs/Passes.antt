@@ -1,5 +1,5 @@
 -- What the parts of a pass require and ensure. Assumes nothing.
-use Rattle.std.specs.Prelude.{◌≡◌, ◌⊎◌, Bool, true, false, not, ◌&&◌, ◌||◌, cond, List, [], ◌∷◌, ◌++◌, map, ℕ, zero, suc, ◌+◌, ◌*◌, ◌-◌, ◌/◌, ◌%◌, ◌≤◌, ◌<◌, max, eqb, leb, ltb, get_or, length, set, take, drop, replicate}
+use Rattle.std.specs.Prelude.{◌≡◌, ◌⊎◌, Bool, false, not, ◌&&◌, ◌||◌, cond, List, [], ◌∷◌, ◌++◌, map, ℕ, zero, suc, ◌+◌, ◌*◌, ◌-◌, ◌/◌, ◌%◌, ◌≤◌, ◌<◌, max, eqb, leb, ltb, get_or, length, set, take, drop}
 use Rattle.words.specs.Lists.{mem, hit, all, conj, member, count}
 use Rattle.words.specs.Bits.{is_in}
 use Rattle.model.specs.Picture.{Inst, inst, absent, reads, writes, list_of}
@@ -10,8 +10,8 @@ use Rattle.inst.specs.Record.{Known, present, read_at}
 use Rattle.facts.specs.declared.Fact as F
 use Rattle.facts.specs.Marks.{fact_in, marked}
 use Rattle.regfacts.specs.Written.{Fits, Good}
-use Rattle.legalset.specs.Chain.{writer, defs_of, reads_of, reg_org, picked, Safe, Brief, Told}
-use Rattle.legalset.specs.Marks.{in_set, sifted, lost}
+use Rattle.legalset.specs.Chain.{writer, defs_of, reg_org, picked, Told}
+use Rattle.legalset.specs.Marks.{in_set}
 use Rattle.legalset.specs.Rules.{last_kept, org_fine, still_fine, pending}
 
 -- read k: slots 0 to 4, then the list; absent where there is none

@@ -1,4 +1,3 @@
-pub mod Data
 pub mod Learning
 pub mod Aiming
 pub mod Wording

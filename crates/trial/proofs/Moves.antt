@@ -19,7 +19,7 @@ use Rattle.chains.specs.declared.chain.Chain.{Chain}
 use Rattle.chains.specs.Chain.{blocks_of}
 use Rattle.sizes.specs.declared.Sizes.{Sizes}
 use Rattle.inst.specs.declared.index.BlockId.{BlockId}
-use Rattle.apply.specs.declared.MovesBy.Move.{Move}
+use Rattle.apply.specs.declared.moves.Move.{Move}
 use Rattle.trial.specs.declared.target.Goal.{Goal}
 use Rattle.trial.specs.declared.block.MaybeMove.{MaybeMove}
 use Rattle.trial.specs.declared.block.MaybeMove.TheVariants.{Is, Not}

@@ -1,5 +1,5 @@
 -- Any number of rounds. Names of runs stay through a round, since the latest visit to an old block is found by going back along sole
--- predecessors; with OneRound this carries what is wanted through all rounds. Claim starts from `rounds-wanted`. Assumes nothing.
+-- predecessors; with OneRound this carries what is wanted through all rounds. Claim starts from `rounds_wanted`. Assumes nothing.
 use mathlib.Core.Path.{◌≡◌, refl, sym, ◌∙◌, ap, subst}
 use mathlib.Core.Bool.{Bool}
 use mathlib.Core.List.{List, [], ◌∷◌, ◌++◌}

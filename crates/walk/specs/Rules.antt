@@ -88,8 +88,8 @@ RegistersBelow R P = (b : ℕ) (i : Instr) → In i (P b) → ((r : ℕ) → In 
 
 -- ---- the legal set
 
--- rules 1 to 3 for the members `mark` of the straight code S, of which the first n may be members; `live-other` is live into the other
--- branch, `live-past` is live out of the target and not written there
+-- rules 1 to 3 for the members `mark` of the straight code S, of which the first n may be members; `live_other` is live into the other
+-- branch, `live_past` is live out of the target and not written there
 pub record Legal (S : List Instr) (n : ℕ) (mark : ℕ → Bool) (live_other live_past : ℕ → Type 0) : Type 0 where
   -- members stand in x, and the terminator is none
   pub inside : (p : ℕ) → mark p ≡ true → p < n

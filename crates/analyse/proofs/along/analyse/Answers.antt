@@ -1,9 +1,8 @@
 -- `analyse::along::analyse` meets its contract. Assumes nothing.
 use mathlib.Core.List.{List}
-use mathlib.Core.Path.{◌∙◌, ap, refl, sym, subst}
-use Prim.Native.Nat.{◌+◌, ◌<◌}
+use mathlib.Core.Path.{◌∙◌, refl, sym, subst}
+use Prim.Native.Nat.{◌+◌}
 use native.Mathlib.Omega.{arith}
-use lib.ListN.{length, set, length-set}
 use Rattle.facts.specs.Marks.{bare}
 use Rattle.facts.specs.declared.Fact as F
 use Rattle.analyse.proofs.Chained.{Chained, chained_none, chained_more, chained_end, few_yet, learn_ready}

@@ -1,6 +1,5 @@
 -- `analyse::marks::forget` meets its contract. Assumes nothing.
 use native.Mathlib.Omega.{arith}
-use Prim.Native.Nat.{◌-◌}
 use Rattle.analyse.proofs.Marking.{forgetting_none, forgetting_more, forgetting_end}
 use Rattle.analyse.proofs.marks.forget.Goals as goal
 

@@ -1,5 +1,4 @@
 -- `analyse::marks::mark_slots` meets its contract. Assumes nothing.
-use Prim.Native.Nat.{◌-◌}
 use Rattle.analyse.proofs.Marking.{marked_twice}
 use Rattle.regfacts.proofs.Writing.{slot_made, writing_none, writing_more, writing_end}
 use Rattle.analyse.proofs.marks.mark_slots.Goals as goal

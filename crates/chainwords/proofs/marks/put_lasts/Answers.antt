@@ -1,6 +1,6 @@
 -- `chainwords::marks::put_lasts` meets its contract. Assumes nothing.
 use mathlib.Core.Path.{◌≡◌, subst}
-use Prim.Native.Nat.{ℕ, ◌-◌}
+use Prim.Native.Nat.{ℕ}
 use native.Mathlib.Omega.{arith}
 use Rattle.chainwords.specs.Puts.{Lasting}
 use Rattle.chainwords.proofs.Putting.{lasting_none, use_now, lasting_more}

@@ -1,5 +1,4 @@
 -- `flow::live::gather` meets its contract. Assumes nothing.
-use Prim.Native.Nat.{◌-◌}
 use native.Mathlib.Omega.{arith}
 use mathlib.Core.Path.{refl, ◌∙◌, sym}
 use Rattle.words.proofs.Parts.{row_fits}

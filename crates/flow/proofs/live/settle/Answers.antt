@@ -1,8 +1,7 @@
 -- `flow::live::settle` meets its contract. Assumes nothing.
-use Prim.Native.Nat.{◌-◌}
 use native.Mathlib.Omega.{arith}
 use native.Mathlib.Nat.{not-suc-le-zero}
-use mathlib.Core.Path.{refl, sym, ◌∙◌}
+use mathlib.Core.Path.{refl, sym}
 use Rattle.inst.proofs.Indices.{is_block, not_block}
 use Rattle.flow.proofs.Joins.{nothing, onto, edge_more, edge_all, room_kept}
 use Rattle.flow.proofs.live.settle.Goals as goal

@@ -1,7 +1,6 @@
 -- `flow::live::sweep_up` meets its contract. Assumes nothing.
-use Prim.Native.Nat.{◌-◌}
 use native.Mathlib.Omega.{arith}
-use mathlib.Core.Path.{refl, sym, ◌∙◌}
+use mathlib.Core.Path.{refl, sym}
 use mathlib.Core.List.{[]}
 use Rattle.model.specs.Picture.{succs}
 use Rattle.inst.proofs.Indices.{is_block, not_block}

@@ -1,6 +1,5 @@
 -- `flow::live::to_head` meets its contract. Assumes nothing.
 use mathlib.Core.Path.{◌≡◌, refl}
-use Prim.Native.Nat.{◌-◌}
 use native.Mathlib.Omega.{arith}
 use lib.ListN.{length-set}
 use Rattle.flow.proofs.Standing.{head_more}

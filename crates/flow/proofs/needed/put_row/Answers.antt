@@ -1,7 +1,7 @@
 -- `flow::needed::put_row` meets its contract. Assumes nothing.
 use native.Mathlib.Omega.{arith}
 use mathlib.Core.Path.{◌≡◌, ap}
-use Prim.Native.Nat.{ℕ, ◌+◌, ◌-◌, ◌*◌}
+use Prim.Native.Nat.{ℕ, ◌+◌, ◌*◌}
 use Rattle.flow.proofs.Elsewhere.{fits_kept, put_none, put_next, put_all}
 use Rattle.flow.proofs.needed.put_row.Goals as goal
 

@@ -1,6 +1,5 @@
 -- `flow::rows::all_rows` meets its contract. Assumes nothing.
-use mathlib.Core.Path.{refl, sym, ◌∙◌}
-use Prim.Native.Nat.{◌-◌}
+use mathlib.Core.Path.{refl, sym}
 use native.Mathlib.Omega.{arith}
 use Rattle.inst.proofs.Indices.{is_block, not_block}
 use Rattle.flow.proofs.Renewed.{made_none, made_more, room_made}

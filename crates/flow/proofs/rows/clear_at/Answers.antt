@@ -1,6 +1,5 @@
 -- `flow::rows::clear_at` meets its contract. Assumes nothing.
 use mathlib.Core.Path.{◌≡◌, refl}
-use Prim.Native.Nat.{◌-◌}
 use native.Mathlib.Omega.{arith}
 use lib.ListN.{length-set}
 use Rattle.flow.proofs.Renewed.{clear_more}

@@ -1,6 +1,5 @@
 -- `lastuse::uses::last_readers` meets its contract. Assumes nothing.
 use mathlib.Core.Path.{refl, ◌∙◌}
-use Prim.Native.Nat.{◌-◌}
 use native.Mathlib.Omega.{arith}
 use Rattle.lastuse.proofs.Going.{cleared, going_none, legible_on, going_size, few_yet, read_ready, going_more, going_end}
 use Rattle.lastuse.proofs.uses.last_readers.Goals as goal

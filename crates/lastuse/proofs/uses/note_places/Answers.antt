@@ -1,6 +1,5 @@
 -- `lastuse::uses::note_places` meets its contract. Assumes nothing.
 use mathlib.Core.Path.{refl}
-use Prim.Native.Nat.{◌-◌}
 use native.Mathlib.Omega.{arith}
 use Rattle.summary.proofs.Places.{reads_placed, place_made}
 use Rattle.lastuse.proofs.Using.{noticing_none, noticing_more, noticing_end}

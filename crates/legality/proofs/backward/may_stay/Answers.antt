@@ -5,8 +5,6 @@ use lib.ListN.{get_or}
 use Rattle.words.specs.Lists.{all}
 use Rattle.model.specs.Picture.{inst, writes}
 use Rattle.legality.proofs.Testing.{skipped, asked}
-use mathlib.Core.Path.{ap}
-use mathlib.Core.Bool.{not}
 use Rattle.legality.proofs.backward.may_stay.Goals as goal
 
 pub returns-then-not-f : goal.returns-then-not-f

@@ -5,8 +5,6 @@ use lib.ListN.{get_or, length}
 use Rattle.words.specs.Lists.{all}
 use Rattle.summary.specs.Passes.{own_def}
 use Rattle.legality.proofs.Testing.{skipped, asked}
-use mathlib.Core.Path.{ap}
-use mathlib.Core.Bool.{not}
 use Rattle.legality.proofs.known.may_stay.Goals as goal
 
 pub returns-then-not-f : goal.returns-then-not-f

@@ -1,6 +1,5 @@
 -- `legality::rules::pieces_ok` meets its contract. Assumes nothing.
 use mathlib.Core.Path.{refl, sym, ◌∙◌}
-use Prim.Native.Nat.{◌-◌}
 use native.Mathlib.Omega.{arith}
 use Rattle.inst.proofs.Indices.{is_reg, not_reg}
 use Rattle.legality.proofs.Testing.{pick_no, pick_on, pick_last, pick_end}

@@ -1,7 +1,6 @@
 -- `legality::rules::places_ok` meets its contract. Assumes nothing.
 use mathlib.Core.Path.{refl, ap, ◌∙◌}
-use mathlib.Core.Bool.{true}
-use Prim.Native.Nat.{ℕ, ◌-◌}
+use Prim.Native.Nat.{ℕ}
 use native.Mathlib.Omega.{arith}
 use Rattle.words.proofs.Alls.{loop_no, loop_on, loop_yes}
 use Rattle.model.specs.Picture.{inst}

@@ -6,7 +6,6 @@ use lib.ListN.{get_or}
 use Rattle.words.specs.Lists.{all}
 use Rattle.summary.proofs.Wording.{def_all, known_at, slots_at, slots_tested}
 use borrow.Author.Tests.{not-true}
-use mathlib.Core.Bool.{not}
 use Rattle.legality.proofs.rules.rule1.Goals as goal
 
 pub def_free-requires : goal.def_free-requires

@@ -5,7 +5,6 @@ use Rattle.words.specs.Lists.{all}
 use Rattle.summary.specs.Passes.{result_test}
 use Rattle.summary.proofs.Wording.{own_among, def_tested, def_all, known_at, slots_at, slots_tested}
 use borrow.Author.Tests.{not-true}
-use mathlib.Core.Bool.{not}
 use Rattle.legality.proofs.rules.rule2.Goals as goal
 
 pub unneeded-requires : goal.unneeded-requires

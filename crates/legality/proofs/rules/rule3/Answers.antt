@@ -6,7 +6,6 @@ use Rattle.summary.specs.Passes.{read_test}
 use Rattle.legality.proofs.Testing.{place_is}
 use Rattle.summary.proofs.Wording.{own_among, uses_tested, uses_all, good_at, places_at, places_tested}
 use borrow.Author.Tests.{not-true}
-use mathlib.Core.Bool.{not}
 use Rattle.legality.proofs.rules.rule3.Goals as goal
 
 pub read_ok-requires : goal.read_ok-requires

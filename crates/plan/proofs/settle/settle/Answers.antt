@@ -21,9 +21,11 @@ ready-g-requires c = ready_may c.requires.1 c.loop-c.invariant
 
 pub run-b-requires : goal.run-b-requires
 run-b-requires c =
-    let a = c.args in
-    (c.requires.0, subst (λ (x : Sweep). Sweepable a.recs.now a.ops.now a.regs.now c.ready-g.new.work c.loop-c.facts x c.zero-a.result x.k) (sym c.ready-g.ensures.0)
-    (sweep_may c.requires.1 c.loop-c.invariant c.ready-g.ensures.1 c.zero-a.ensures.1))
+    let a = c.args in (
+      c.requires.0,
+      subst (λ (x : Sweep). Sweepable a.recs.now a.ops.now a.regs.now c.ready-g.new.work c.loop-c.facts x c.zero-a.result x.k) (sym c.ready-g.ensures.0)
+          (sweep_may c.requires.1 c.loop-c.invariant c.ready-g.ensures.1 c.zero-a.ensures.1),
+    )
 
 pub next-d-requires : goal.next-d-requires
 next-d-requires c = next_may c.requires.1 c.loop-c.invariant c.ready-g.ensures.1 c.zero-a.ensures.1 (swept c.ready-g.ensures.0 c.run-b.ensures)

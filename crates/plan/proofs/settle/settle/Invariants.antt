@@ -1,5 +1,4 @@
 -- `plan::settle::settle`: where the sweeps stand. Assumes nothing.
-use Rattle.std.proofs.Common.{◌≡◌}
 use Rattle.plan.proofs.Looping.{Looping, to_come}
 use Rattle.plan.proofs.settle.settle.Given as goal
 

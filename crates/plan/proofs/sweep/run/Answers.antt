@@ -1,7 +1,7 @@
 -- `plan::sweep::run` meets its contract. Assumes nothing.
 use mathlib.Core.Path.{◌≡◌, ◌∙◌, ap, sym, subst}
 use mathlib.Core.List.{List}
-use Prim.Native.Nat.{ℕ, ◌+◌, ◌<◌, ◌≤◌}
+use Prim.Native.Nat.{ℕ, ◌+◌, ◌<◌}
 use native.Mathlib.Omega.{arith}
 use lib.ListN.{get_or, length, set}
 use Rattle.facts.specs.declared.Fact.{Fact}
@@ -9,7 +9,7 @@ use Rattle.facts.specs.Marks.{no_fact, marked}
 use Rattle.plan.specs.Sweep.{Swept, Visitable, Visit, place}
 use Rattle.plan.specs.declared.sweep.Sweep.{Sweep}
 use Rattle.plan.specs.declared.sweep.Tally.{Tally}
-use Rattle.plan.proofs.Sweeping.{visitable, within, swept_long, swept_size}
+use Rattle.plan.proofs.Sweeping.{visitable, within}
 use Rattle.plan.proofs.sweep.run.Goals as goal
 
 -- one turn more, whatever names its position and its fact have
@@ -35,11 +35,12 @@ fact_at-f-requires c =
 pub visit-b-requires : goal.visit-b-requires
 visit-b-requires c =
     let a = c.args in
-    let i = c.loop-i in
-    (c.requires.0,
-    subst (λ (f : Fact). Visitable a.recs.now a.ops.now a.regs.now i.work a.g f i.b c.place-p.result) (sym c.fact_at-f.ensures)
-    (subst (λ (p : ℕ). Visitable a.recs.now a.ops.now a.regs.now i.work a.g (get_or i.facts p no_fact) i.b p) (sym c.place-p.ensures)
-    (visitable c.requires.1 c.loop-i-test.true i.invariant.ran)))
+    let i = c.loop-i in (
+      c.requires.0,
+      subst (λ (f : Fact). Visitable a.recs.now a.ops.now a.regs.now i.work a.g f i.b c.place-p.result) (sym c.fact_at-f.ensures)
+          (subst (λ (p : ℕ). Visitable a.recs.now a.ops.now a.regs.now i.work a.g (get_or i.facts p no_fact) i.b p) (sym c.place-p.ensures)
+          (visitable c.requires.1 c.loop-i-test.true i.invariant.ran)),
+    )
 
 pub set_member-requires : goal.set_member-requires
 set_member-requires c =

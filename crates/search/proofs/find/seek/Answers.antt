@@ -1,6 +1,5 @@
 -- `search::find::seek` meets its contract. Assumes nothing.
 use mathlib.Core.Path.{refl, sym, ◌∙◌}
-use Prim.Native.Nat.{◌-◌}
 use native.Mathlib.Omega.{arith}
 use Rattle.inst.proofs.Indices.{is_block, not_block}
 use Rattle.search.proofs.Looked.{rooms, passing_start, passing_more, passing_found, passing_end}

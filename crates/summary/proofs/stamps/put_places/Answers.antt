@@ -1,7 +1,5 @@
 -- `summary::stamps::put_places` meets its contract. Assumes nothing.
-use Prim.Native.Nat.{◌-◌}
 use native.Mathlib.Omega.{arith}
-use Rattle.summary.specs.Passes.{read_place}
 use Rattle.summary.proofs.Places.{reads_placed, place_made}
 use Rattle.summary.proofs.Stamping.{stamping_none, stamping_more, stamping_end}
 use Rattle.summary.proofs.stamps.put_places.Goals as goal

@@ -1,8 +1,6 @@
 -- `summary::stamps::put_reads` meets its contract. Assumes nothing.
 use Rattle.summary.proofs.Wording.{stamped_is, uses_all, good_at, places_at, places_stamped}
 use borrow.Author.Tests.{not-true}
-use mathlib.Core.Path.{ap}
-use mathlib.Core.Bool.{not}
 use Rattle.summary.proofs.stamps.put_reads.Goals as goal
 
 pub put_uses-requires : goal.put_uses-requires

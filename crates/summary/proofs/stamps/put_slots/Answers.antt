@@ -1,7 +1,5 @@
 -- `summary::stamps::put_slots` meets its contract. Assumes nothing.
-use Prim.Native.Nat.{◌-◌}
 use native.Mathlib.Omega.{arith}
-use Rattle.inst.specs.Record.{write_at}
 use Rattle.summary.proofs.Places.{writes_placed, slot_made}
 use Rattle.summary.proofs.Stamping.{stamping_none, stamping_more, stamping_end}
 use Rattle.summary.proofs.stamps.put_slots.Goals as goal

@@ -1,8 +1,6 @@
 -- `summary::stamps::put_writes` meets its contract. Assumes nothing.
 use Rattle.summary.proofs.Wording.{stamped_is, def_all, known_at, slots_at, slots_stamped}
 use borrow.Author.Tests.{not-true}
-use mathlib.Core.Path.{ap}
-use mathlib.Core.Bool.{not}
 use Rattle.summary.proofs.stamps.put_writes.Goals as goal
 
 pub put_def-requires : goal.put_def-requires

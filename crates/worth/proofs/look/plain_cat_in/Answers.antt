@@ -1,7 +1,5 @@
 -- `worth::look::plain_cat_in` meets its contract. Assumes nothing.
 use native.Mathlib.Omega.{arith}
-use mathlib.Core.Bool.{false}
-use Prim.Native.Nat.{◌-◌}
 use Rattle.worth.proofs.Looks.{cat_none, cat_yes, cat_on, cat_no, record_there}
 use Rattle.worth.proofs.look.plain_cat_in.Goals as goal
 
