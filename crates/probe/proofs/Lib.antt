@@ -3,4 +3,3 @@ pub mod Heads
 pub mod Numbers
 pub mod Seeking
 pub mod Attempts
-pub mod Trying

@@ -1,3 +1,2 @@
 pub mod Looping
 pub mod Call
-pub mod Turn

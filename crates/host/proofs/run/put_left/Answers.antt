@@ -1,0 +1,17 @@
+-- `run::put_left` meets its contract: the picture is written, case by case. Assumes nothing.
+use Rattle.host.proofs.run.put_left.Goals as goal
+
+pub write_picture-requires : goal.write_picture-requires
+write_picture-requires c = rw c.in-Done.is at c.requires
+
+pub write_picture-requires-in-Short : goal.write_picture-requires-in-Short
+write_picture-requires-in-Short c = rw c.in-Short.is at c.requires
+
+pub returns-in-Done : goal.returns-in-Done
+returns-in-Done c = rw c.in-Done.is c.write_picture.ensures.made
+
+pub returns-in-Short : goal.returns-in-Short
+returns-in-Short c = rw c.in-Short.is c.write_picture-in-Short.ensures.made
+
+pub returns-in-Refused : goal.returns-in-Refused
+returns-in-Refused c = rw c.in-Refused.is

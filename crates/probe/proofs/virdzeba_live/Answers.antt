@@ -1,0 +1,52 @@
+-- `virdzeba_live` meets its contract. Assumes nothing.
+use mathlib.Core.Path.{refl, sym, ap}
+use mathlib.Core.List.{[]}
+use lib.ListN.{length}
+use Rattle.words.specs.Bits.{width}
+use Rattle.checks.specs.Causes.{picture_of}
+use Rattle.laws.proofs.Accepted.{accepted, needed_records}
+use Rattle.flow.proofs.Accepted.{graph_given}
+use Rattle.flow.proofs.Whole.{rows_tables}
+use Rattle.search.proofs.Start.{rows_asked}
+use Rattle.probe.proofs.Given.{none, live_of}
+use Rattle.probe.proofs.virdzeba_live.Goals as goal
+
+pub returns-then-r-ne0 : goal.returns-then-r-ne0
+returns-then-r-ne0 c = record {
+  value = c.refusal-r.ensures;
+  bits_unchanged = (λ n. refl);
+  live = λ z. absurd (c.if-r-ne0.true z);
+}
+
+pub all_rows-requires : goal.all_rows-requires
+all_rows-requires c =
+    let a = c.args in
+    let P = picture_of a.bounds.now a.recs.now a.locs.now a.vias.now a.types.now a.registers a.ops.now a.operands a.pairs.now a.targets.now [] in
+    let z = none P (length a.bits.now) a.w32 a.records c.refusal-r.ensures c.if-r-ne0.false in
+    let k = rows_asked P a.w32 a.bits.now (needed_records P (length a.bits.now) a.w32 a.records z) refl refl refl c.wide-k.ensures in
+    (c.table-t.ensures, k.0, k.1, k.2)
+
+pub live_in-requires : goal.live_in-requires
+live_in-requires c =
+    let a = c.args in
+    let P = picture_of a.bounds.now a.recs.now a.locs.now a.vias.now a.types.now a.registers a.ops.now a.operands a.pairs.now a.targets.now [] in
+    let z = none P (length a.bits.now) a.w32 a.records c.refusal-r.ensures c.if-r-ne0.false in
+    let w = c.wide-k in
+    let k = rows_asked P a.w32 a.bits.now (needed_records P (length a.bits.now) a.w32 a.records z) refl refl refl w.ensures in (
+      c.table-t.ensures,
+      graph_given P (accepted P (length a.bits.now) a.w32 a.records z),
+      record { fits = rw c.all_rows.ensures.bits_len_unchanged k.2.fits },
+      k.1.few,
+    )
+
+pub returns : goal.returns
+returns c =
+    let a = c.args in
+    let P = picture_of a.bounds.now a.recs.now a.locs.now a.vias.now a.types.now a.registers a.ops.now a.operands a.pairs.now a.targets.now [] in
+    let z = none P (length a.bits.now) a.w32 a.records c.refusal-r.ensures c.if-r-ne0.false in
+    let w = c.wide-k in
+    record {
+      value = sym z;
+      bits_unchanged = (λ n. absurd (n refl));
+      live = λ e. live_of P (width w.result) (width a.registers) _ (ap width w.ensures) (c.live_in.ensures.by_index a.ops.now (λ i h. rows_tables a.bounds.now a.recs.now a.ops.now a.pairs.now a.targets.now (width w.result) i _ (c.all_rows.ensures.by_index i h)));
+    }
