@@ -1,3 +1,1 @@
 pub mod Onward
-pub mod Turn
-pub mod Calls

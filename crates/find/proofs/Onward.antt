@@ -1,9 +1,9 @@
 -- Where the search for a round's move stands (01, "A round"), and how it comes from one chain to the next: a chain is found, or none; the
 -- chain that was tried has a move, or none; the end. Assumes nothing.
-use mathlib.Core.Path.{◌≡◌, refl, sym, ap, ◌∙◌, subst}
+use mathlib.Core.Path.{◌≡◌, refl, sym, ◌∙◌, subst}
 use mathlib.Core.List.{List}
 use mathlib.Core.Option.{none}
-use Prim.Native.Nat.{ℕ, ◌+◌, ◌-◌, ◌<◌}
+use Prim.Native.Nat.{ℕ, ◌+◌, ◌<◌}
 use native.Mathlib.Omega.{arith}
 use lib.ListN.{length}
 use borrow.Author.Tests.{lt-ltb}
@@ -27,7 +27,7 @@ use Rattle.search.specs.Search.{Looking, Sees, Seeking, IsSought, Sought}
 use Rattle.search.proofs.Looked.{first_at, none_more, shown_at, rooms}
 use Rattle.search.proofs.Anew.{sees_of}
 use Rattle.find.specs.declared.stand.Stand.{Stand}
-use Rattle.find.specs.declared.stand.Stand.TheVariants.{Looks, Moves}
+use Rattle.find.specs.declared.stand.Stand.TheVariants.{Looks, Moves, Ends}
 use Rattle.find.specs.Find.{Sure, Next, StandsAs, IsAnswered, Finding, Searched, stand_of, outcome, to_come, Opened, GoneOn}
 
 -- ---- a chain is found, or none
@@ -83,23 +83,17 @@ pub record Running (bounds recs ops pairs targets replay : List ℕ) (s : Sizes)
   pub size32 : length work32' ≡ length work32
   pub is : (P : Picture) (G : Facts) → Shown P bounds recs ops pairs targets replay s (length work64) (length work32) → Begun P G work64 work32 → StandsAs P G work64' work32' q
 
--- the search does not read operands
-own_ops : {P : Picture} {bounds recs ops pairs targets replay : List ℕ} {s : Sizes} {a b : ℕ} → Shown P bounds recs ops pairs targets replay s a b → Shown P bounds recs P.ops pairs targets replay s a b
-own_ops {P} {bounds} {recs} {pairs = pairs} {targets} {replay} {s} {a} {b} sh = subst (λ (l : List ℕ). Shown P bounds recs l pairs targets replay s a b) sh.lists.ops_are sh
-
 module _ {bounds recs ops pairs targets replay : List ℕ} {s : Sizes} {work64 work32 : List ℕ} where
-  pub looking : Finding bounds recs ops pairs targets replay s work64 work32 → Looking bounds recs pairs targets replay s work64 work32
-  looking f = record { P = f.P; G = f.G; shown = own_ops f.shown; begun = f.begun }
-
-  pub running_open : {work64' : List ℕ} {q : Stand} → Opened bounds recs pairs targets replay s work64 work32 work64' q → Running bounds recs ops pairs targets replay s work64 work32 work64' work32 q
-  running_open o = record { size64 = o.size64; size32 = refl; is = λ P G sh b. o.is P G (own_ops sh) b }
-
   module _ {work64' work32' : List ℕ} {q : Stand} (r : Running bounds recs ops pairs targets replay s work64 work32 work64' work32' q) where
-    -- the search is at its end, with o
-    pub running_end : {a : MaybeMove} (o : Stand) → q ≡ o → ((P : Picture) (G : Facts) → StandsAs P G work64' work32' o → IsAnswered P G work64' work32' (outcome o)) → a ≡ outcome q
-        → Searched bounds recs ops pairs targets replay s work64 work32 work64' work32' a
-    running_end {a} o e f ea = subst (Searched bounds recs ops pairs targets replay s work64 work32 work64' work32') (sym (ea ∙ ap outcome e))
-        (record { size64 = r.size64; size32 = r.size32; is = λ P G sh b. f P G (subst (StandsAs P G work64' work32') e (r.is P G sh b)) })
+    -- the search is at its end
+    pub running_end : {a : MaybeMove} → ((k : Look) → q ≡ Looks k → ⊥) → a ≡ outcome q → Searched bounds recs ops pairs targets replay s work64 work32 work64' work32' a
+    running_end {a} n ea = subst (Searched bounds recs ops pairs targets replay s work64 work32 work64' work32') (sym ea)
+        (record { size64 = r.size64; size32 = r.size32; is = λ P G sh b. go P G q n (r.is P G sh b) })
+      where
+        go : (P : Picture) (G : Facts) (o : Stand) → ((k : Look) → o ≡ Looks k → ⊥) → StandsAs P G work64' work32' o → IsAnswered P G work64' work32' (outcome o)
+        go P G (Looks k) n z = absurd (n k refl)
+        go P G (Moves mv) n z = z
+        go P G Ends n z = z
 
     -- chain k is to be tried
     module _ {k : Look} (on : q ≡ Looks k) where
@@ -128,12 +122,6 @@ module _ {bounds recs ops pairs targets replay : List ℕ} {s : Sizes} {work64 w
 
           sees : Sees P bounds recs replay s work32''
           sees = sees_of (shown_at d.size64 d.size32 shown_now) next_still.held.begun
-
-        pub seeking : Finding bounds recs ops pairs targets replay s work64 work32 → Seeking bounds recs replay s work32'' × (k.x.0 < s.blocks)
-        seeking f = (
-          record { P = f.P; sees = sees f.P f.G f.shown f.begun },
-          let a = (n f.P f.G f.shown f.begun).chosen.x_block in let e = f.shown.lists.blocks_are in omega arith,
-        )
 
         -- the search went on
         pub running_more : {p : Stand} → GoneOn bounds recs replay s k a work32'' p → Running bounds recs ops pairs targets replay s work64 work32 work64'' work32'' p

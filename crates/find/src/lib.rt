@@ -1,5 +1,7 @@
 // The move of a round (01, "A round": "the first block, in number order, of more than 3 instructions for which a move exists"): chain
 // after chain is tried until one has a move or none is left. Nothing that is lent as a picture is changed.
+#![tactic(auto)]
+
 pub mod stand; // stand.rt: where the search stands
 
 ghost use Rattle.std.specs.Prelude.{◌≡◌, ◌≤◌, length};

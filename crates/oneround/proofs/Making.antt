@@ -1,15 +1,14 @@
 -- The move of a round, made (01, "The move"): what `apply` asks, from what was prepared; after it, and with the rows anew, the work slices
 -- hold for the new picture what the call began with. Assumes nothing.
-use mathlib.Core.Path.{◌≡◌, refl, sym, ap, ◌∙◌, subst}
+use mathlib.Core.Path.{◌≡◌, sym, ap, ◌∙◌, subst}
 use mathlib.Core.Bool.{Bool}
 use mathlib.Core.List.{List}
-use mathlib.Core.Logic.{◌⊎◌, ⊎_elim}
+use mathlib.Core.Logic.{⊎_elim}
 use Prim.Native.Nat.{ℕ, ◌+◌, ◌-◌, ◌/◌, ◌≤◌, ◌<◌}
 use native.Mathlib.Omega.{arith}
 use lib.ListN.{length, take}
 use lib.Seq.{length-take-le}
 use borrow.Rule.Slice.PartMut.{mid_of, put_mid, mid_len, same_len_mid, take_put}
-use denote.Enum.Declared.{tag_of}
 use Rattle.words.specs.Bits.{width}
 use Rattle.model.specs.Picture.{Picture}
 use Rattle.model.specs.Refusal.{refusal, records}
@@ -27,25 +26,10 @@ use Rattle.chainwords.specs.Work.{at_stamps, chain_words, Begun}
 use Rattle.search.proofs.Start.{Rooms, rooms_of}
 use Rattle.oneround.specs.declared.weigh.Line.{Line}
 use Rattle.oneround.specs.declared.weigh.Step.{Step}
-use Rattle.oneround.specs.declared.weigh.Step.TheVariants.{Ends, Goes, Short}
+use Rattle.oneround.specs.declared.weigh.Step.TheVariants.{Goes}
 use Rattle.oneround.specs.Weigh.{Says, IsPrepared}
 use Rattle.oneround.specs.Make.{Renewing, Renewed, IsNext, Making, Made}
-use Rattle.oneround.specs.contracts.weigh.Step as step
 use Rattle.oneround.proofs.Renewal.{begun_after}
-
--- ---- no move: nothing is written
-
-pub made_none : {bounds recs locs vias types ops : List ℕ} {s : Sizes} {work64 work32 : List ℕ} (q : Step) → (tag_of step.the_type q ≡ 0) ⊎ (tag_of step.the_type q ≡ 2)
-    → Made bounds recs locs vias types ops s work64 work32 q bounds recs locs vias types ops work64
-made_none {bounds} {recs} {locs} {vias} {types} {ops} {s} {work64} {work32} q = go q
-  where
-    same : (rest : Rest) → Holds (picture bounds recs locs vias types s.regs ops s.opers rest) bounds recs locs vias types ops
-    same rest = record { bounds_are = refl; recs_are = refl; locs_are = refl; vias_are = refl; types_are = refl; ops_are = refl }
-
-    go : (q : Step) → (tag_of step.the_type q ≡ 0) ⊎ (tag_of step.the_type q ≡ 2) → Made bounds recs locs vias types ops s work64 work32 q bounds recs locs vias types ops work64
-    go Ends t = record { size64 = refl; is = λ rest G ok b z. (z, (same rest, b)) }
-    go Short t = record { size64 = refl; is = λ rest G ok b z. (z.0, z.1, z.2, (same rest, b)) }
-    go (Goes l) t = absurd (⊎_elim (λ (e : ◌≡◌ {A = ℕ} 1 0). omega arith) (λ (e : ◌≡◌ {A = ℕ} 1 2). omega arith) t)
 
 -- ---- what `apply` asks and ensures, of the numbers that the code has
 

@@ -1,5 +1,5 @@
 -- What the move of a round comes to (01, "A round" and "Answers"): it is counted, against the room that is lent. Assumes nothing.
-use mathlib.Core.Path.{◌≡◌, refl, sym, ap, ◌∙◌, subst}
+use mathlib.Core.Path.{◌≡◌, sym, ap, ◌∙◌, subst}
 use mathlib.Core.Logic.{⊎_elim}
 use mathlib.Core.Bool.{Bool, true, false, ◌&&◌, and-false}
 use mathlib.Core.List.{List}
@@ -30,8 +30,8 @@ use Rattle.sizes.specs.Parts.{stamps_at}
 use Rattle.chainwords.specs.Work.{at_stamps, chain_words, Begun}
 use Rattle.trial.specs.Trial.{Found}
 use Rattle.trial.specs.declared.block.MaybeMove.{MaybeMove}
-use Rattle.trial.specs.declared.block.MaybeMove.TheVariants.{Is, Not}
-use Rattle.find.specs.Find.{IsAnswered, Sure, Over}
+use Rattle.trial.specs.declared.block.MaybeMove.TheVariants.{Is}
+use Rattle.find.specs.Find.{IsAnswered, Sure}
 use Rattle.oneround.specs.declared.weigh.Line.{Line}
 use Rattle.oneround.specs.declared.weigh.Step.{Step}
 use Rattle.oneround.specs.declared.weigh.Step.TheVariants.{Ends, Goes, Short}
@@ -91,14 +91,6 @@ module _ {P : Picture} (ok : Accepted P) {G : Facts} {x : ℕ} {mv : Move} {w v 
   comes_to Ends h = absurd h
 
 -- ---- `weigh`
-
--- no move: nothing is written
-pub weighed_none : {bounds recs types ops : List ℕ} {s : Sizes} {work64 work32 : List ℕ} {r : MaybeMove} → r ≡ Not → Weighed bounds recs types ops s work64 work32 r work64 work32 Ends
-weighed_none {bounds} {recs} {types} {ops} {s} {work64} {work32} n = record {
-  size64 = refl;
-  size32 = refl;
-  is = λ e G ok b. let o : Over (with_beside bounds recs types ops s e) G work64 work32 = subst (IsAnswered (with_beside bounds recs types ops s e) G work64 work32) n b in (o.begun, o.none_is);
-}
 
 -- a move mv
 module _ {bounds recs types ops : List ℕ} {s : Sizes} {work64 work32 : List ℕ} {r : MaybeMove} (k : Ready bounds recs types ops s work64 work32 r) where

@@ -47,10 +47,6 @@ module _ {bounds recs ops work64 : List ℕ} {was regs from into : ℕ} (k : Ren
 abbrev EachOf : List ℕ → List ℕ → List ℕ → ℕ → ℕ → List ℕ → Type 0
 EachOf bounds recs ops w b bits = Rows (drawn bounds recs ops [] []) w b bits
 
-pub renewed_all : {bounds recs ops work64 work64' : List ℕ} {v w from into : ℕ} → ((b : ℕ) → b < length bounds / 2 → EachOf bounds recs ops w b work64') → length work64' ≡ length work64
-    → ((i : ℕ) → 3 * (length bounds / 2) * w + w ≤ i → get_or work64' i 0 ≡ get_or work64 i 0) → Renewed bounds recs ops work64 v w from into work64'
-renewed_all r e b = record { size = e; behind = b; rows = λ c h f. r c h }
-
 -- words behind all rows
 past : {n w b : ℕ} {xs ys : List ℕ} → b < n → OnlyRows n w b xs ys → (i : ℕ) → 3 * n * w + w ≤ i → get_or ys i 0 ≡ get_or xs i 0
 past {n} {w} {b} h o i l =

@@ -1,25 +1,14 @@
 -- The lines of the rounds, six words each. Assumes nothing.
 use mathlib.Core.Path.{◌≡◌, sym, ap, ◌∙◌}
-use mathlib.Core.List.{List, [], ◌∷◌, ◌++◌}
+use mathlib.Core.List.{List, ◌++◌}
 use Prim.Native.Nat.{ℕ, suc, ◌+◌, ◌-◌, ◌*◌, ◌<◌}
 use native.Mathlib.Omega.{arith}
-use lib.ListN.{length, take, drop, set, replicate}
-use lib.Seq.{sets, drop-drop, length-sets}
+use lib.ListN.{length, take, drop, replicate}
+use lib.Seq.{drop-drop, length-sets}
 use Rattle.words.proofs.Copying.{front_sets, drop_sets}
 use Rattle.model.specs.Pass.{most_rounds}
 use Rattle.oneround.specs.declared.weigh.Line.{Line}
 use Rattle.rounds.specs.State.{line_words, with_line}
-
--- six words, stored one by one
-pub six : (l : List ℕ) (a u v w x y z : ℕ)
-    → set (set (set (set (set (set l a u) (a + 1) v) (a + 2) w) (a + 3) x) (a + 4) y) (a + 5) z ≡ sets l a (u ∷ v ∷ w ∷ x ∷ y ∷ z ∷ [])
-six l a u v w x y z =
-    let e : a + 1 ≡ suc a = omega arith in
-    let f : a + 2 ≡ suc (suc a) = omega arith in
-    let g : a + 3 ≡ suc (suc (suc a)) = omega arith in
-    let h : a + 4 ≡ suc (suc (suc (suc a))) = omega arith in
-    let k : a + 5 ≡ suc (suc (suc (suc (suc a)))) = omega arith in
-    rw (e, f, g, h, k)
 
 -- six zeros fewer
 fewer_zeros : (n k : ℕ) → n ≡ suc (suc (suc (suc (suc (suc k))))) → drop {A = ℕ} 6 (replicate n 0) ≡ replicate k 0

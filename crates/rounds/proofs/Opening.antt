@@ -1,9 +1,8 @@
 -- The start of the call (01, "The call"): refusals and gates, then what the rounds begin with. Assumes nothing.
 use mathlib.Core.Path.{◌≡◌, refl, sym, ap, ap₂, ◌∙◌, subst}
-use mathlib.Core.Bool.{Bool, true, false}
+use mathlib.Core.Bool.{true, false}
 use mathlib.Core.List.{List, []}
-use Prim.Native.Nat.{ℕ, ◌-◌, ◌*◌, ◌/◌, ◌≤◌}
-use native.Mathlib.Nat.{le_of_eq}
+use Prim.Native.Nat.{ℕ, ◌-◌, ◌*◌, ◌≤◌}
 use native.Mathlib.Omega.{arith}
 use lib.ListN.{length, replicate}
 use Rattle.words.specs.Lists.{concat}
@@ -13,12 +12,12 @@ use Rattle.model.specs.declared.Answer.TheVariants as answer
 use Rattle.model.specs.Picture.{Picture, nblocks}
 use Rattle.model.specs.Refusal.{refusal, records}
 use Rattle.model.specs.Analyse.{facts}
-use Rattle.model.specs.Pass.{Outcome, used, gated, sink, sink_all, most_rounds}
+use Rattle.model.specs.Pass.{Outcome, used, sink, sink_all, most_rounds}
 use Rattle.laws.proofs.Accepted.{accepted, needed_records}
-use Rattle.laws.proofs.Sizes.{few_blocks, recs_length}
-use Rattle.laws.proofs.Rounds.{sink_refused, sink_gated, sink_through}
+use Rattle.laws.proofs.Sizes.{few_blocks}
+use Rattle.laws.proofs.Rounds.{sink_refused, sink_through}
 use Rattle.checks.specs.Causes.{picture_of}
-use Rattle.acceptance.proofs.Chain.{whatever_replay, whatever_rest}
+use Rattle.acceptance.proofs.Chain.{whatever_replay}
 use Rattle.sizes.specs.declared.InUse.{InUse}
 use Rattle.sizes.specs.declared.Room.{Room}
 use Rattle.sizes.specs.Parts.{sizes_of}
@@ -37,9 +36,6 @@ module _ (bounds recs locs vias types ops pairs targets : List ℕ) (u : InUse) 
   abbrev lent : List ℕ → Picture
   lent replay = picture_of bounds recs locs vias types u.regs ops u.opers pairs targets replay
 
-  abbrev plain : Picture
-  plain = picture_of bounds recs locs [] [] u.regs [] 0 [] [] []
-
   abbrev cause : ℕ
   cause = refusal (lent []) room.w64 room.w32 room.records
 
@@ -54,17 +50,6 @@ module _ (bounds recs locs vias types ops pairs targets : List ℕ) (u : InUse) 
 
     pub judge_refused : (n ≡ 0 → ⊥) → Says (Ends (answer.Refused n))
     judge_refused h = record { is = λ replay. (sink_refused (lent replay) room.w64 room.w32 room.records n (is_cause replay) h, refl) }
-
-    module _ (ok : n ≡ 0) where
-      -- what the gates ask
-      pub gates_ask : (length bounds / 2 ≤ 4096) × (16 * length locs ≤ length recs)
-      gates_ask = let h = accepted (lent []) room.w64 room.w32 room.records (sym e ∙ ok) in (few_blocks (lent []) h, le_of_eq (sym (recs_length (lent []) h)))
-
-      pub judge_gated : {b : Bool} → b ≡ gated plain → b ≡ true → Says (Ends (answer.Done (record { rounds = 0; registers = u.regs; operands = u.opers })))
-      judge_gated f g = record { is = λ replay. (sink_gated (lent replay) room.w64 room.w32 room.records (sym (is_cause replay) ∙ ok) (sym (f ∙ whatever_rest (lent replay)) ∙ g), refl) }
-
-      pub judge_opens : {b : Bool} → b ≡ gated plain → b ≡ false → Says Opens
-      judge_opens f g = record { is = λ replay. (sym (is_cause replay) ∙ ok, sym (f ∙ whatever_rest (lent replay)) ∙ g) }
 
 -- ---- the start of the call on P
 

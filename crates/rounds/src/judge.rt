@@ -15,6 +15,7 @@ pub enum Verdict {
     Opens,
 }
 
+#[tactic(auto, using(crate::proofs::Opening::judge_refused))]
 pub fn judge(
     t: &[u32; 202],
     bounds: &[u32],
