@@ -7,7 +7,7 @@ use Rattle.laws.proofs.Accepted.{accepted}
 use Rattle.laws.proofs.Sizes.{few_blocks}
 use Rattle.probe.proofs.Given.{none}
 use Rattle.probe.proofs.Numbers.{refusal_low}
-use Rattle.probe.proofs.Attempts.{refused_judges, block_judges}
+use Rattle.probe.proofs.Attempts.{block_judges}
 use Rattle.probe.proofs.attempt.judge.Goals as goal
 
 pub overflow_add-n : goal.overflow_add-n
