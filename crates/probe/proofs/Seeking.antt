@@ -1,22 +1,18 @@
 -- The search from one block of an accepted picture: what each step asks, and what the last one leaves. Assumes nothing.
-use mathlib.Core.Path.{◌≡◌, refl, sym, ◌∙◌, subst}
+use mathlib.Core.Path.{◌≡◌, sym, ◌∙◌, subst}
 use mathlib.Core.List.{List}
-use Prim.Native.Nat.{ℕ, ◌<◌}
+use Prim.Native.Nat.{ℕ}
 use lib.ListN.{length}
 use Rattle.words.specs.Bits.{width}
 use Rattle.model.specs.Picture.{Picture}
 use Rattle.model.specs.Analyse.{facts}
-use Rattle.inst.specs.declared.index.BlockId.{BlockId}
-use Rattle.inst.specs.declared.index.MaybeBlock.TheVariants as blocks
 use Rattle.sizes.specs.declared.Sizes.{Sizes}
 use Rattle.chainwords.specs.Work.{Shown, Begun}
 use Rattle.search.specs.declared.find.MaybeLook.{MaybeLook}
-use Rattle.search.specs.declared.find.MaybeLook.TheVariants as looks
-use Rattle.search.specs.Search.{Beginning, Began, Looking, Seeking, Looked}
+use Rattle.search.specs.Search.{Began, Looking, Looked}
 use Rattle.search.proofs.Looked.{shown_at}
-use Rattle.search.proofs.Anew.{Anew, sees_of, held_anew, seeking}
-use Rattle.probe.specs.declared.attempt.Judged.{Judged}
-use Rattle.probe.specs.Attempt.{Asking, Seen, MaySeek, SetsTo, Sets}
+use Rattle.search.proofs.Anew.{Anew, sees_of, held_anew}
+use Rattle.probe.specs.Attempt.{Asking, Seen}
 
 module _ {bounds recs ops pairs targets replay : List ℕ} {s : Sizes} {work64 work32 : List ℕ} {x : ℕ} (a : Asking bounds recs ops pairs targets replay s (length work64) (length work32) x) where
   module _ {work64' work32' : List ℕ} (b : Began bounds recs ops pairs targets work64 work32 s work64' work32') where

@@ -1,5 +1,4 @@
 -- `virdzeba_preds` meets its contract. Assumes nothing.
-use mathlib.Core.Path.{refl, sym}
 use mathlib.Core.List.{[]}
 use lib.ListN.{length}
 use Rattle.checks.specs.Causes.{picture_of}
