@@ -1,5 +1,6 @@
 // The call (01, "The call" and "A round"; 000's `sink_all`): `sink_all` over lent slices of any contents.
 #![tactic(auto)]
+
 pub mod here; // here.rt: the call with a list of facts of its own
 
 ghost use Rattle.std.specs.Prelude.{◌≡◌, ◌++◌, ◌*◌, ◌-◌, length, replicate};

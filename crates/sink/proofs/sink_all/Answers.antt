@@ -1,6 +1,4 @@
 -- `sink_all` meets its contract. Assumes nothing.
-use mathlib.Core.Path.{sym, subst}
-use lib.ListN.{length}
 use Rattle.checks.specs.Causes.{picture_of}
 use Rattle.sink.proofs.Call.{coming, promised}
 use Rattle.sink.proofs.sink_all.Goals as goal
