@@ -1,5 +1,6 @@
 // The text of `sinkrounds` as a function from bytes to bytes (01, "One listing whole").
 #![tactic(auto)]
+
 ghost use Rattle.std.specs.Prelude.{◌≡◌, ◌+◌, ◌*◌, ◌≤◌, ◌<◌, length};
 ghost use Rattle.model.specs.Pass.{rounds};
 ghost use Rattle.layout.specs.Text.{Put, line, unread_text};

@@ -11,13 +11,6 @@ use Rattle.search.proofs.Start.{rows_asked}
 use Rattle.probe.proofs.Given.{none, live_of}
 use Rattle.probe.proofs.virdzeba_live.Goals as goal
 
-pub returns-then-r-ne0 : goal.returns-then-r-ne0
-returns-then-r-ne0 c = record {
-  value = c.refusal-r.ensures;
-  bits_unchanged = (λ n. refl);
-  live = λ z. absurd (c.if-r-ne0.true z);
-}
-
 pub all_rows-requires : goal.all_rows-requires
 all_rows-requires c =
     let a = c.args in
@@ -39,14 +32,14 @@ live_in-requires c =
       k.1.few,
     )
 
-pub returns : goal.returns
-returns c =
+pub returns-clause-live : goal.returns-clause-live
+returns-clause-live c =
     let a = c.args in
-    let P = picture_of a.bounds.now a.recs.now a.locs.now a.vias.now a.types.now a.registers a.ops.now a.operands a.pairs.now a.targets.now [] in
-    let z = none P (length a.bits.now) a.w32 a.records c.refusal-r.ensures c.if-r-ne0.false in
     let w = c.wide-k in
-    record {
-      value = sym z;
-      bits_unchanged = (λ n. absurd (n refl));
-      live = λ e. live_of P (width w.result) (width a.registers) _ (ap width w.ensures) (c.live_in.ensures.by_index a.ops.now (λ i h. rows_tables a.bounds.now a.recs.now a.ops.now a.pairs.now a.targets.now (width w.result) i _ (c.all_rows.ensures.by_index i h)));
-    }
+    λ e. live_of
+    (picture_of a.bounds.now a.recs.now a.locs.now a.vias.now a.types.now a.registers a.ops.now a.operands a.pairs.now a.targets.now [])
+    (width w.result)
+    (width a.registers)
+    _
+    (ap width w.ensures)
+    (c.live_in.ensures.by_index a.ops.now (λ i h. rows_tables a.bounds.now a.recs.now a.ops.now a.pairs.now a.targets.now (width w.result) i _ (c.all_rows.ensures.by_index i h)))

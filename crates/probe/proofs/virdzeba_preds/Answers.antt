@@ -8,27 +8,9 @@ use Rattle.flow.proofs.Accepted.{graph_given}
 use Rattle.probe.proofs.Given.{none, preds_of, words_room}
 use Rattle.probe.proofs.virdzeba_preds.Goals as goal
 
-pub returns-then-r-ne0 : goal.returns-then-r-ne0
-returns-then-r-ne0 c = record {
-  value = c.refusal-r.ensures;
-  words_unchanged = (λ n. refl);
-  preds = λ z. absurd (c.if-r-ne0.true z);
-}
-
 pub find_preds-requires : goal.find_preds-requires
 find_preds-requires c =
     let a = c.args in
     let P = picture_of a.bounds.now a.recs.now a.locs.now a.vias.now a.types.now a.registers a.ops.now a.operands a.pairs.now a.targets.now [] in
     let z = none P a.w64 (length a.words.now) a.records c.refusal-r.ensures c.if-r-ne0.false in
     (c.table-t.ensures, graph_given P (accepted P a.w64 (length a.words.now) a.records z), words_room P a.w64 (length a.words.now) a.records z)
-
-pub returns : goal.returns
-returns c =
-    let a = c.args in
-    let P = picture_of a.bounds.now a.recs.now a.locs.now a.vias.now a.types.now a.registers a.ops.now a.operands a.pairs.now a.targets.now [] in
-    let z = none P a.w64 (length a.words.now) a.records c.refusal-r.ensures c.if-r-ne0.false in
-    record {
-      value = sym z;
-      words_unchanged = (λ n. absurd (n refl));
-      preds = λ e. preds_of P _ c.find_preds.ensures;
-    }

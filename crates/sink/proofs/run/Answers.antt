@@ -3,9 +3,6 @@ use Rattle.rounds.proofs.Going.{opening, advancing, fewer}
 use Rattle.sink.proofs.Looping.{running_start, running_next, running_many, running_more, running_end}
 use Rattle.sink.proofs.run.Goals as goal
 
-pub loop-m-init : goal.loop-m-init
-loop-m-init c = running_start _ _ _ _ _
-
 pub round-r-requires : goal.round-r-requires
 round-r-requires c =
     (c.requires.0, opening (running_next c.loop-m.invariant c.requires.1 c.loop-m-test.true), running_many c.loop-m.invariant c.requires.1 c.loop-m-test.true)

@@ -5,14 +5,5 @@ use Rattle.layout.specs.Layout.{held}
 use Rattle.host.proofs.Loads.{head_long, filled, n_locs}
 use Rattle.host.proofs.load.load_locs.Goals as goal
 
-pub slice_bounds-out-end : goal.slice_bounds-out-end
-slice_bounds-out-end c = (subst (λ (k : ℕ). k ≤ 512) (sym c.requires.1) (n_locs c.args.bytes.now c.requires.0 (held c.args.bytes.now) refl))
-
-pub slice_bounds-get_locs-end : goal.slice_bounds-get_locs-end
-slice_bounds-get_locs-end c = sym (head_long _ 512 _ refl (subst (λ (k : ℕ). k ≤ 512) (sym c.requires.1) (n_locs c.args.bytes.now c.requires.0 (held c.args.bytes.now) refl)))
-
-pub get_locs-requires : goal.get_locs-requires
-get_locs-requires c = (c.requires.0, head_long _ 512 _ refl (subst (λ (k : ℕ). k ≤ 512) (sym c.requires.1) (n_locs c.args.bytes.now c.requires.0 (held c.args.bytes.now) refl)) ∙ c.requires.1)
-
 pub returns : goal.returns
 returns c = filled _ 512 _ (subst (λ (k : ℕ). k ≤ 512) (sym c.requires.1) (n_locs c.args.bytes.now c.requires.0 (held c.args.bytes.now) refl)) c.get_locs.auto.out _ c.get_locs.ensures

@@ -5,14 +5,5 @@ use Rattle.layout.specs.Layout.{held}
 use Rattle.host.proofs.Loads.{head_long, filled, n_recs}
 use Rattle.host.proofs.load.load_recs.Goals as goal
 
-pub slice_bounds-out-end : goal.slice_bounds-out-end
-slice_bounds-out-end c = (subst (λ (k : ℕ). k ≤ 8192) (sym c.requires.1) (n_recs c.args.bytes.now c.requires.0 (held c.args.bytes.now) refl))
-
-pub slice_bounds-get_recs-end : goal.slice_bounds-get_recs-end
-slice_bounds-get_recs-end c = sym (head_long _ 8192 _ refl (subst (λ (k : ℕ). k ≤ 8192) (sym c.requires.1) (n_recs c.args.bytes.now c.requires.0 (held c.args.bytes.now) refl)))
-
-pub get_recs-requires : goal.get_recs-requires
-get_recs-requires c = (c.requires.0, head_long _ 8192 _ refl (subst (λ (k : ℕ). k ≤ 8192) (sym c.requires.1) (n_recs c.args.bytes.now c.requires.0 (held c.args.bytes.now) refl)) ∙ c.requires.1)
-
 pub returns : goal.returns
 returns c = filled _ 8192 _ (subst (λ (k : ℕ). k ≤ 8192) (sym c.requires.1) (n_recs c.args.bytes.now c.requires.0 (held c.args.bytes.now) refl)) c.get_recs.auto.out _ c.get_recs.ensures

@@ -5,14 +5,5 @@ use Rattle.layout.specs.Layout.{held}
 use Rattle.host.proofs.Loads.{head_long, filled, n_targets}
 use Rattle.host.proofs.load.load_targets.Goals as goal
 
-pub slice_bounds-out-end : goal.slice_bounds-out-end
-slice_bounds-out-end c = (subst (λ (k : ℕ). k ≤ 1024) (sym c.requires.1) (n_targets c.args.bytes.now c.requires.0 (held c.args.bytes.now) refl))
-
-pub slice_bounds-get_targets-end : goal.slice_bounds-get_targets-end
-slice_bounds-get_targets-end c = sym (head_long _ 1024 _ refl (subst (λ (k : ℕ). k ≤ 1024) (sym c.requires.1) (n_targets c.args.bytes.now c.requires.0 (held c.args.bytes.now) refl)))
-
-pub get_targets-requires : goal.get_targets-requires
-get_targets-requires c = (c.requires.0, head_long _ 1024 _ refl (subst (λ (k : ℕ). k ≤ 1024) (sym c.requires.1) (n_targets c.args.bytes.now c.requires.0 (held c.args.bytes.now) refl)) ∙ c.requires.1)
-
 pub returns : goal.returns
 returns c = filled _ 1024 _ (subst (λ (k : ℕ). k ≤ 1024) (sym c.requires.1) (n_targets c.args.bytes.now c.requires.0 (held c.args.bytes.now) refl)) c.get_targets.auto.out _ c.get_targets.ensures

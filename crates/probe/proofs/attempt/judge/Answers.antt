@@ -17,19 +17,6 @@ overflow_add-n c =
     let h = refusal_low P a.room.w64 a.room.w32 a.room.records in
     let e = c.refusal-n.ensures in omega (arith, h, e)
 
-pub returns-then-n-ne0 : goal.returns-then-n-ne0
-returns-then-n-ne0 c =
-    let a = c.args in
-    λ (replay : List ℕ).
-    let P = picture_of a.bounds.now a.recs.now a.locs.now a.vias.now a.types.now a.used.regs a.ops.now a.used.opers a.pairs.now a.targets.now replay in
-    refused_judges P a.room a.x c.refusal-n.ensures c.if-n-ne0.true c.stop.ensures
-
-pub overflow_cast-blocks : goal.overflow_cast-blocks
-overflow_cast-blocks c =
-    let a = c.args in
-    let P = picture_of a.bounds.now a.recs.now a.locs.now a.vias.now a.types.now a.used.regs a.ops.now a.used.opers a.pairs.now a.targets.now [] in
-    let h = few_blocks P (accepted P a.room.w64 a.room.w32 a.room.records (none P a.room.w64 a.room.w32 a.room.records c.refusal-n.ensures c.if-n-ne0.false)) in omega (arith, h)
-
 pub returns : goal.returns
 returns c =
     let a = c.args in

@@ -3,17 +3,10 @@ use Rattle.search.proofs.Anew.{live_ask}
 use Rattle.probe.proofs.Seeking.{beginning, looking, sees, seen}
 use Rattle.probe.proofs.attempt.seek.Goals as goal
 
-pub begin-requires : goal.begin-requires
-begin-requires c = (c.requires.0, beginning c.requires.1)
-
 pub live_in-requires : goal.live_in-requires
 live_in-requires c =
     let z = live_ask (looking c.requires.1 c.begin.ensures) _ c.wide.ensures in
     (c.requires.0, z.0, z.1, z.2)
-
-pub look_from-requires : goal.look_from-requires
-look_from-requires c =
-    sees c.requires.1 c.begin.ensures
 
 pub returns : goal.returns
 returns c =

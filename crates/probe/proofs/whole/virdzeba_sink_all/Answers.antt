@@ -11,15 +11,3 @@ tell-requires c =
     let a = c.args in
     let P = picture_of a.bounds.now a.recs.now a.locs.now a.vias.now a.types.now a.registers a.ops.now a.operands a.pairs.now a.targets.now a.replay.now in
     answer_low P (length a.work64.now) (length a.work32.now) (length a.facts.now) c.sink_all-ran.result.answer c.sink_all-ran.ensures.0
-
-pub returns : goal.returns
-returns c =
-    let d = c.sink_all-ran.ensures in (
-      record {
-        number_is = c.tell.ensures.0 ∙ d.1;
-        holds = record { bounds_are = d.4; recs_are = d.5; locs_are = d.6; vias_are = d.7; types_are = d.8; ops_are = d.9 };
-        out_is = c.tell.ensures.1 ∙ ap (with_used c.args.out.now) d.0;
-      },
-      d.10,
-      d.11,
-    )
