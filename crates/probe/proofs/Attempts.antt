@@ -37,7 +37,7 @@ use Rattle.trial.specs.Trial.{Found, IsTried, Following, Followed}
 use Rattle.probe.specs.declared.attempt.Judged.{Judged}
 use Rattle.probe.specs.declared.attempt.Ready.{Ready}
 use Rattle.probe.specs.Heads.{with_four}
-use Rattle.probe.specs.Attempt.{move_number, with_move, plan_number, with_plan, attempt, with_attempt, Left, Listed, Stopped, refused, no_block, Taken, IsJudged, Judges, Seen, MaySeek, SetsTo, Sets}
+use Rattle.probe.specs.Attempt.{move_number, with_move, plan_number, with_plan, attempt, with_attempt, Left, Listed, Stopped, refused, no_block, Taken, IsJudged, Judges, MaySeek, SetsTo, Sets}
 
 -- ---- acceptance and the block
 

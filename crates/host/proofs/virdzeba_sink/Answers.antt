@@ -1,6 +1,6 @@
 -- `virdzeba_sink` meets its contract: the number for what the call gives. Assumes nothing.
-use borrow.Author.Tests.{not-true, not-false}
-use Rattle.host.proofs.Entry.{number_unread, number_small, number_is}
+use borrow.Author.Tests.{not-false}
+use Rattle.host.proofs.Entry.{number_small}
 use lib.ListN.{length}
 use Rattle.host.proofs.virdzeba_sink.Goals as goal
 

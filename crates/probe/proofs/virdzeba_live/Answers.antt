@@ -1,5 +1,5 @@
 -- `virdzeba_live` meets its contract. Assumes nothing.
-use mathlib.Core.Path.{refl, sym, ap}
+use mathlib.Core.Path.{refl, ap}
 use mathlib.Core.List.{[]}
 use lib.ListN.{length}
 use Rattle.words.specs.Bits.{width}

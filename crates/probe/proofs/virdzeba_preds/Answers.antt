@@ -1,11 +1,10 @@
 -- `virdzeba_preds` meets its contract. Assumes nothing.
-use mathlib.Core.Path.{refl, sym}
 use mathlib.Core.List.{[]}
 use lib.ListN.{length}
 use Rattle.checks.specs.Causes.{picture_of}
 use Rattle.laws.proofs.Accepted.{accepted}
 use Rattle.flow.proofs.Accepted.{graph_given}
-use Rattle.probe.proofs.Given.{none, preds_of, words_room}
+use Rattle.probe.proofs.Given.{none, words_room}
 use Rattle.probe.proofs.virdzeba_preds.Goals as goal
 
 pub find_preds-requires : goal.find_preds-requires

@@ -1,7 +1,7 @@
 -- `put_lines` meets its contract: the lines before i are written. Assumes nothing.
 use mathlib.Core.Path.{refl, ◌∙◌}
 use native.Mathlib.Omega.{arith}
-use Rattle.report.proofs.Texts.{lines_none, lines_more, lines_all}
+use Rattle.report.proofs.Texts.{lines_none, lines_more}
 use Rattle.report.proofs.put_lines.Goals as goal
 
 pub loop-i-init : goal.loop-i-init

@@ -1,6 +1,6 @@
 -- `sink::run` meets its contract. Assumes nothing.
 use Rattle.rounds.proofs.Going.{opening, advancing, fewer}
-use Rattle.sink.proofs.Looping.{running_start, running_next, running_many, running_more, running_end}
+use Rattle.sink.proofs.Looping.{running_next, running_many, running_more, running_end}
 use Rattle.sink.proofs.run.Goals as goal
 
 pub round-r-requires : goal.round-r-requires

@@ -1,8 +1,8 @@
 -- `load::load_bounds` meets its contract: the head of a new array is read. Assumes nothing.
-use mathlib.Core.Path.{refl, sym, ◌∙◌, subst}
+use mathlib.Core.Path.{refl, sym, subst}
 use Prim.Native.Nat.{ℕ, ◌≤◌}
 use Rattle.layout.specs.Layout.{held}
-use Rattle.host.proofs.Loads.{head_long, filled, n_bounds}
+use Rattle.host.proofs.Loads.{filled, n_bounds}
 use Rattle.host.proofs.load.load_bounds.Goals as goal
 
 pub returns : goal.returns

@@ -1,8 +1,7 @@
 -- `load::load_types` meets its contract: the head of a new array is read. Assumes nothing.
 use Rattle.words.specs.Bytes.{words_of}
 use Rattle.layout.specs.Layout.{part, held, at_types}
-use mathlib.Core.Path.{refl, sym}
-use Rattle.host.proofs.Loads.{head_long, roomed}
+use Rattle.host.proofs.Loads.{roomed}
 use Rattle.host.proofs.load.load_types.Goals as goal
 
 pub returns : goal.returns

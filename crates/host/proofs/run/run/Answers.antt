@@ -1,9 +1,5 @@
 -- `run::run` meets its contract: each array's head is lent, and the heads are the picture in the bytes. Assumes nothing.
-use mathlib.Core.Path.{sym, ap}
-use Prim.Native.Nat.{◌*◌}
-use native.Mathlib.Omega.{arith}
-use Rattle.layout.specs.declared.Counts.{Counts}
-use Rattle.host.proofs.Loads.{long, head_fits, head_long, head_low, n_bounds, n_recs, n_locs, n_vias, n_regs, n_opers, n_pairs, n_targets, n_replay, in_picture, loaded_head, ran_same}
+use Rattle.host.proofs.Loads.{in_picture, loaded_head, ran_same}
 use Rattle.host.proofs.run.run.Goals as goal
 
 pub returns : goal.returns

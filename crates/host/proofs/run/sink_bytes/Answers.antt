@@ -1,7 +1,7 @@
 -- `run::sink_bytes` meets its contract: unread, past the bounds, or the call. Assumes nothing.
 use mathlib.Core.Path.{sym, ◌∙◌}
-use borrow.Author.Tests.{not-true, not-false}
-use Rattle.host.proofs.Entry.{all_within, unread, too_much, done}
+use borrow.Author.Tests.{not-false}
+use Rattle.host.proofs.Entry.{all_within, done}
 use mathlib.Core.Path.{ap}
 use mathlib.Core.Bool.{not}
 use Rattle.host.proofs.run.sink_bytes.Goals as goal

@@ -3,11 +3,9 @@ use mathlib.Core.List.{List, []}
 use Prim.Native.Nat.{ℕ}
 use native.Mathlib.Omega.{arith}
 use Rattle.checks.specs.Causes.{picture_of}
-use Rattle.laws.proofs.Accepted.{accepted}
-use Rattle.laws.proofs.Sizes.{few_blocks}
 use Rattle.probe.proofs.Given.{none}
 use Rattle.probe.proofs.Numbers.{refusal_low}
-use Rattle.probe.proofs.Attempts.{refused_judges, block_judges}
+use Rattle.probe.proofs.Attempts.{block_judges}
 use Rattle.probe.proofs.attempt.judge.Goals as goal
 
 pub overflow_add-n : goal.overflow_add-n

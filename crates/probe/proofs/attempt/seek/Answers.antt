@@ -1,6 +1,6 @@
 -- `attempt::seek` meets its contract. Assumes nothing.
 use Rattle.search.proofs.Anew.{live_ask}
-use Rattle.probe.proofs.Seeking.{beginning, looking, sees, seen}
+use Rattle.probe.proofs.Seeking.{looking, seen}
 use Rattle.probe.proofs.attempt.seek.Goals as goal
 
 pub live_in-requires : goal.live_in-requires

@@ -1,8 +1,6 @@
 -- `whole::virdzeba_sink_all` meets its contract: the call, and its answer told. Assumes nothing.
-use mathlib.Core.Path.{ap, ◌∙◌}
 use lib.ListN.{length}
 use Rattle.checks.specs.Causes.{picture_of}
-use Rattle.probe.specs.Heads.{with_used}
 use Rattle.probe.proofs.Numbers.{answer_low}
 use Rattle.probe.proofs.whole.virdzeba_sink_all.Goals as goal
 
