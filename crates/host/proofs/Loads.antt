@@ -4,7 +4,7 @@ use mathlib.Core.Bool.{true}
 use mathlib.Core.List.{List, ◌++◌}
 use Prim.Native.Nat.{ℕ, ◌-◌, ◌*◌, ◌≤◌}
 use native.Mathlib.Omega.{arith}
-use lib.ListN.{length, take, drop, replicate, length-append, length-take, length-replicate}
+use lib.ListN.{length, take, drop, replicate, length-append, length-replicate}
 use lib.Seq.{length-take-le, take_at}
 use Rattle.words.specs.Bytes.{words_of}
 use Rattle.model.specs.Picture.{Picture}
@@ -24,9 +24,6 @@ head_fits n m xs e h = subst (λ (k : ℕ). n ≤ k) (sym e) h
 
 pub head_long : (n m : ℕ) (xs : List ℕ) → length xs ≡ m → n ≤ m → length (take n xs) ≡ n
 head_long n m xs e h = length-take-le n xs (head_fits n m xs e h)
-
-pub head_low : (n m : ℕ) (xs : List ℕ) → length xs ≡ m → length (take n xs) ≤ m
-head_low n m xs e = omega (arith, length-take n xs)
 
 -- a new head of zeros
 module _ (n m : ℕ) (xs : List ℕ) (h : n ≤ m) (k : length xs ≡ length {A = ℕ} (take n (replicate m 0))) where
@@ -52,9 +49,6 @@ loaded_head {n} {m} {xs} {r} d = ap (take n) d.is ∙ take_at xs (replicate (m -
 -- ---- the sizes of what is read
 
 module _ (bs : List ℕ) (r : readable bs ≡ true) where
-  pub long : 32 ≤ length bs
-  long = (whole bs r).long
-
   module _ (c : Counts) (e : c ≡ held bs) where
     sized : Sizes c
     sized = subst Sizes (sym e) (sizes (held bs) (whole bs r).sized)
@@ -70,12 +64,6 @@ module _ (bs : List ℕ) (r : readable bs ≡ true) where
 
     pub n_vias : c.vias ≤ 512
     n_vias = sized.vias_fit
-
-    pub n_regs : c.registers ≤ 512
-    n_regs = sized.registers_fit
-
-    pub n_opers : c.operands ≤ 2048
-    n_opers = sized.operands_fit
 
     pub n_pairs : c.pairs ≤ 256
     n_pairs = sized.pairs_fit

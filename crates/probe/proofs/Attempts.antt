@@ -42,9 +42,6 @@ use Rattle.probe.specs.Attempt.{move_number, with_move, plan_number, with_plan, 
 -- ---- acceptance and the block
 
 module _ (P : Picture) (r : Room) (x : ℕ) where
-  pub refused_judges : {n : ℕ} {j : Judged} → n ≡ refusal P r.w64 r.w32 r.records → (n ≡ 0 → ⊥) → (j.block ≡ blocks.Not) × (j.number ≡ 200 + n) → Judges P r x j
-  refused_judges {n} {j} e h t = record { is = subst (IsJudged P r x j) (sym t.0) (refused (λ z. h (e ∙ z)) (t.1 ∙ ap (λ (k : ℕ). 200 + k) e)) }
-
   module _ (ok : refusal P r.w64 r.w32 r.records ≡ 0) where
     by_new : (o : MaybeBlock) → block_of x (nblocks P) ≡ o → Judges P r x (record { block = o; number = 300; sizes = sizes_of P })
     by_new (blocks.Is b) e = let i = is_block x (nblocks P) b e in record { is = record { accepted = ok; is_block = i.1; block_is = sym i.0; sizes_are = refl } }

@@ -1,6 +1,6 @@
 -- What `flow`'s functions leave, said of the whole picture; and what a refusal of 0 gives of the words lent. Assumes nothing.
 use mathlib.Core.Path.{◌≡◌, sym, ◌∙◌, subst}
-use mathlib.Core.List.{List, []}
+use mathlib.Core.List.{List}
 use Prim.Native.Nat.{ℕ, ◌*◌, ◌≤◌}
 use native.Mathlib.Omega.{arith}
 use Rattle.model.specs.Picture.{Picture, nblocks}
@@ -8,15 +8,10 @@ use Rattle.model.specs.Refusal.{refusal}
 use Rattle.laws.proofs.Accepted.{work_room}
 use Rattle.cfg.specs.Drawn.{drawn}
 use Rattle.flow.specs.Live.{Live}
-use Rattle.cfg.specs.Preds.{Told, Preds}
-use Rattle.flow.proofs.Whole.{preds_whole, live-rows_whole}
+use Rattle.flow.proofs.Whole.{live-rows_whole}
 
-module _ (P : Picture) where
-  pub live_of : (w v : ℕ) (bits : List ℕ) → w ≡ v → Live (drawn P.bounds P.recs P.ops P.pairs P.targets) w bits → Live P v bits
-  live_of w v bits e l = subst (λ (k : ℕ). Live P k bits) e (live-rows_whole P w bits l)
-
-  pub preds_of : (words : List ℕ) → Preds (drawn P.bounds P.recs [] P.pairs P.targets) words → Preds P words
-  preds_of words l = record { told = λ b h. subst (Told words b) (preds_whole P [] b) (l.told b h) }
+pub live_of : (P : Picture) (w v : ℕ) (bits : List ℕ) → w ≡ v → Live (drawn P.bounds P.recs P.ops P.pairs P.targets) w bits → Live P v bits
+live_of P w v bits e l = subst (λ (k : ℕ). Live P k bits) e (live-rows_whole P w bits l)
 
 -- an answer of 0
 pub none : {r : ℕ} (P : Picture) (w64 w32 nf : ℕ) → r ≡ refusal P w64 w32 nf → r ≡ 0 → refusal P w64 w32 nf ≡ 0

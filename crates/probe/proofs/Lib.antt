@@ -1,5 +1,4 @@
 pub mod Given
-pub mod Heads
 pub mod Numbers
 pub mod Seeking
 pub mod Attempts

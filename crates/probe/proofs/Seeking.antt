@@ -1,42 +1,20 @@
 -- The search from one block of an accepted picture: what each step asks, and what the last one leaves. Assumes nothing.
-use mathlib.Core.Path.{◌≡◌, refl, sym, ◌∙◌, subst}
+use mathlib.Core.Path.{◌≡◌, sym, ◌∙◌, subst}
 use mathlib.Core.List.{List}
-use Prim.Native.Nat.{ℕ, ◌<◌}
+use Prim.Native.Nat.{ℕ}
 use lib.ListN.{length}
 use Rattle.words.specs.Bits.{width}
 use Rattle.model.specs.Picture.{Picture}
 use Rattle.model.specs.Analyse.{facts}
-use Rattle.inst.specs.declared.index.BlockId.{BlockId}
-use Rattle.inst.specs.declared.index.MaybeBlock.TheVariants as blocks
 use Rattle.sizes.specs.declared.Sizes.{Sizes}
 use Rattle.chainwords.specs.Work.{Shown, Begun}
 use Rattle.search.specs.declared.find.MaybeLook.{MaybeLook}
-use Rattle.search.specs.declared.find.MaybeLook.TheVariants as looks
-use Rattle.search.specs.Search.{Beginning, Began, Looking, Seeking, Looked}
+use Rattle.search.specs.Search.{Began, Looking, Looked}
 use Rattle.search.proofs.Looked.{shown_at}
-use Rattle.search.proofs.Anew.{Anew, sees_of, held_anew, seeking}
-use Rattle.probe.specs.declared.attempt.Judged.{Judged}
-use Rattle.probe.specs.Attempt.{Asking, Seen, MaySeek, SetsTo, Sets}
+use Rattle.search.proofs.Anew.{Anew, sees_of, held_anew}
+use Rattle.probe.specs.Attempt.{Asking, Seen}
 
 module _ {bounds recs ops pairs targets replay : List ℕ} {s : Sizes} {work64 work32 : List ℕ} {x : ℕ} (a : Asking bounds recs ops pairs targets replay s (length work64) (length work32) x) where
-  pub beginning : Beginning bounds recs ops pairs targets work64 work32 s
-  beginning =
-      let l = a.shown.lists in
-      let t = a.shown.tabled in
-      record {
-        P = a.P;
-        accepted = l.accepted;
-        bounds_are = l.bounds_are;
-        recs_are = l.recs_are;
-        ops_are = l.ops_are;
-        pairs_are = t.pairs_are;
-        targets_are = t.targets_are;
-        blocks_are = l.blocks_are;
-        lent_are = l.lent_are;
-        insts_are = l.insts_are;
-        regs_are = l.regs_are;
-      }
-
   module _ {work64' work32' : List ℕ} (b : Began bounds recs ops pairs targets work64 work32 s work64' work32') where
     -- of every picture that these lists show: what the call begins with, and that they still show it
     begun : (P : Picture) → Shown P bounds recs ops pairs targets replay s (length work64) (length work32) → Begun P (facts P) work64' work32'
@@ -56,9 +34,6 @@ module _ {bounds recs ops pairs targets replay : List ℕ} {s : Sizes} {work64 w
       begun = begun a.P a.shown;
     }
 
-    pub sees : Seeking bounds recs replay s work32' × (x < s.blocks)
-    sees = (seeking looking, subst (λ (n : ℕ). x < n) (sym a.shown.lists.blocks_are) a.is_block)
-
     -- with live-in made
     pub seen : {r : ℕ} {bits : List ℕ} {o : MaybeLook} → r ≡ s.regs → Anew bounds recs pairs targets work64' bits (width r) → Looked bounds recs replay s work32' x o
         → Seen bounds recs ops pairs targets replay s work64 work32 bits work32' x o
@@ -68,18 +43,3 @@ module _ {bounds recs ops pairs targets replay : List ℕ} {s : Sizes} {work64 w
       held = λ P sh. held_anew er n P (facts P) (shown_after P sh) (begun P sh);
       is = λ P sh. l.is P (sees_of (shown_after P sh) (begun P sh));
     }
-
--- ---- the block that was judged, if there is one
-
-module _ {bounds recs ops pairs targets replay : List ℕ} (j : Judged) where
-  pub asking : {w64 w32 : ℕ} {b : BlockId} → j.block ≡ blocks.Is b → MaySeek bounds recs ops pairs targets replay j.sizes w64 w32 j.block
-      → Asking bounds recs ops pairs targets replay j.sizes w64 w32 b.0
-  asking {w64} {w32} e m = subst (MaySeek bounds recs ops pairs targets replay j.sizes w64 w32) e m
-
-  module _ {work64 work32 : List ℕ} where
-    pub sets_none : j.block ≡ blocks.Not → Sets bounds recs ops pairs targets replay j work64 work32 work64 work32 (record { next = looks.Not; number = j.number; sizes = j.sizes })
-    sets_none e = record { is = subst (SetsTo bounds recs ops pairs targets replay j work64 work32 work64 work32 (record { next = looks.Not; number = j.number; sizes = j.sizes })) (sym e) (refl, refl, refl, refl) }
-
-    pub sets_some : {work64' work32' : List ℕ} {b : BlockId} {o : MaybeLook} → j.block ≡ blocks.Is b → Seen bounds recs ops pairs targets replay j.sizes work64 work32 work64' work32' b.0 o
-        → Sets bounds recs ops pairs targets replay j work64 work32 work64' work32' (record { next = o; number = 0; sizes = j.sizes })
-    sets_some {work64'} {work32'} {b} {o} e z = record { is = subst (SetsTo bounds recs ops pairs targets replay j work64 work32 work64' work32' (record { next = o; number = 0; sizes = j.sizes })) (sym e) (refl, refl, z) }

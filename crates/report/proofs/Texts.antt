@@ -17,7 +17,7 @@ use Rattle.model.specs.declared.Answer.{Answer}
 use Rattle.model.specs.declared.Answer.TheVariants.{Done, Short, Refused}
 use Rattle.model.specs.Pass.{Outcome, rounds}
 use Rattle.layout.specs.Layout.{readable, padded, picture_in}
-use Rattle.layout.specs.Text.{Put, digits, line, round_heading, answer_heading, last_line, text, unread_line, unread_text}
+use Rattle.layout.specs.Text.{Put, digits, line, round_heading, answer_heading, last_line, text, unread_text}
 use Rattle.layout.proofs.Placing.{put_then, short}
 use Rattle.layout.proofs.Reading.{sets_zeros}
 use Rattle.host.specs.declared.run.Reply.{Reply}
@@ -77,9 +77,6 @@ lines_more {b} {m} {a} {at} {p} {r} ws i h k =
     subst (λ (t : List ℕ). Placed b at t (66 * (i + 1)) a r) (sym (lines_snoc ws i))
     record { made = q.made; next = q.next; short = omega (arith, length-append (lines_text i ws) (line (line_at ws i)), h.short) }
 
-pub lines_all : {b a : List ℕ} {at r : ℕ} (ws : List ℕ) (i n : ℕ) → i ≡ n → Placed b at (lines_text i ws) (66 * i) a r → Placed b at (lines_text n ws) (66 * n) a r
-lines_all {b} {a} {at} {r} ws i n e h = subst (λ (k : ℕ). Placed b at (lines_text k ws) (66 * k) a r) e h
-
 -- ---- the lines of an outcome
 
 six_is : (l rest : List ℕ) → length l ≡ 6 → line_at (l ++ rest) 0 ≡ l
@@ -133,9 +130,6 @@ ran_placed {b} {m} {n} {q} {a} {p} {r} {s} {t} ws k x e few h l y z =
       next = w.next;
       short = omega (arith, length-append (round_heading ++ lines_text k ws ++ answer_heading) (last_line x), length-append (round_heading ++ lines_text k ws) answer_heading, length-append round_heading (lines_text k ws), answer_low x);
     }
-
-pub unread_placed : {b m n a : List ℕ} {p r s : ℕ} → Put b 0 round_heading m p → Put m p answer_heading n r → Put n r unread_line a s → Placed b 0 unread_text 602 a s
-unread_placed h y z = let w = put_then (put_then h y) z in record { made = w.made; next = w.next; short = omega arith }
 
 -- ---- the whole
 

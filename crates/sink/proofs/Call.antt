@@ -97,11 +97,6 @@ PromisedHere P work64 work32 n r bounds recs locs vias types ops work64' work32'
     × Work cause work64 work32 work64' work32'
     × (cause ≡ 0 → Kept P (picture_of bounds recs locs vias types (registers r.answer) ops (operands r.answer) P.pairs P.targets P.replay) (rounds r.answer))
 
-pub without_list : {P : Picture} {work64 work32 : List ℕ} {fs : List Fact} {n : ℕ} (r : Ran) {bounds recs locs vias types ops work64' work32' : List ℕ} {fs' : List Fact} → length fs ≡ n
-    → Promised P work64 work32 fs r bounds recs locs vias types ops work64' work32' fs' → PromisedHere P work64 work32 n r bounds recs locs vias types ops work64' work32'
-without_list {P} {work64} {work32} {fs} {n} r {bounds} {recs} {locs} {vias} {types} {ops} {work64'} {work32'} e d =
-    subst (λ (k : ℕ). PromisedHere P work64 work32 k r bounds recs locs vias types ops work64' work32') e (d.0, d.1, d.2, d.3, d.4, d.5, d.6, d.7, d.8, d.9, d.10, d.12)
-
 module _ (P : Picture) (work64 work32 : List ℕ) (fs : List Fact) where
   abbrev o : Outcome
   o = sink P (length work64) (length work32) (length fs)

@@ -1,5 +1,5 @@
 -- The call's loop (01, "A round"): where it has come to after some rounds, and what it then gives. Assumes nothing.
-use mathlib.Core.Path.{◌≡◌, refl, sym, ◌∙◌, subst}
+use mathlib.Core.Path.{◌≡◌, sym, ◌∙◌, subst}
 use mathlib.Core.Bool.{true, false}
 use mathlib.Core.List.{List}
 use Prim.Native.Nat.{ℕ, ◌≤◌}
@@ -29,16 +29,6 @@ pub record Running (Q : Picture) (m : At) (work64 work32 : List ℕ) (fs : List 
   pub size32 : length work32' ≡ length work32
   pub size : length fs' ≡ length fs
   pub kept : (P : Picture) (w64 w32 : ℕ) → Going P w64 w32 (length fs) Q m work64 work32 → (refusal P w64 w32 (length fs) ≡ 0 → ⊥) → (work64' ≡ work64) × (work32' ≡ work32) × (fs' ≡ fs)
-
-pub running_start : (Q : Picture) (m : At) (work64 work32 : List ℕ) (fs : List Fact) → Running Q m work64 work32 fs Q m work64 work32 fs
-running_start Q m work64 work32 fs = record {
-  still = λ P w64 w32 g. g;
-  sized = record { bounds = refl; recs = refl; locs = refl; vias = refl; types = refl; ops = refl };
-  size64 = refl;
-  size32 = refl;
-  size = refl;
-  kept = λ P w64 w32 g h. (refl, refl, refl);
-}
 
 module _ {Q : Picture} {m : At} {work64 work32 : List ℕ} {fs : List Fact} {Z : Picture} {q : At} {work64' work32' : List ℕ} {fs' : List Fact} (r : Running Q m work64 work32 fs Z q work64' work32' fs') where
   -- a round is to be tried
