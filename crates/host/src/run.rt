@@ -11,7 +11,7 @@ use crate::load::{
 };
 use layout::read::{counts, readable};
 use layout::write::write_picture;
-use layout::{BLOCKS, OPERANDS, PICTURE_BYTES, REGISTERS};
+use layout::{BLOCKS, OPERANDS, PICTURE_BYTES, RECS, REGISTERS, TARGETS};
 use model::{Answer, CHAIN_WORDS};
 use rounds::state::Ran;
 use sink::here::sink_here;
@@ -139,13 +139,16 @@ fn run(picture: &[u8], res: &mut [u8], registers: usize, operands: usize) -> Ran
     let ng = c.targets;
     let ny = c.replay;
     let mut bounds = load_bounds(picture, nb);
-    let mut recs = load_recs(picture, nr);
+    let mut recs = [0u32; RECS];
+    load_recs(picture, nr, &mut recs);
     let mut locs = load_locs(picture, ni);
     let mut vias = load_vias(picture, nv);
     let mut types = load_types(picture, registers);
-    let mut ops = load_ops(picture, operands);
+    let mut ops = [0u32; OPERANDS];
+    load_ops(picture, operands, &mut ops);
     let pairs = load_pairs(picture, np);
-    let targets = load_targets(picture, ng);
+    let mut targets = [0u32; TARGETS];
+    load_targets(picture, ng, &mut targets);
     let replay = load_replay(picture, ny);
     let regs = c.registers as u32;
     let opers = c.operands as u32;

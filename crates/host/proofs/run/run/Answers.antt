@@ -4,4 +4,4 @@ use Rattle.host.proofs.run.run.Goals as goal
 
 pub returns : goal.returns
 returns c =
-    ran_same _ _ (in_picture c.args.picture.now c.args.registers c.args.operands c.counts-c.result c.counts-c.ensures _ _ _ _ _ _ _ _ _ (loaded_head c.load_bounds-bounds.ensures) (loaded_head c.load_recs-recs.ensures) (loaded_head c.load_locs-locs.ensures) (loaded_head c.load_vias-vias.ensures) (loaded_head c.load_types-types.ensures) (loaded_head c.load_ops-ops.ensures) (loaded_head c.load_pairs-pairs.ensures) (loaded_head c.load_targets-targets.ensures) (loaded_head c.load_replay-replay.ensures)) c.sink_into.ensures
+    ran_same _ _ (in_picture c.args.picture.now c.args.registers c.args.operands c.counts-c.result c.counts-c.ensures _ _ _ _ _ _ _ _ _ (loaded_head c.load_bounds-bounds.ensures) (loaded_head c.load_recs.ensures) (loaded_head c.load_locs-locs.ensures) (loaded_head c.load_vias-vias.ensures) (loaded_head c.load_types-types.ensures) (loaded_head c.load_ops.ensures) (loaded_head c.load_pairs-pairs.ensures) (loaded_head c.load_targets.ensures) (loaded_head c.load_replay-replay.ensures)) c.sink_into.ensures
