@@ -70,8 +70,11 @@ def refused(crate, said):
 
 
 def function(crate, path, line):
-    """The function at this line of a source file, by its modules; an edit changes lines, and moves none."""
-    lines = open(f"crates/{crate}/{path}").readlines()[:line]
+    """The function at this line of a source file, by its modules (an attribute counts as its function's); an edit changes lines, and moves none."""
+    lines = open(f"crates/{crate}/{path}").readlines()
+    while lines[line - 1].startswith("#["):
+        line += 1
+    lines = lines[:line]
     heads = map(re.compile(r'\s*(?:pub(?:\(crate\))? )?(?:extern "C" )?(?:fn|struct|enum) (\w+)').match, lines)
     name = [m.group(1) for m in heads if m][-1:]
     module = path.removeprefix("src/").removesuffix(".rt")

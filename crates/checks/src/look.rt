@@ -22,6 +22,7 @@ pub struct Found {
 }
 
 // Of n records.
+#[tactic(auto, using(crate::proofs::Given::within))]
 pub fn look(t: &[u32; 202], recs: &[u32], n: usize, r: u32, opers: u32, blocks: usize) -> Found
     requires { (t.now ≡ rows) × (16 * n ≤ length recs.now) }
     ensures { result ≡ found r opers blocks (code recs.now n) }

@@ -28,9 +28,6 @@ bad_list-lists-requires c = (c.requires.0, known _ _ (within _ _ _ c.requires.1 
 pub bad_branch-branches-requires : goal.bad_branch-branches-requires
 bad_branch-branches-requires c = within _ _ _ c.requires.1 c.loop-p-test.true
 
-pub long_cat-cats-requires : goal.long_cat-cats-requires
-long_cat-cats-requires c = within _ _ _ c.requires.1 c.loop-p-test.true
-
 pub skip-p-requires : goal.skip-p-requires
 skip-p-requires c = (c.requires.0, c.requires.1, search rules)
 
@@ -39,7 +36,7 @@ loop-p-smaller c = let z = c.skip-p.ensures.from in omega arith
 
 pub loop-p-preserved : goal.loop-p-preserved
 loop-p-preserved c = let a = c.args in let i = inst a.recs.now c.loop-p.p in
-    (c.skip-p.ensures.upto, seen_past _ _ _ _ c.requires.1 (seen_more _ _ _ _ _ c.loop-p.invariant.1 c.bad_kind.ensures c.if-bad_kind.false c.bad_regs_at-regs.ensures (c.bad_list-lists.ensures ∙ ap (λ (o : ℕ). bad_list o i) c.wide-used.ensures) c.bad_branch-branches.ensures c.long_cat-cats.ensures) c.skip-p.ensures)
+    (c.skip-p.ensures.upto, seen_past _ _ _ _ c.requires.1 (seen_more _ _ _ _ _ c.loop-p.invariant.1 c.bad_kind.ensures c.if-bad_kind.false c.bad_regs_at-regs.ensures (c.bad_list-lists.ensures ∙ ap (λ (o : ℕ). bad_list o i) c.wide-used.ensures) c.bad_branch-branches.ensures (cc)) c.skip-p.ensures)
 
 pub returns : goal.returns
 returns c = seen_all _ _ _ _ c.loop-p.invariant.0 c.loop-p-test.false c.loop-p.invariant.1
