@@ -1,6 +1,6 @@
 // A picture's slices from its bytes (01, "One listing whole"), each at the head of an array of the program's size, zeros behind.
-// The three largest arrays are lent, of zeros, so that none is on the stack twice.
-ghost use Rattle.std.specs.Prelude.{◌≡◌, true, ◌*◌, ◌≤◌, replicate};
+// The three largest arrays are lent, so that none is on the stack twice.
+ghost use Rattle.std.specs.Prelude.{◌≡◌, true, ◌*◌, ◌≤◌};
 ghost use Rattle.layout.specs.Layout.{readable, held, picture_in};
 ghost use Rattle.words.specs.Bytes.{words_of};
 ghost use Rattle.host.specs.Host.{Loaded};
@@ -10,6 +10,7 @@ use layout::read::{
     get_vias,
 };
 use layout::{BOUNDS, INSTS, OPERANDS, PAIRS, RECS, REGISTERS, REPLAY, TARGETS, VIAS};
+use words::copy::fill;
 
 // The block bounds, n words.
 pub fn load_bounds(bytes: &[u8], n: usize) -> [u32; BOUNDS]
@@ -23,9 +24,10 @@ pub fn load_bounds(bytes: &[u8], n: usize) -> [u32; BOUNDS]
 
 // The records.
 pub fn load_recs(bytes: &[u8], n: usize, out: &mut [u32; RECS])
-    requires { (readable bytes.now ≡ true) × (n ≡ 16 * (held bytes.now).insts) × (out.old ≡ replicate 8192 0) }
+    requires { (readable bytes.now ≡ true) × (n ≡ 16 * (held bytes.now).insts) }
     ensures { Loaded n 8192 (picture_in (words_of bytes.now) 0 0).recs out.new }
 {
+    fill(out, 0);
     get_recs(bytes, &mut out[..n]);
 }
 
@@ -61,9 +63,10 @@ pub fn load_types(bytes: &[u8], n: usize) -> [u32; REGISTERS]
 
 // The operands, as many as are lent.
 pub fn load_ops(bytes: &[u8], n: usize, out: &mut [u32; OPERANDS])
-    requires { (readable bytes.now ≡ true) × (n ≤ 2048) × (out.old ≡ replicate 2048 0) }
+    requires { (readable bytes.now ≡ true) × (n ≤ 2048) }
     ensures { Loaded n 2048 (picture_in (words_of bytes.now) 0 n).ops out.new }
 {
+    fill(out, 0);
     get_ops(bytes, &mut out[..n]);
 }
 
@@ -79,9 +82,10 @@ pub fn load_pairs(bytes: &[u8], n: usize) -> [u32; PAIRS]
 
 // The case targets.
 pub fn load_targets(bytes: &[u8], n: usize, out: &mut [u32; TARGETS])
-    requires { (readable bytes.now ≡ true) × (n ≡ (held bytes.now).targets) × (out.old ≡ replicate 1024 0) }
+    requires { (readable bytes.now ≡ true) × (n ≡ (held bytes.now).targets) }
     ensures { Loaded n 1024 (picture_in (words_of bytes.now) 0 0).targets out.new }
 {
+    fill(out, 0);
     get_targets(bytes, &mut out[..n]);
 }
 

@@ -1,12 +1,12 @@
 -- `run::run` meets its contract: each array's head is lent, and the heads are the picture in the bytes. Assumes nothing.
-use mathlib.Core.Path.{refl, ap}
+use mathlib.Core.Path.{ap}
 use Prim.Native.Nat.{◌*◌}
 use Rattle.layout.specs.declared.Counts.{Counts}
 use Rattle.host.proofs.Loads.{in_picture, loaded_head, ran_same}
 use Rattle.host.proofs.run.run.Goals as goal
 
 pub load_recs-requires : goal.load_recs-requires
-load_recs-requires c = (c.requires.0, ap (λ (k : Counts). 16 * k.insts) c.counts-c.ensures, refl)
+load_recs-requires c = (c.requires.0, ap (λ (k : Counts). 16 * k.insts) c.counts-c.ensures)
 
 pub returns : goal.returns
 returns c =
