@@ -12,7 +12,7 @@ SHAPE = {'Br': 1, 'CondBr': 2, 'Case': 3}
 # what a slot does at forms 0, 1 and from 2 on: 0 nothing, 1 reads, 2 writes
 DOES = {'Def': '222', 'Use': '111', 'Def?': '222', 'Use?': '111', 'Use-but-1': '101', 'Use-from-2': '001', 'Def-if-1': '121'}
 FORM = 'at 0', 'at 1', 'from 2'
-print('pub const ROWS: [u32; 202] = [')
+print('const ROWS: [u32; WORDS] = [')
 used = []
 for k in KINDS:
     n, kind, slots = k.number, k.name, k.slots

@@ -8,7 +8,6 @@ pub mod gates; // gates.rt: the three gates
 
 ghost use Rattle.std.specs.Prelude.{◌≡◌, []};
 ghost use Rattle.model.specs.Refusal.{refusal};
-ghost use Rattle.inst.specs.Table.{rows};
 ghost use Rattle.checks.specs.Causes.{picture_of};
 
 use crate::blocks::gaps;
@@ -16,6 +15,7 @@ use crate::lengths::{too_many, too_short, unlike};
 use checks::branches::bad_targets;
 use checks::lists::{bad_lists, bad_types};
 use checks::look::look;
+use inst::table::Table;
 use sizes::{InUse, Room};
 
 // The lowest number whose cause is present in the picture, or 0, given the lengths of the two work slices and the records
@@ -31,9 +31,8 @@ pub fn refusal(
     targets: &[u32],
     used: InUse,
     room: Room,
-    table: &[u32; 202],
+    table: &Table,
 ) -> u32
-    requires { table.now ≡ rows }
     ensures { result ≡ refusal (picture_of bounds.now recs.now locs.now vias.now types.now used.regs ops.now used.opers pairs.now targets.now []) room.w64 room.w32 room.records }
 {
     let b = bounds.len();

@@ -54,7 +54,7 @@ pub record Chained (recs ops bounds : List ℕ) (c : Chain) (R : ℕ) (regs₀ :
   pub ran : Ran recs ops regs₀ w₀ regs w 0 R places
   pub rest : (P : Picture) → P.bounds ≡ bounds → places ++ left_of P (blocks_of c) x.k x.g x.past ≡ chain_places P (blocks_of c)
 
-module _ {t recs ops regs bounds : List ℕ} {facts : List F.Fact} {c : Chain} {R : ℕ} (y : Ready t recs ops regs facts bounds c R) where
+module _ {recs ops regs bounds : List ℕ} {facts : List F.Fact} {c : Chain} {R : ℕ} (y : Ready recs ops regs facts bounds c R) where
   abbrev bs : List ℕ
   bs = blocks_of c
 
@@ -98,8 +98,8 @@ module _ {t recs ops regs bounds : List ℕ} {facts : List F.Fact} {c : Chain} {
     good_at : Learnable recs ops R x.g
     good_at = let i = h.standing.inside in y.good x.k x.g i.block (omega (arith, l, i.fits))
 
-    pub learn_ready : (t ≡ rows) × Ranged R p regs₁ × Learnable recs ops R x.g × (p + 1 < 1000)
-    learn_ready = (y.table, (safe_at h).ranged, good_at, omega (arith, few_yet))
+    pub learn_ready : Ranged R p regs₁ × Learnable recs ops R x.g × (p + 1 < 1000)
+    learn_ready = ((safe_at h).ranged, good_at, omega (arith, few_yet))
 
     goes_on : {regs₂ : List ℕ} {w₂ : List F.Fact} {z : Cursor} → Ran recs ops regs₁ w₁ regs₂ w₂ p R (x.g ∷ []) → Standing bounds c z → ((P : Picture) → P.bounds ≡ bounds → left_of P bs x.k x.g x.past ≡ x.g ∷ left_of P bs z.k z.g z.past)
         → Chained recs ops bounds c R regs₀ w regs₂ w₂ z (p + 1)

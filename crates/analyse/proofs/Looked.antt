@@ -1,4 +1,5 @@
 -- What is looked up of a register. Assumes nothing.
+use Rattle.std.specs.Prelude.{Option}
 use mathlib.Core.Bool.{Bool, true, false, cond}
 use mathlib.Core.List.{List}
 use mathlib.Core.Option.{Option, none, some}
@@ -11,7 +12,7 @@ use lib.ListN.{get_or, length, get_or-eq_default}
 use Rattle.model.specs.Picture.{absent}
 use Rattle.model.specs.Analyse.{Facts, Fact, Known, unknown, Org, Unknown, Ro, Frame, no_fact, last_writer, org_of, len_of, when_some, known_of, small, positive, Read}
 use Rattle.inst.specs.Index.{reg_of, word_of, Among}
-use Rattle.inst.specs.declared.index.MaybeReg.{MaybeReg}
+use Rattle.inst.specs.declared.index.Reg.{Reg}
 use Rattle.inst.proofs.Indices.{reg_made, among_made}
 use Rattle.effects.specs.Origin.{org_at, num}
 use Rattle.effects.proofs.Origins.{num_le}
@@ -141,7 +142,7 @@ left_org {n} {v} {w} {x} e g q = subst (λ (z : ℕ). z < 4 + 2 * n) (sym (ap (�
 
 -- ---- a word of what is read, made a register
 
-module _ {R n : ℕ} {regs : List ℕ} (g : Ranged R n regs) (r : ℕ) {m : MaybeReg} where
+module _ {R n : ℕ} {regs : List ℕ} (g : Ranged R n regs) (r : ℕ) {m : Option Reg} where
   pub made_reg : Reg? R r → m ≡ reg_of r R → Among R m × (word_of m ≡ r)
   made_reg h e = reg_made r R (omega (arith, g.in_use, g.lent)) h e
 

@@ -4,7 +4,6 @@ use Rattle.model.specs.Kinds.{row, cat}
 use Rattle.model.specs.Picture.{Picture, inst, kind, absent, reads, writes, list_of}
 use Rattle.model.specs.Analyse.{Facts, Fact, fact, analyse}
 use Rattle.model.specs.Move.{chain_places}
-use Rattle.inst.specs.Table.{rows}
 use Rattle.inst.specs.Record.{present}
 use Rattle.inst.specs.declared.access.Firsts.{Firsts}
 use Rattle.effects.specs.Origin.{num}
@@ -115,8 +114,7 @@ pub record Begun (bounds : List ℕ) (c : Chain) (R : ℕ) (regs regs' : List �
   pub all : (P : Picture) → P.bounds ≡ bounds → chain_places P (blocks_of c) ≡ left_of P (blocks_of c) x.k x.g x.past
 
 -- chain c can be analysed, and so can each record up to the end of one of its blocks
-pub record Ready (t recs ops regs : List ℕ) (facts : List F.Fact) (bounds : List ℕ) (c : Chain) (R : ℕ) : Type 0 where
-  pub table : t ≡ rows
+pub record Ready (recs ops regs : List ℕ) (facts : List F.Fact) (bounds : List ℕ) (c : Chain) (R : ℕ) : Type 0 where
   pub in_use : R ≤ length regs
   pub lent : length regs ≤ 65536
   pub room : 800 ≤ length facts

@@ -9,6 +9,7 @@ use crate::marks::forget;
 use chains::chain::Chain;
 use chains::cursor::{Cursor, first, next};
 use facts::{Fact, put};
+use inst::table::Table;
 
 // No register has a writer yet, and the cursor stands at the first position.
 fn begin(regs: &mut [u64], bounds: &[u32], c: Chain, count: usize) -> Cursor
@@ -21,7 +22,7 @@ fn begin(regs: &mut [u64], bounds: &[u32], c: Chain, count: usize) -> Cursor
 
 // The facts of chain c, with `count` registers in use. The answer is the number of positions.
 pub fn analyse(
-    t: &[u32; 202],
+    t: &Table,
     recs: &[u32],
     ops: &[u32],
     regs: &mut [u64],
@@ -30,7 +31,7 @@ pub fn analyse(
     c: Chain,
     count: usize,
 ) -> u32
-    requires { Ready t.now recs.now ops.now regs.old facts.old bounds.now c count }
+    requires { Ready recs.now ops.now regs.old facts.old bounds.now c count }
     ensures { Analysed recs.now ops.now regs.old (bare facts.old) bounds.now c count result regs.new (bare facts.new) }
 {
     let mut at = begin(regs, bounds, c, count);

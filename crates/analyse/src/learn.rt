@@ -3,7 +3,6 @@
 ghost use Rattle.std.specs.Prelude.{◌≡◌, ◌+◌, ◌<◌};
 ghost use Rattle.model.specs.Picture.{inst};
 ghost use Rattle.model.specs.Analyse.{may_suspend};
-ghost use Rattle.inst.specs.Table.{rows};
 ghost use Rattle.inst.specs.Record.{Within};
 ghost use Rattle.analyse.specs.State.{Ranged};
 ghost use Rattle.analyse.specs.Step.{more, fact_of, Learnable, Learned};
@@ -15,7 +14,7 @@ use facts::Fact;
 use inst::access::{Firsts, row_at, scan, uses};
 use inst::kinds::{CALL, CALL_INDIRECT, CALL_PROT, SUSPEND};
 use inst::record::{form, kind};
-use inst::table::arm;
+use inst::table::{Table, arm};
 use model::ABSENT;
 
 // May record g suspend?
@@ -61,7 +60,7 @@ fn fact_of(g: usize, e: Effect, stops: bool, x: Firsts) -> Fact
 
 // Position p: record g.
 pub fn learn_one(
-    t: &[u32; 202],
+    t: &Table,
     recs: &[u32],
     ops: &[u32],
     regs: &mut [u64],
@@ -69,7 +68,7 @@ pub fn learn_one(
     p: u32,
     count: usize,
 ) -> Fact
-    requires { (t.now ≡ rows) × Ranged count p regs.old × Learnable recs.now ops.now count g × (p + 1 < 1000) }
+    requires { Ranged count p regs.old × Learnable recs.now ops.now count g × (p + 1 < 1000) }
     ensures { Learned recs.now ops.now regs.old regs.new p count g result }
 {
     let u = uses(t, recs, g);

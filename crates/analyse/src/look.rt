@@ -9,7 +9,7 @@ ghost use Rattle.effects.specs.Origin.{org_at};
 ghost use Rattle.regfacts.specs.Flags.{flags_of, Seen};
 ghost use Rattle.analyse.specs.State.{Marked, Ranged, Valued, left_in};
 
-use inst::index::MaybeReg;
+use inst::index::Reg;
 use regfacts::flags::FLAGS;
 
 // What the last writer left stands over it and the flags, by this; in it whether that is a length stands over where it points, and
@@ -54,11 +54,11 @@ fn left_in(v: u64) -> Value
 }
 
 // What is known of the value of register r, if that is one.
-pub fn value_of(regs: &[u64], r: MaybeReg) -> Value
+pub fn value_of(regs: &[u64], r: Option<Reg>) -> Value
     requires { Among (length regs.now) r }
     ensures { (count n : ℕ) → Among count r → Ranged count n regs.now → (result.org < 4 + 2 * n) × ((G : Facts) (past : List Fact) → length past ≡ n → Marked G past count regs.now → Valued G past (word_of r) result) }
 {
-    let MaybeReg::Is(k) = r else {
+    let Some(k) = r else {
         return Value {
             org: 0,
             len: false,
@@ -77,11 +77,11 @@ pub fn value_of(regs: &[u64], r: MaybeReg) -> Value
 }
 
 // Is register r a constant above 0?
-pub fn is_divisor(regs: &[u64], r: MaybeReg) -> bool
+pub fn is_divisor(regs: &[u64], r: Option<Reg>) -> bool
     requires { Among (length regs.now) r }
     ensures { (G : Facts) (count : ℕ) → Among count r → count ≤ 65536 → Seen G count regs.now → result ≡ when_some positive (known_of G (word_of r)).konst }
 {
-    let MaybeReg::Is(k) = r else {
+    let Some(k) = r else {
         return false;
     };
     regs[k.at()] / 8 % 2 == 1

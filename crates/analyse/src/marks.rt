@@ -9,7 +9,7 @@ ghost use Rattle.analyse.specs.Step.{stamp, marked, Forgot};
 
 use crate::look;
 use inst::access::{Firsts, write_at};
-use inst::index::{MaybeReg, Reg};
+use inst::index::Reg;
 use model::ABSENT;
 use regfacts::flags::FLAGS;
 use words::numbers::one;
@@ -45,11 +45,11 @@ pub fn stamp(p: u32, org: u32, len: bool, layout: bool) -> u64
 }
 
 // Register r, if that is one, is written.
-fn mark(regs: &mut [u64], r: MaybeReg, d: u64)
+fn mark(regs: &mut [u64], r: Option<Reg>, d: u64)
     requires { (d < 16777216) × Among (length regs.old) r }
     ensures { regs.new ≡ put_in (marked d) (word_of r) regs.old }
 {
-    let MaybeReg::Is(w) = r else {
+    let Some(w) = r else {
         return;
     };
     let k = w.at();

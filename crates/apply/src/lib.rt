@@ -6,13 +6,13 @@ pub mod moves;
 pub mod needs;
 
 ghost use Rattle.std.specs.Prelude.{◌≡◌, length, Bool, List};
-ghost use Rattle.inst.specs.Table.{rows};
 ghost use Rattle.model.specs.Analyse.{Fact};
 ghost use Rattle.model.specs.Move.{apply};
 ghost use Rattle.apply.specs.Apply.{Rest, picture, plan, Stands, Given, Asks, Fits, Holds, Vias};
 
 use crate::moves::{Move, past, start};
 use crate::needs::Counts;
+use inst::table::Table;
 use mover::bounds::{count, move_bounds};
 use mover::moving::move_all;
 use pool::types::add_types;
@@ -21,7 +21,7 @@ use rename::parts::{Head, Span};
 
 // Move m, where c registers and operands are in use.
 pub fn apply(
-    t: &[u32; 202],
+    t: &Table,
     bounds: &mut [u32],
     recs: &mut [u32],
     locs: &mut [u32],
@@ -33,7 +33,7 @@ pub fn apply(
     m: Move,
     c: Counts,
 )
-    requires t_value { (t.now ≡ rows) × Asks m.from.0 m.into.0 m.inside m.places c.regs c.opers (length names.old) (length locs.old) bounds.old recs.old types.old ops.old w.now }
+    requires t_value { Asks m.from.0 m.into.0 m.inside m.places c.regs c.opers (length names.old) (length locs.old) bounds.old recs.old types.old ops.old w.now }
     requires fits { Fits m.from.0 m.into.0 m.inside m.places c.regs c.opers bounds.old recs.old types.old ops.old w.now × Vias locs.old vias.old }
     ensures { (rest : Rest) (run : List Fact) (set : List Bool) → let P = picture bounds.old recs.old locs.old vias.old types.old c.regs ops.old c.opers rest in let a = plan m.from.0 m.into.0 run set in Stands P a m.inside m.places w.now → Given P a m.inside w.now → Holds (apply P a) bounds.new recs.new locs.new vias.new types.new ops.new }
 {

@@ -2,7 +2,6 @@
 // the Rust `succs`, `find_preds`). The successors lie in the lent words: in the record of the branch, or in the case targets.
 ghost use Rattle.std.specs.Prelude.{◌≡◌, [], ℕ, ◌+◌, ◌*◌, ◌/◌, ◌≤◌, ◌<◌, length, get_or, take, drop};
 ghost use Rattle.model.specs.Picture.{inst, end_of, end_succs, table, succs};
-ghost use Rattle.inst.specs.Table.{rows};
 ghost use Rattle.inst.specs.Record.{Within, Known};
 ghost use Rattle.cfg.specs.Drawn.{drawn};
 ghost use Rattle.cfg.specs.Graph.{Tables, Graph};
@@ -10,9 +9,9 @@ ghost use Rattle.words.specs.Steps.{steps};
 ghost use Rattle.cfg.specs.Preds.{Preds, count_after, which_after, noted};
 
 use inst::access::row_at;
-use inst::index::{BlockId, MaybeBlock};
+use inst::index::BlockId;
 use inst::record::word;
-use inst::table::shape;
+use inst::table::{Table, shape};
 use words::copy::fill;
 use words::numbers::wide;
 
@@ -42,13 +41,13 @@ fn payload(recs: &[u32], p: usize, n: usize) -> &[u32]
 
 // Where record p goes if it ends a block.
 fn targets_of<'a>(
-    t: &[u32; 202],
+    t: &Table,
     recs: &'a [u32],
     pairs: &[u32],
     targets: &'a [u32],
     p: usize,
 ) -> &'a [u32]
-    requires { (t.now ≡ rows) × Known recs.now p × Tables pairs.now targets.now }
+    requires { Known recs.now p × Tables pairs.now targets.now }
     ensures { result.now ≡ end_succs (drawn [] recs.now [] pairs.now targets.now) (end_of (inst recs.now p)) }
 {
     let s = shape(row_at(t, recs, p));
@@ -60,14 +59,14 @@ fn targets_of<'a>(
 
 // The successors of block b.
 pub fn succs<'a>(
-    t: &[u32; 202],
+    t: &Table,
     bounds: &[u32],
     recs: &'a [u32],
     pairs: &[u32],
     targets: &'a [u32],
     b: BlockId,
 ) -> &'a [u32]
-    requires { (t.now ≡ rows) × Graph bounds.now recs.now pairs.now targets.now × (b.0 < length bounds.now / 2) }
+    requires { Graph bounds.now recs.now pairs.now targets.now × (b.0 < length bounds.now / 2) }
     ensures { result.now ≡ succs (drawn bounds.now recs.now [] pairs.now targets.now) b.0 }
 {
     let k = b.at();
@@ -121,7 +120,7 @@ fn note_all(words: &mut [u32], list: &[u32], n: u32, c: BlockId)
 {
     let mut j = 0usize;
     while j < list.len() {
-        let MaybeBlock::Is(b) = BlockId::new(list[j], n) else {
+        let Some(b) = BlockId::new(list[j], n) else {
             return;
         };
         note(words, c, b);
@@ -132,20 +131,20 @@ fn note_all(words: &mut [u32], list: &[u32], n: u32, c: BlockId)
 // For each block how many predecessors it has, up to two, and the first: words 2 b and 2 b + 1.
 pub fn find_preds<'a>(
     words: &mut [u32],
-    t: &[u32; 202],
+    t: &Table,
     bounds: &[u32],
     recs: &'a [u32],
     pairs: &[u32],
     targets: &'a [u32],
 )
-    requires { (t.now ≡ rows) × Graph bounds.now recs.now pairs.now targets.now × (2 * (length bounds.now / 2) ≤ length words.old) }
+    requires { Graph bounds.now recs.now pairs.now targets.now × (2 * (length bounds.now / 2) ≤ length words.old) }
     ensures { Preds (drawn bounds.now recs.now [] pairs.now targets.now) words.new }
 {
     let n = (bounds.len() / 2) as u32;
     fill(words, 0);
     let mut k: u32 = 0;
     while k < n {
-        let MaybeBlock::Is(c) = BlockId::new(k, n) else {
+        let Some(c) = BlockId::new(k, n) else {
             return;
         };
         let list = succs(t, bounds, recs, pairs, targets, c);

@@ -1,4 +1,5 @@
 -- The chain search, step by step. Assumes nothing.
+use Rattle.std.specs.Prelude.{Option, Some, None}
 use mathlib.Core.Bool.{Bool, true, false, not, ◌&&◌, and-true, and-false}
 use mathlib.Core.List.{List, [], ◌∷◌, ◌++◌}
 use mathlib.Core.Option.{Option, none, some}
@@ -15,8 +16,6 @@ use Rattle.model.specs.Move as M
 use Rattle.model.specs.Move.{chain, chain_from}
 use Rattle.inst.specs.declared.index.BlockId.{BlockId}
 use Rattle.chains.specs.declared.chain.Chain.{Chain}
-use Rattle.chains.specs.declared.chain.MaybeChain.{MaybeChain}
-use Rattle.chains.specs.declared.chain.MaybeChain.TheVariants.{Is, Not}
 use Rattle.chains.specs.declared.chain.Ending.TheVariants.{Goes, Parts, Stops}
 use Rattle.chains.specs.Chain.{blocks_of, last_of, ended, chain_of, rest, ending_of, end_in, Few, Sound, SoundOf, Blocks, Preds, Shown, IsGrown, Next, Found}
 use Rattle.chains.proofs.Struct.{last_more, last_below, sound_start, sound_more}
@@ -141,7 +140,7 @@ module _ (P : Picture) (bs : List ℕ) (cur : ℕ) where
 -- ---- over the struct
 
 module _ (P : Picture) {c : Chain} (few : Few c) where
-  pub rest_start : {x : ℕ} → blocks_of c ≡ x ∷ [] → c.count ≡ 1 → rest P (Is c) ≡ chain P x
+  pub rest_start : {x : ℕ} → blocks_of c ≡ x ∷ [] → c.count ≡ 1 → rest P (Some c) ≡ chain P x
   unfolding rest last_of
   rest_start {x} eb en =
       let n : 6 - c.count ≡ 5 = omega arith in
@@ -149,36 +148,36 @@ module _ (P : Picture) {c : Chain} (few : Few c) where
       ap (λ (k : ℕ). chain_from P k (blocks_of c) (last_of c)) n ∙ ap (λ (k : ℕ). chain_from P 5 (blocks_of c) (get_or (blocks_of c) k 0)) m
       ∙ ap (λ (l : List ℕ). chain_from P 5 l (get_or l 0 0)) eb
 
-  pub rest_parts : {t f : ℕ} → ending P (last_of c) ≡ parts t f → rest P (Is c) ≡ ended c t f
+  pub rest_parts : {t f : ℕ} → ending P (last_of c) ≡ parts t f → rest P (Some c) ≡ ended c t f
   unfolding rest ended
   rest_parts e = from_parts P (blocks_of c) (last_of c) (6 - c.count) e
 
-  pub rest_stops : Stops ≡ ending_of (ending P (last_of c)) → rest P (Is c) ≡ none
+  pub rest_stops : Stops ≡ ending_of (ending P (last_of c)) → rest P (Some c) ≡ none
   unfolding rest
   rest_stops e = from_stops P (blocks_of c) (last_of c) (6 - c.count) e
 
   module _ {to : ℕ} (e : ending P (last_of c) ≡ goes to) where
-    pub rest_full : c.count ≡ 6 → rest P Not ≡ rest P (Is c)
+    pub rest_full : c.count ≡ 6 → rest P None ≡ rest P (Some c)
     unfolding rest
     rest_full h = let n : 6 - c.count ≡ 0 = omega arith in sym (ap (λ (k : ℕ). chain_from P k (blocks_of c) (last_of c)) n ∙ from_full P (blocks_of c) (last_of c) e)
 
     step : c.count < 6 → (b : Bool) → (eqb (length (preds P to)) 1 && not (mem to (blocks_of c))) ≡ b
-        → rest P (Is c) ≡ (elim b [ true ↦ chain_from P (5 - c.count) (blocks_of c ++ to ∷ []) to | false ↦ none ])
+        → rest P (Some c) ≡ (elim b [ true ↦ chain_from P (5 - c.count) (blocks_of c ++ to ∷ []) to | false ↦ none ])
     unfolding rest
     step h b q =
         let n : 6 - c.count ≡ suc (5 - c.count) = omega arith in
         ap (λ (k : ℕ). chain_from P k (blocks_of c) (last_of c)) n ∙ from_on P (blocks_of c) (last_of c) e (5 - c.count) b q
 
-    pub rest_many : c.count < 6 → eqb (length (preds P to)) 1 ≡ false → rest P Not ≡ rest P (Is c)
+    pub rest_many : c.count < 6 → eqb (length (preds P to)) 1 ≡ false → rest P None ≡ rest P (Some c)
     unfolding rest
     rest_many h q = sym (step h false (ap (λ (x : Bool). x && not (mem to (blocks_of c))) q))
 
-    pub rest_twice : c.count < 6 → mem to (blocks_of c) ≡ true → rest P Not ≡ rest P (Is c)
+    pub rest_twice : c.count < 6 → mem to (blocks_of c) ≡ true → rest P None ≡ rest P (Some c)
     unfolding rest
     rest_twice h q = sym (step h false (and_no (eqb (length (preds P to)) 1) (ap not q)))
 
     pub rest_on : (d : Chain) → c.count < 6 → eqb (length (preds P to)) 1 ≡ true → mem to (blocks_of c) ≡ false
-        → blocks_of d ≡ blocks_of c ++ to ∷ [] → d.count ≡ c.count + 1 → last_of d ≡ to → rest P (Is d) ≡ rest P (Is c)
+        → blocks_of d ≡ blocks_of c ++ to ∷ [] → d.count ≡ c.count + 1 → last_of d ≡ to → rest P (Some d) ≡ rest P (Some c)
     unfolding rest
     rest_on d h q m eb en el =
         let n : 6 - d.count ≡ 5 - c.count = omega arith in
@@ -192,22 +191,22 @@ less : {c : Chain} {B : ℕ} → Sound c B → (c.count ≡ 6 → ⊥) → c.cou
 less s n = omega (arith, s.few.most, n)
 
 module _ {c : Chain} {to B : ℕ} {words : List ℕ} (s : Sound c B) (l : to < B) where
-  pub next_full : c.count ≡ 6 → Next c to words B Not
+  pub next_full : c.count ≡ 6 → Next c to words B None
   next_full h = record { sound = tt; more = tt; goes_on = λ P q e. rest_full P s.few e h }
 
   module _ (n : c.count ≡ 6 → ⊥) where
-    pub next_many : {a : ℕ} → a ≡ to → (get_or words (2 * a) 0 ≡ 1 → ⊥) → Next c to words B Not
+    pub next_many : {a : ℕ} → a ≡ to → (get_or words (2 * a) 0 ≡ 1 → ⊥) → Next c to words B None
     next_many {a} ea h = record {
       sound = tt;
       more = tt;
       goes_on = λ P q e. rest_many P s.few e (less s n) (sym (q.count to l) ∙ ap (λ (k : ℕ). eqb (get_or words (2 * k) 0) 1) (sym ea) ∙ ne_eqb (get_or words (2 * a) 0) 1 h);
     }
 
-    pub next_twice : {b : Bool} {x : ℕ} → x ≡ to → b ≡ mem x (blocks_of c) → b ≡ true → Next c to words B Not
+    pub next_twice : {b : Bool} {x : ℕ} → x ≡ to → b ≡ mem x (blocks_of c) → b ≡ true → Next c to words B None
     next_twice {b} {x} ex h t = record { sound = tt; more = tt; goes_on = λ P q e. rest_twice P s.few e (less s n) (ap (λ (k : ℕ). mem k (blocks_of c)) (sym ex) ∙ sym h ∙ t) }
 
     pub next_on : (d : Chain) {a x : ℕ} {b : Bool} → a ≡ to → get_or words (2 * a) 0 ≡ 1 → x ≡ to → b ≡ mem x (blocks_of c) → b ≡ false
-        → blocks_of d ≡ blocks_of c ++ x ∷ [] → d.count ≡ c.count + 1 → Next c to words B (Is d)
+        → blocks_of d ≡ blocks_of c ++ x ∷ [] → d.count ≡ c.count + 1 → Next c to words B (Some d)
     next_on d {a} {x} {b} ea h ex m t eb en =
         let e' : blocks_of d ≡ blocks_of c ++ to ∷ [] = eb ∙ ap (λ (k : ℕ). blocks_of c ++ k ∷ []) ex in
         record {
@@ -222,12 +221,12 @@ module _ {c : Chain} {to B : ℕ} {words : List ℕ} (s : Sound c B) (l : to < B
 
 pub record Going (bounds recs words : List ℕ) (B : ℕ) (c₀ c : Chain) : Type 0 where
   pub sound : Sound c B
-  pub same : (P : Picture) → Shown P bounds recs words B → rest P (Is c) ≡ rest P (Is c₀)
+  pub same : (P : Picture) → Shown P bounds recs words B → rest P (Some c) ≡ rest P (Some c₀)
 
 pub going_start : (bounds recs words : List ℕ) (c : Chain) {x B : ℕ} → blocks_of c ≡ x ∷ [] → c.count ≡ 1 → x < B → Going bounds recs words B c c
 going_start bounds recs words c eb en h = record { sound = sound_start c eb en h; same = λ P q. refl }
 
-pub from_start : (c : Chain) {x : ℕ} → blocks_of c ≡ x ∷ [] → c.count ≡ 1 → (P : Picture) → rest P (Is c) ≡ chain P x
+pub from_start : (c : Chain) {x : ℕ} → blocks_of c ≡ x ∷ [] → c.count ≡ 1 → (P : Picture) → rest P (Some c) ≡ chain P x
 from_start c eb en P = rest_start P (record { least = omega (arith, en); most = omega (arith, en) }) eb en
 
 -- where the last block goes
@@ -242,18 +241,18 @@ module _ {bounds recs words : List ℕ} {B : ℕ} {c₀ c : Chain} (blocks : Blo
     pub goes_below : t < B
     goes_below = blocks.goes_in (last_of c) t (last_below g.sound) at_goes
 
-    module _ {r : MaybeChain} (n : Next c t words B r) where
-      on : (P : Picture) → Shown P bounds recs words B → rest P r ≡ rest P (Is c₀)
+    module _ {r : Option Chain} (n : Next c t words B r) where
+      on : (P : Picture) → Shown P bounds recs words B → rest P r ≡ rest P (Some c₀)
       on P s = n.goes_on P s.preds_are (end_is s (last_of c) ∙ at_goes) ∙ g.same P s
 
-      pub going_not : {x : ℕ} → ((P : Picture) → rest P (Is c₀) ≡ chain P x) → r ≡ Not → Found bounds recs words x B Not
+      pub going_not : {x : ℕ} → ((P : Picture) → rest P (Some c₀) ≡ chain P x) → r ≡ None → Found bounds recs words x B None
       unfolding chain_of rest
       going_not st e = record { sound = tt; is = λ P s. ap (rest P) (sym e) ∙ on P s ∙ st P }
 
-      pub going_more : (d : Chain) → r ≡ Is d → Going bounds recs words B c₀ d
-      going_more d e = record { sound = subst (λ (r : MaybeChain). SoundOf r B) e n.sound; same = λ P s. ap (rest P) (sym e) ∙ on P s }
+      pub going_more : (d : Chain) → r ≡ Some d → Going bounds recs words B c₀ d
+      going_more d e = record { sound = subst (λ (r : Option Chain). SoundOf r B) e n.sound; same = λ P s. ap (rest P) (sym e) ∙ on P s }
 
-      pub more_blocks : (d : Chain) → r ≡ Is d → d.count ≡ c.count + 1
+      pub more_blocks : (d : Chain) → r ≡ Some d → d.count ≡ c.count + 1
       more_blocks d e = subst (IsGrown c) e n.more
 
   module _ {t f : ℕ} (q : Parts t f ≡ ending_of (end_in bounds recs a)) where
@@ -263,10 +262,10 @@ module _ {bounds recs words : List ℕ} {B : ℕ} {c₀ c : Chain} (blocks : Blo
     pub parts_below : (t < B) × (f < B)
     parts_below = blocks.parts_in (last_of c) t f (last_below g.sound) at_parts
 
-    pub going_end : {x : ℕ} → ((P : Picture) → rest P (Is c₀) ≡ chain P x) → {r : MaybeChain} → SoundOf r B → chain_of r ≡ ended c t f → Found bounds recs words x B r
+    pub going_end : {x : ℕ} → ((P : Picture) → rest P (Some c₀) ≡ chain P x) → {r : Option Chain} → SoundOf r B → chain_of r ≡ ended c t f → Found bounds recs words x B r
     going_end st s e = record { sound = s; is = λ P v. e ∙ sym (rest_parts P g.sound.few (end_is v (last_of c) ∙ at_parts)) ∙ g.same P v ∙ st P }
 
-  pub going_stops : {x : ℕ} → ((P : Picture) → rest P (Is c₀) ≡ chain P x) → Stops ≡ ending_of (end_in bounds recs a) → Found bounds recs words x B Not
+  pub going_stops : {x : ℕ} → ((P : Picture) → rest P (Some c₀) ≡ chain P x) → Stops ≡ ending_of (end_in bounds recs a) → Found bounds recs words x B None
   unfolding chain_of
   going_stops st q = record {
     sound = tt;

@@ -1,13 +1,11 @@
 -- 01, "A round": a chain as a struct of six block numbers and a count, and what the words of blocks and predecessors stand
 -- for. Assumes nothing.
-use Rattle.std.specs.Prelude.{◌≡◌, List, [], ◌∷◌, ℕ, ◌+◌, ◌*◌, ◌-◌, ◌≤◌, ◌<◌, true, false, eqb, get_or, length, take}
+use Rattle.std.specs.Prelude.{◌≡◌, List, [], ◌∷◌, ℕ, ◌+◌, ◌*◌, ◌-◌, ◌≤◌, ◌<◌, true, false, eqb, get_or, length, take, Option, Some, None}
 use Rattle.std.proofs.Math.Option.{Option, none, some}
 use Rattle.model.specs.Picture.{Picture, inst, End, goes, parts, cases, stops, end_of, ending, preds}
 use Rattle.model.specs.Move as M
 use Rattle.model.specs.Move.{chain, chain_from}
 use Rattle.chains.specs.declared.chain.Chain.{Chain}
-use Rattle.chains.specs.declared.chain.MaybeChain.{MaybeChain}
-use Rattle.chains.specs.declared.chain.MaybeChain.TheVariants.{Is, Not}
 use Rattle.chains.specs.declared.chain.Ending.{Ending}
 use Rattle.chains.specs.declared.chain.Ending.TheVariants.{Goes, Parts, Stops}
 
@@ -30,9 +28,9 @@ pub record Sound (c : Chain) (B : ℕ) : Type 0 where
   pub few : Few c
   pub each : (k : ℕ) → k < c.count → get_or (blocks_of c) k 0 < B
 
-abbrev pub SoundOf : MaybeChain → ℕ → Type 0
-SoundOf (Is c) B = Sound c B
-SoundOf Not B = Unit {0}
+abbrev pub SoundOf : Option Chain → ℕ → Type 0
+SoundOf (Some c) B = Sound c B
+SoundOf None B = Unit {0}
 
 -- ---- what it stands for
 
@@ -44,14 +42,14 @@ chain_in c = record { blocks = blocks_of c; last = last_of c; t = c.t.0; f = c.f
 unfoldable pub ended : Chain → ℕ → ℕ → Option M.Chain
 ended c t f = some (record { blocks = blocks_of c; last = last_of c; t = t; f = f })
 
-unfoldable pub chain_of : MaybeChain → Option M.Chain
-chain_of (Is c) = ended c c.t.0 c.f.0
-chain_of Not = none
+unfoldable pub chain_of : Option Chain → Option M.Chain
+chain_of (Some c) = ended c c.t.0 c.f.0
+chain_of None = none
 
 -- what the search finds from there on
-unfoldable pub rest : Picture → MaybeChain → Option M.Chain
-rest P (Is c) = chain_from P (6 - c.count) (blocks_of c) (last_of c)
-rest P Not = none
+unfoldable pub rest : Picture → Option Chain → Option M.Chain
+rest P (Some c) = chain_from P (6 - c.count) (blocks_of c) (last_of c)
+rest P None = none
 
 -- ---- a block's end
 
@@ -93,17 +91,17 @@ pub record Shown (P : Picture) (bounds recs words : List ℕ) (B : ℕ) : Type 0
 
 -- ---- what the search answers
 
-abbrev pub IsGrown : Chain → MaybeChain → Type 0
-IsGrown c (Is d) = d.count ≡ c.count + 1
-IsGrown c Not = Unit {0}
+abbrev pub IsGrown : Chain → Option Chain → Type 0
+IsGrown c (Some d) = d.count ≡ c.count + 1
+IsGrown c None = Unit {0}
 
 -- the chain c with block `to`, or none
-pub record Next (c : Chain) (to : ℕ) (words : List ℕ) (B : ℕ) (r : MaybeChain) : Type 0 where
+pub record Next (c : Chain) (to : ℕ) (words : List ℕ) (B : ℕ) (r : Option Chain) : Type 0 where
   pub sound : SoundOf r B
   pub more : IsGrown c r
-  pub goes_on : (P : Picture) → Preds P words B → ending P (last_of c) ≡ goes to → rest P r ≡ rest P (Is c)
+  pub goes_on : (P : Picture) → Preds P words B → ending P (last_of c) ≡ goes to → rest P r ≡ rest P (Some c)
 
 -- the chain from block x
-pub record Found (bounds recs words : List ℕ) (x B : ℕ) (r : MaybeChain) : Type 0 where
+pub record Found (bounds recs words : List ℕ) (x B : ℕ) (r : Option Chain) : Type 0 where
   pub sound : SoundOf r B
   pub is : (P : Picture) → Shown P bounds recs words B → chain_of r ≡ chain P x

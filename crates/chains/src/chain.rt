@@ -5,7 +5,7 @@ ghost use Rattle.words.specs.Lists.{mem, same};
 ghost use Rattle.model.specs.Picture.{Picture, preds as preds_of};
 ghost use Rattle.chains.specs.Chain.{blocks_of, last_of, ended, chain_of, ending_of, end_in, Few, Sound, SoundOf, Block, Blocks, Preds, Next, Found};
 
-use inst::index::{BlockId, MaybeBlock};
+use inst::index::BlockId;
 use inst::kinds::{BR, COND_BR};
 use inst::record::{kind, word};
 use words::numbers::wide;
@@ -22,12 +22,6 @@ pub struct Chain {
     pub count: u32,
     pub t: BlockId,
     pub f: BlockId,
-}
-
-#[derive(Clone, Copy)]
-pub enum MaybeChain {
-    Is(Chain),
-    Not,
 }
 
 // How a block ends, for a chain.
@@ -149,41 +143,41 @@ impl Chain {
     }
 
     // Its last block goes to t or f.
-    fn ends(self, t: u32, f: u32, blocks: u32) -> MaybeChain
+    fn ends(self, t: u32, f: u32, blocks: u32) -> Option<Chain>
         requires { Sound self blocks × (t < blocks) × (f < blocks) }
         ensures { SoundOf result blocks × (chain_of result ≡ ended self t f) }
     {
-        let MaybeBlock::Is(a) = BlockId::new(t, blocks) else {
-            return MaybeChain::Not;
+        let Some(a) = BlockId::new(t, blocks) else {
+            return None;
         };
-        let MaybeBlock::Is(b) = BlockId::new(f, blocks) else {
-            return MaybeChain::Not;
+        let Some(b) = BlockId::new(f, blocks) else {
+            return None;
         };
         let mut c = self;
         c.t = a;
         c.f = b;
-        MaybeChain::Is(c)
+        Some(c)
     }
 
     // With block `to`, if that may be gathered: at most six, one predecessor, none twice.
-    fn next(self, preds: &[u32], to: u32, blocks: u32) -> MaybeChain
+    fn next(self, preds: &[u32], to: u32, blocks: u32) -> Option<Chain>
         requires { Sound self blocks × (to < blocks) × (2 * blocks ≤ length preds.now) }
         ensures { Next self to preds.now blocks result }
     {
-        let MaybeBlock::Is(b) = BlockId::new(to, blocks) else {
-            return MaybeChain::Not;
+        let Some(b) = BlockId::new(to, blocks) else {
+            return None;
         };
         if self.count == 6 {
-            return MaybeChain::Not;
+            return None;
         }
         let at = b.at();
         if preds[2 * at] != 1 {
-            return MaybeChain::Not;
+            return None;
         }
         if self.has(b) {
-            return MaybeChain::Not;
+            return None;
         }
-        MaybeChain::Is(self.with(b))
+        Some(self.with(b))
     }
 }
 
@@ -215,7 +209,7 @@ pub fn find_chain(
     preds: &[u32],
     x: BlockId,
     blocks: u32,
-) -> MaybeChain
+) -> Option<Chain>
     requires { Blocks bounds.now recs.now blocks × (2 * blocks ≤ length preds.now) × (x.0 < blocks) }
     ensures { Found bounds.now recs.now preds.now x.0 blocks result }
 {
@@ -223,8 +217,8 @@ pub fn find_chain(
     while c.count < 7 {
         match end_of(bounds, recs, c.last().at()) {
             Ending::Goes(to) => {
-                let MaybeChain::Is(d) = c.next(preds, to, blocks) else {
-                    return MaybeChain::Not;
+                let Some(d) = c.next(preds, to, blocks) else {
+                    return None;
                 };
                 c = d;
             }
@@ -232,9 +226,9 @@ pub fn find_chain(
                 return c.ends(t, f, blocks);
             }
             Ending::Stops => {
-                return MaybeChain::Not;
+                return None;
             }
         }
     }
-    MaybeChain::Not
+    None
 }

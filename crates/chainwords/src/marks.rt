@@ -1,7 +1,6 @@
 // The chain's words for the move (01, "The move"): of each position the number of its record, its mark and the register it writes, by its
 // fact; of each position in x its last use.
 ghost use Rattle.std.specs.Prelude.{◌≡◌, ◌+◌, ◌*◌, ◌≤◌, ◌<◌, length, get_or, take, drop};
-ghost use Rattle.inst.specs.Table.{rows};
 ghost use Rattle.effects.specs.Origin.{num};
 ghost use Rattle.summary.specs.Passes.{Around};
 ghost use Rattle.lastuse.specs.Uses.{Legible, ReadersAlong};
@@ -11,6 +10,7 @@ ghost use Rattle.chainwords.specs.Along.{Using, Used};
 use chains::chain::Chain;
 use facts::{Fact, fact_at};
 use inst::index::BlockId;
+use inst::table::Table;
 use lastuse::uses::{last_readers, last_use};
 use model::RECORDS;
 use position::{DEF, LAST, MARK, PLACE};
@@ -66,7 +66,7 @@ fn own_places(lasts: &mut [u32; RECORDS])
 
 // Each position's last reader in chain c, into `lasts`; r words from st on are written.
 fn find_readers(
-    t: &[u32; 202],
+    t: &Table,
     recs: &[u32],
     ops: &[u32],
     bounds: &[u32],
@@ -76,7 +76,7 @@ fn find_readers(
     st: usize,
     r: usize,
 )
-    requires { (t.now ≡ rows) × Legible recs.now ops.now bounds.now c r × (st + r ≤ length work64.old) × (length lasts.old ≡ 800) }
+    requires { Legible recs.now ops.now bounds.now c r × (st + r ≤ length work64.old) × (length lasts.old ≡ 800) }
     ensures { ReadersAlong recs.now ops.now bounds.now c lasts.new × Around st r work64.old work64.new }
 {
     let e = st + r;
@@ -86,7 +86,7 @@ fn find_readers(
 
 // The last use of position p; row o is what is live into the target.
 fn find_use(
-    t: &[u32; 202],
+    t: &Table,
     recs: &[u32],
     work64: &[u64],
     work32: &[u32],
@@ -96,7 +96,7 @@ fn find_use(
     p: usize,
     n: usize,
 ) -> u32
-    requires { (t.now ≡ rows) × UseAsked recs.now work64.now work32.now r o n × (p < n) }
+    requires { UseAsked recs.now work64.now work32.now r o n × (p < n) }
     ensures { result ≡ use_of recs.now (take r (drop 8000 work32.now)) work64.now o lasts.now n (get_or work32.now (10 * p) 0) p }
 {
     let g = wide(work32[PLACE * p]);
@@ -106,7 +106,7 @@ fn find_use(
 
 // The last uses of the first m positions.
 fn put_lasts(
-    t: &[u32; 202],
+    t: &Table,
     recs: &[u32],
     work64: &[u64],
     work32: &mut [u32],
@@ -116,7 +116,7 @@ fn put_lasts(
     m: usize,
     n: usize,
 )
-    requires { (t.now ≡ rows) × UseAsked recs.now work64.now work32.old r o n × (m ≤ n) }
+    requires { UseAsked recs.now work64.now work32.old r o n × (m ≤ n) }
     ensures { Lasting recs.now lasts.now work64.now work32.old work32.new r o n m }
 {
     let mut p = 0usize;
@@ -128,7 +128,7 @@ fn put_lasts(
 
 // The last uses of the m positions in x, for target `into`, if any members move.
 pub fn put_uses(
-    t: &[u32; 202],
+    t: &Table,
     bounds: &[u32],
     recs: &[u32],
     ops: &[u32],
@@ -141,7 +141,7 @@ pub fn put_uses(
     m: usize,
     n: usize,
 )
-    requires { (t.now ≡ rows) × Using bounds.now recs.now ops.now s c work64.old work32.old moved into.0 m n }
+    requires { Using bounds.now recs.now ops.now s c work64.old work32.old moved into.0 m n }
     ensures { Used bounds.now recs.now ops.now s c work64.old work32.old moved into.0 m n work64.new work32.new }
 {
     if moved == 0 {

@@ -4,23 +4,22 @@ ghost use Rattle.std.specs.Prelude.{◌≡◌, ◌≤◌, leb, length};
 ghost use Rattle.words.specs.Lists.{any};
 ghost use Rattle.model.specs.Picture.{inst};
 ghost use Rattle.model.specs.Refusal.{bad_list};
-ghost use Rattle.inst.specs.Table.{rows};
 ghost use Rattle.inst.specs.Record.{Known};
 ghost use Rattle.checks.specs.Causes.{bad_lists, bad_types};
 
 use inst::record::{kind, list_len, list_start};
-use inst::table::{has_list, row};
+use inst::table::{Table, has_list};
 use words::numbers::wide;
 use words::slices::first;
 
 // A list past the operands in use, or on a kind without one.
-pub fn bad_list(t: &[u32; 202], recs: &[u32], p: usize, opers: usize) -> bool
-    requires { (t.now ≡ rows) × Known recs.now p }
+pub fn bad_list(t: &Table, recs: &[u32], p: usize, opers: usize) -> bool
+    requires { Known recs.now p }
     ensures { result ≡ bad_list opers (inst recs.now p) }
 {
     let start = list_start(recs, p);
     let len = list_len(recs, p);
-    if has_list(row(t, kind(recs, p))) {
+    if has_list(t.row(kind(recs, p))) {
         return opers < start + len;
     }
     !((start == 0) & (len == 0))

@@ -1,7 +1,6 @@
 // What causes 4 to 8 find in the records (01, "The call", the table), in one pass that goes past plain ones. A lower cause at any
 // record comes before a higher one, so the rest is not looked at once a kind is bad.
 ghost use Rattle.std.specs.Prelude.{◌≡◌, ◌*◌, ◌≤◌, length};
-ghost use Rattle.inst.specs.Table.{rows};
 ghost use Rattle.checks.specs.Found.{found};
 ghost use Rattle.checks.specs.Causes.{code};
 
@@ -9,6 +8,7 @@ use crate::branches::bad_branch;
 use crate::lists::bad_list;
 use crate::plain::skip;
 use crate::records::{bad_kind, bad_regs_at, long_cat};
+use inst::table::Table;
 use words::numbers::wide;
 
 // Whether one of the records is bad in its kind (4), registers (5), list (6), branch (7), or is a long Cat (8).
@@ -23,8 +23,8 @@ pub struct Found {
 
 // Of n records.
 #[tactic(auto, using(crate::proofs::Given::within))]
-pub fn look(t: &[u32; 202], recs: &[u32], n: usize, r: u32, opers: u32, blocks: usize) -> Found
-    requires { (t.now ≡ rows) × (16 * n ≤ length recs.now) }
+pub fn look(t: &Table, recs: &[u32], n: usize, r: u32, opers: u32, blocks: usize) -> Found
+    requires { 16 * n ≤ length recs.now }
     ensures { result ≡ found r opers blocks (code recs.now n) }
 {
     let used = wide(opers);

@@ -2,14 +2,13 @@
 // the causes are looked at one by one only in the others.
 ghost use Rattle.std.specs.Prelude.{◌≡◌, ◌*◌, ◌≤◌, ◌<◌, length};
 ghost use Rattle.model.specs.Picture.{inst};
-ghost use Rattle.inst.specs.Table.{rows};
 ghost use Rattle.inst.specs.Record.{Within};
 ghost use Rattle.checks.specs.Plain.{simple, bare, odd_slot, usual, plain, Skipped};
 
 use inst::access::{row_at, uses};
 use inst::kinds::LAST;
 use inst::record::{form, kind, list_len, list_start, slot};
-use inst::table::{has_list, least, most, shape, two_bits};
+use inst::table::{Table, has_list, least, most, shape, two_bits};
 use model::ABSENT;
 
 // A kind of this row has neither a list nor successors, and may have this form.
@@ -53,8 +52,8 @@ fn usual(recs: &[u32], p: usize, regs: u32, uses: u32) -> bool
 }
 
 // Is nothing found in record p?
-pub fn plain(t: &[u32; 202], recs: &[u32], p: usize, regs: u32) -> bool
-    requires { (t.now ≡ rows) × Within recs.now p }
+pub fn plain(t: &Table, recs: &[u32], p: usize, regs: u32) -> bool
+    requires { Within recs.now p }
     ensures { result ≡ plain regs (inst recs.now p) }
 {
     if LAST < kind(recs, p) {
@@ -67,8 +66,8 @@ pub fn plain(t: &[u32; 202], recs: &[u32], p: usize, regs: u32) -> bool
 }
 
 // Past such records: of n, all from p up to the answer are so, and the next one, if there is one, is not.
-pub fn skip(t: &[u32; 202], recs: &[u32], n: usize, regs: u32, p: usize) -> usize
-    requires { (t.now ≡ rows) × (16 * n ≤ length recs.now) × (p ≤ n) }
+pub fn skip(t: &Table, recs: &[u32], n: usize, regs: u32, p: usize) -> usize
+    requires { (16 * n ≤ length recs.now) × (p ≤ n) }
     ensures { Skipped regs recs.now n p result }
 {
     let mut q = p;

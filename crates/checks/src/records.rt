@@ -4,14 +4,13 @@ ghost use Rattle.std.specs.Prelude.{◌≡◌, ◌+◌, ◌<◌, get_or};
 ghost use Rattle.model.specs.Kinds.{off};
 ghost use Rattle.model.specs.Picture.{inst, roles, slots};
 ghost use Rattle.model.specs.Refusal.{bad_kind, bad_slot, bad_slots, half_part};
-ghost use Rattle.inst.specs.Table.{rows};
 ghost use Rattle.inst.specs.Record.{Within, Known, asks_of, bad_at};
 ghost use Rattle.checks.specs.Causes.{bad_regs, long_cat};
 
 use inst::access::wanted;
 use inst::kinds::{CAT, LAST, SIG_GATHER};
 use inst::record::{form, kind, list_len, slot, word};
-use inst::table::{least, most, row, two_bits};
+use inst::table::{Table, least, most, two_bits};
 use model::ABSENT;
 
 // The greatest word of a Cat's scalars, a bit a piece.
@@ -21,8 +20,8 @@ const SCALARS: u32 = 65535;
 const CAT_LIST: usize = 33;
 
 // 4: its kind, form or scalars are not allowed.
-pub fn bad_kind(t: &[u32; 202], recs: &[u32], p: usize) -> bool
-    requires { (t.now ≡ rows) × Within recs.now p }
+pub fn bad_kind(t: &Table, recs: &[u32], p: usize) -> bool
+    requires { Within recs.now p }
     ensures { result ≡ bad_kind (inst recs.now p) }
 {
     let k = kind(recs, p);
@@ -30,7 +29,7 @@ pub fn bad_kind(t: &[u32; 202], recs: &[u32], p: usize) -> bool
         return true;
     }
     let f = form(recs, p);
-    let x = row(t, k);
+    let x = t.row(k);
     (f < least(x)) | (most(x) < f) | ((k == CAT) & (SCALARS < word(recs, p, 9)))
 }
 
@@ -81,8 +80,8 @@ fn half_part(recs: &[u32], p: usize) -> bool
 }
 
 // 5: a slot is no register below R, or wrongly absent or present.
-pub fn bad_regs_at(t: &[u32; 202], recs: &[u32], p: usize, regs: u32) -> bool
-    requires { (t.now ≡ rows) × Known recs.now p }
+pub fn bad_regs_at(t: &Table, recs: &[u32], p: usize, regs: u32) -> bool
+    requires { Known recs.now p }
     ensures { result ≡ bad_regs regs (inst recs.now p) }
 {
     bad_slots(recs, p, regs, wanted(t, recs, p)) | half_part(recs, p)

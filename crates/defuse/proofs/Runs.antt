@@ -1,4 +1,5 @@
 -- The loops of sets.rt: one register, one instruction after the other. Assumes nothing.
+use Rattle.std.specs.Prelude.{Option, Some, None}
 use mathlib.Core.Path.{◌≡◌, refl, sym, ap, ap₂, subst, ◌∙◌}
 use mathlib.Core.Logic.{inl, ⊎_elim}
 use mathlib.Core.Bool.{Bool, true, false, cond}
@@ -17,8 +18,6 @@ use Rattle.model.specs.Picture.{Inst, inst, absent, reads, writes, list_of}
 use Rattle.inst.specs.Record.{Within, Used, present, read_at, write_at, rest_reads, rest_writes}
 use Rattle.inst.specs.Index.{reg_of, pick_reg}
 use Rattle.inst.specs.declared.index.Reg.{Reg}
-use Rattle.inst.specs.declared.index.MaybeReg.{MaybeReg}
-use Rattle.inst.specs.declared.index.MaybeReg.TheVariants as R
 use Rattle.inst.proofs.Firsts.{three_reads}
 use Rattle.inst.proofs.Rest.{reads_step, writes_step, reads_all, reads_by_place, writes_by_place}
 use Rattle.defuse.specs.Sets.{one, put, wrote, before, run, Low, Code}
@@ -27,29 +26,29 @@ use Rattle.words.proofs.Steps.{steps_append}
 
 -- ---- one register
 
-pub none_held : (f : List ℕ → ℕ → List ℕ) (l : List ℕ) {r : MaybeReg} → r ≡ R.Not → l ≡ steps f l (one r)
+pub none_held : (f : List ℕ → ℕ → List ℕ) (l : List ℕ) {r : Option Reg} → r ≡ None → l ≡ steps f l (one r)
 unfolding steps
-none_held f l e = sym (ap (λ (x : MaybeReg). steps f l (one x)) e)
+none_held f l e = sym (ap (λ (x : Option Reg). steps f l (one x)) e)
 
-one_held : (f : List ℕ → ℕ → List ℕ) (l : List ℕ) {r : MaybeReg} {k : Reg} → r ≡ R.Is k → f l k.0 ≡ steps f l (one r)
+one_held : (f : List ℕ → ℕ → List ℕ) (l : List ℕ) {r : Option Reg} {k : Reg} → r ≡ Some k → f l k.0 ≡ steps f l (one r)
 unfolding steps
-one_held f l e = sym (ap (λ (x : MaybeReg). steps f l (one x)) e)
+one_held f l e = sym (ap (λ (x : Option Reg). steps f l (one x)) e)
 
-pub one_written : (u d q : ℕ) (l : List ℕ) {r : MaybeReg} {x : Reg} {k m : List ℕ} → r ≡ R.Is x → q ≡ x.0 → k ≡ unset_bit l (64 * u + q) → m ≡ set_bit k (64 * d + q) → m ≡ steps (wrote u d) l (one r)
+pub one_written : (u d q : ℕ) (l : List ℕ) {r : Option Reg} {x : Reg} {k m : List ℕ} → r ≡ Some x → q ≡ x.0 → k ≡ unset_bit l (64 * u + q) → m ≡ set_bit k (64 * d + q) → m ≡ steps (wrote u d) l (one r)
 one_written u d q l g e p h =
     h ∙ ap (λ (t : List ℕ). set_bit t (64 * d + q)) p ∙ ap (wrote u d l) e ∙ one_held (wrote u d) l g
 
-pub one_read : (u q : ℕ) (l : List ℕ) {r : MaybeReg} {x : Reg} {m : List ℕ} → r ≡ R.Is x → q ≡ x.0 → m ≡ set_bit l (64 * u + q) → m ≡ steps (put u) l (one r)
+pub one_read : (u q : ℕ) (l : List ℕ) {r : Option Reg} {x : Reg} {m : List ℕ} → r ≡ Some x → q ≡ x.0 → m ≡ set_bit l (64 * u + q) → m ≡ steps (put u) l (one r)
 one_read u q l g e h = h ∙ ap (put u l) e ∙ one_held (put u) l g
 
 -- ---- a word, by its range test
 
 -- a word that is absent, or a register's
-pub one_of : (n c : ℕ) {r : MaybeReg} → c ≤ absent → ((n ≡ absent → ⊥) → n < c) → r ≡ reg_of n c → one r ≡ present n
+pub one_of : (n c : ℕ) {r : Option Reg} → c ≤ absent → ((n ≡ absent → ⊥) → n < c) → r ≡ reg_of n c → one r ≡ present n
 unfolding reg_of present
 one_of n c {r} few low e = ap one e ∙ go (ltb n c) refl
   where
-    go : (b : Bool) → ltb n c ≡ b → one (pick_reg b (R.Is (record { 0 = n })) R.Not) ≡ cond (eqb n absent) [] (n ∷ [])
+    go : (b : Bool) → ltb n c ≡ b → one (pick_reg b (Some (record { 0 = n })) None) ≡ cond (eqb n absent) [] (n ∷ [])
     go true q =
         let l = ltb-true n c q in
         sym (ap (λ (b : Bool). cond b [] (n ∷ [])) (ne_eqb n absent (λ z. absurd (omega arith))))
@@ -58,10 +57,10 @@ one_of n c {r} few low e = ap one e ∙ go (ltb n c) refl
         sym (ap (λ (b : Bool). cond b [] (n ∷ [])) (⊎_elim (eq-eqb n absent) (λ (z : n ≡ absent → ⊥). let y = low z in absurd (omega arith)) (eq? n absent)))
 
 -- a register's word
-pub step_here : (f : List ℕ → ℕ → List ℕ) (n c : ℕ) {r : MaybeReg} {l m : List ℕ} → n < c → r ≡ reg_of n c → m ≡ steps f l (one r) → m ≡ f l n
+pub step_here : (f : List ℕ → ℕ → List ℕ) (n c : ℕ) {r : Option Reg} {l m : List ℕ} → n < c → r ≡ reg_of n c → m ≡ steps f l (one r) → m ≡ f l n
 unfolding reg_of steps
 step_here f n c {r} {l} h e q =
-    q ∙ ap (λ (x : MaybeReg). steps f l (one x)) (e ∙ ap (λ (b : Bool). pick_reg b (R.Is (record { 0 = n })) R.Not) (lt-ltb n c h))
+    q ∙ ap (λ (x : Option Reg). steps f l (one x)) (e ∙ ap (λ (b : Bool). pick_reg b (Some (record { 0 = n })) None) (lt-ltb n c h))
 
 present_in : (r : ℕ) → (r ≡ absent → ⊥) → In r (present r)
 unfolding present
@@ -74,7 +73,7 @@ module _ (g : ℕ → ℕ) (s : ℕ) (h : s < 5) where
       subst (In (g s)) e
       (in_concat (g s) (present (g s)) (map (λ k. present (g k)) (upto 5)) (present_in (g s) n) (map_in (λ k. present (g k)) s (upto 5) (in_range s 0 5 (omega arith) (omega arith))))
 
-module _ (recs : List ℕ) (p : ℕ) {c s : ℕ} (w : Within recs p) (h : s < 5) {r : MaybeReg} where
+module _ (recs : List ℕ) (p : ℕ) {c s : ℕ} (w : Within recs p) (h : s < 5) {r : Option Reg} where
   pub slot_read : Low c (rest_reads (inst recs p) 0) → r ≡ reg_of (read_at (inst recs p) s) c → one r ≡ present (read_at (inst recs p) s)
   unfolding rest_reads
   slot_read l = one_of (read_at (inst recs p) s) c (omega (arith, l.few)) (λ n. l.each _ (by_place (read_at (inst recs p)) s h _ (reads_by_place recs p w) n))
@@ -89,7 +88,7 @@ module _ (recs : List ℕ) (p : ℕ) {c s : ℕ} (w : Within recs p) (h : s < 5)
   write_next l e = writes_step recs p w s h ∙ ap (λ (xs : List ℕ). xs ++ rest_writes (inst recs p) (s + 1)) (sym (slot_written l e))
 
 -- the first three slots, where no later one is used
-pub three_read : {recs : List ℕ} {p u c : ℕ} {a b d : MaybeReg} → Used recs p u → u < 64 → Low c (rest_reads (inst recs p) 0)
+pub three_read : {recs : List ℕ} {p u c : ℕ} {a b d : Option Reg} → Used recs p u → u < 64 → Low c (rest_reads (inst recs p) 0)
     → a ≡ reg_of (read_at (inst recs p) 0) c → b ≡ reg_of (read_at (inst recs p) 1) c → d ≡ reg_of (read_at (inst recs p) 2) c → rest_reads (inst recs p) 0 ≡ one a ++ (one b ++ one d)
 three_read {recs} {p} {u} g h l ea eb ed =
     let w = g.within in

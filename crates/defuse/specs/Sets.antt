@@ -1,18 +1,17 @@
 -- The rows of bits that the instructions make (01, "A round": "read before written", "written"): of each block a row of what
 -- is read before it is written, from word u of the slice on, and a row of what is written, from word d on. Assumes nothing.
-use Rattle.std.specs.Prelude.{List, [], ◌∷◌, ℕ, ◌+◌, ◌*◌, ◌<◌, ◌≤◌, length}
+use Rattle.std.specs.Prelude.{List, [], ◌∷◌, ℕ, ◌+◌, ◌*◌, ◌<◌, ◌≤◌, length, Option, Some, None}
 use Rattle.words.specs.Bits.{set_bit, unset_bit}
 use Rattle.words.specs.Lists.{In}
 use Rattle.words.specs.Steps.{steps}
 use Rattle.model.specs.Picture.{Inst, inst, reads, writes}
 use Rattle.inst.specs.Record.{Known, Listed}
-use Rattle.inst.specs.declared.index.MaybeReg.{MaybeReg}
-use Rattle.inst.specs.declared.index.MaybeReg.TheVariants as R
+use Rattle.inst.specs.declared.index.Reg.{Reg}
 
 -- the register, if it is one
-abbrev pub one : MaybeReg → List ℕ
-one (R.Is r) = r.0 ∷ []
-one R.Not = []
+abbrev pub one : Option Reg → List ℕ
+one (Some r) = r.0 ∷ []
+one None = []
 
 -- r is read: it goes into the row at u
 abbrev pub put : ℕ → List ℕ → ℕ → List ℕ

@@ -4,13 +4,13 @@
 ghost use Rattle.std.specs.Prelude.{◌≡◌, map, ◌-◌, ◌*◌, ◌≤◌, length};
 ghost use Rattle.words.specs.Lists.{range};
 ghost use Rattle.model.specs.Picture.{inst, reads, writes};
-ghost use Rattle.inst.specs.Table.{rows};
 ghost use Rattle.inst.specs.Record.{Known, Listed, Used, rest_reads};
 ghost use Rattle.defuse.specs.Sets.{one, put, wrote, before, run, Low, Code};
 ghost use Rattle.words.specs.Steps.{steps};
 
 use inst::access::{later, list, read_at, uses, write_at};
-use inst::index::{MaybeReg, Reg};
+use inst::index::Reg;
+use inst::table::Table;
 use words::bits::{set_in, unset_in};
 
 // The two rows of a block: the words where what it reads first and what it writes begin, and of how many registers they are.
@@ -22,11 +22,11 @@ pub struct Pair {
 }
 
 // Register r, if it is one, is written.
-fn write_one(bits: &mut [u64], at: Pair, r: MaybeReg)
+fn write_one(bits: &mut [u64], at: Pair, r: Option<Reg>)
     requires { (at.u ≤ length bits.old) × (at.d ≤ length bits.old) }
     ensures { bits.new ≡ steps (wrote at.u at.d) bits.old (one r) }
 {
-    let MaybeReg::Is(k) = r else {
+    let Some(k) = r else {
         return;
     };
     let q = k.at();
@@ -35,11 +35,11 @@ fn write_one(bits: &mut [u64], at: Pair, r: MaybeReg)
 }
 
 // Register r, if it is one, is read.
-fn read_one(bits: &mut [u64], u: usize, r: MaybeReg)
+fn read_one(bits: &mut [u64], u: usize, r: Option<Reg>)
     requires { u ≤ length bits.old }
     ensures { bits.new ≡ steps (put u) bits.old (one r) }
 {
-    let MaybeReg::Is(k) = r else {
+    let Some(k) = r else {
         return;
     };
     set_in(bits, u, k.at());
@@ -110,8 +110,8 @@ fn read_list(bits: &mut [u64], xs: &[u32], at: Pair)
 }
 
 // Record p in front of those that the rows are of.
-fn add_front(t: &[u32; 202], bits: &mut [u64], recs: &[u32], ops: &[u32], p: usize, at: Pair)
-    requires { (t.now ≡ rows) × (at.u ≤ length bits.old) × (at.d ≤ length bits.old) × Known recs.now p × Listed recs.now ops.now p
+fn add_front(t: &Table, bits: &mut [u64], recs: &[u32], ops: &[u32], p: usize, at: Pair)
+    requires { (at.u ≤ length bits.old) × (at.d ≤ length bits.old) × Known recs.now p × Listed recs.now ops.now p
         × Low at.regs (reads ops.now (inst recs.now p)) × Low at.regs (writes (inst recs.now p)) }
     ensures { bits.new ≡ before ops.now at.u at.d bits.old (inst recs.now p) }
 {
@@ -123,7 +123,7 @@ fn add_front(t: &[u32; 202], bits: &mut [u64], recs: &[u32], ops: &[u32], p: usi
 
 // The rows of the records from lo up to hi.
 pub fn block_sets(
-    t: &[u32; 202],
+    t: &Table,
     bits: &mut [u64],
     recs: &[u32],
     ops: &[u32],
@@ -131,7 +131,7 @@ pub fn block_sets(
     hi: usize,
     at: Pair,
 )
-    requires { (t.now ≡ rows) × (at.u ≤ length bits.old) × (at.d ≤ length bits.old) × (lo ≤ hi) × (16 * hi ≤ length recs.now) × Code recs.now ops.now at.regs }
+    requires { (at.u ≤ length bits.old) × (at.d ≤ length bits.old) × (lo ≤ hi) × (16 * hi ≤ length recs.now) × Code recs.now ops.now at.regs }
     ensures { bits.new ≡ run ops.now at.u at.d bits.old (map (inst recs.now) (range lo (hi - lo))) }
 {
     let mut p = hi;

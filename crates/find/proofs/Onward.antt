@@ -1,5 +1,6 @@
 -- Where the search for a round's move stands (01, "A round"), and how it comes from one chain to the next: a chain is found, or none; the
 -- chain that was tried has a move, or none; the end. Assumes nothing.
+use Rattle.std.specs.Prelude.{Option, Some, None}
 use mathlib.Core.Path.{◌≡◌, refl, sym, ◌∙◌, subst}
 use mathlib.Core.List.{List}
 use mathlib.Core.Option.{none}
@@ -16,12 +17,8 @@ use Rattle.chains.specs.Chain.{chain_in}
 use Rattle.apply.specs.declared.moves.Move.{Move}
 use Rattle.chainwords.specs.Work.{Shown, Begun, Held, chain_words}
 use Rattle.worth.proofs.Looks.{worth_long}
-use Rattle.trial.specs.declared.block.MaybeMove.{MaybeMove}
-use Rattle.trial.specs.declared.block.MaybeMove.TheVariants as move
 use Rattle.trial.specs.Trial.{Found, IsTried, Following, Followed}
 use Rattle.search.specs.declared.find.Look.{Look}
-use Rattle.search.specs.declared.find.MaybeLook.{MaybeLook}
-use Rattle.search.specs.declared.find.MaybeLook.TheVariants as look
 use Rattle.search.specs.Search as S
 use Rattle.search.specs.Search.{Looking, Sees, Seeking, IsSought, Sought}
 use Rattle.search.proofs.Looked.{first_at, none_more, shown_at, rooms}
@@ -32,12 +29,12 @@ use Rattle.find.specs.Find.{Sure, Next, StandsAs, IsAnswered, Finding, Searched,
 
 -- ---- a chain is found, or none
 
-taken : {P : Picture} {G : Facts} {work64 work32 : List ℕ} → Held P G work64 work32 → (o : MaybeLook) (from : ℕ) → first_plan P G (upto from) ≡ none → IsSought P from o → StandsAs P G work64 work32 (stand_of o)
-taken {G = G} h (look.Is k) from z s = record { held = h; none_yet = s.1 G z; chosen = s.2 }
-taken {G = G} h look.Not from z s = record { begun = h.begun; none_is = s G z }
+taken : {P : Picture} {G : Facts} {work64 work32 : List ℕ} → Held P G work64 work32 → (o : Option Look) (from : ℕ) → first_plan P G (upto from) ≡ none → IsSought P from o → StandsAs P G work64 work32 (stand_of o)
+taken {G = G} h (Some k) from z s = record { held = h; none_yet = s.1 G z; chosen = s.2 }
+taken {G = G} h None from z s = record { begun = h.begun; none_is = s G z }
 
 -- at the start of a round
-pub opened : {bounds recs pairs targets replay : List ℕ} {s : Sizes} {work64 work32 work64' : List ℕ} {o : MaybeLook} {q : Stand} → S.Opened bounds recs pairs targets replay s work64 work32 work64' o → q ≡ stand_of o
+pub opened : {bounds recs pairs targets replay : List ℕ} {s : Sizes} {work64 work32 work64' : List ℕ} {o : Option Look} {q : Stand} → S.Opened bounds recs pairs targets replay s work64 work32 work64' o → q ≡ stand_of o
     → Opened bounds recs pairs targets replay s work64 work32 work64' q
 opened {bounds} {recs} {pairs} {targets} {replay} {s} {work64} {work32} {work64'} {o} f e =
     subst (Opened bounds recs pairs targets replay s work64 work32 work64') (sym e)
@@ -58,20 +55,20 @@ module _ {bounds recs replay : List ℕ} {s : Sizes} {work32 : List ℕ} (g : Se
     first = first_at P G k.x.0 (nblocks P) f.a n.chosen.x_block n.none_yet (lt-ltb 3 _ (worth_long P k.x.0 (chain_in k.c) n.chosen.worth)) f.is;
   }
 
-  pub gone_move : {r : MaybeMove} {mv : Move} → r ≡ move.Is mv → GoneOn bounds recs replay s k r work32 (Moves mv)
-  gone_move {mv = mv} e = subst (λ (r : MaybeMove). GoneOn bounds recs replay s k r work32 (Moves mv)) (sym e)
+  pub gone_move : {r : Option Move} {mv : Move} → r ≡ Some mv → GoneOn bounds recs replay s k r work32 (Moves mv)
+  gone_move {mv = mv} e = subst (λ (r : Option Move). GoneOn bounds recs replay s k r work32 (Moves mv)) (sym e)
       (record { fewer = let l = x_low in omega arith; is = λ P G work64 v n t. sure n t })
 
   -- it has none, and the next one is sought from the block behind it on
-  less : (o : MaybeLook) → IsSought g.P (k.x.0 + 1) o → to_come (stand_of o) < to_come (Looks k)
-  less (look.Is j) z = let a = z.0 in let l = x_low in omega arith
-  less look.Not z = let l = x_low in omega arith
+  less : (o : Option Look) → IsSought g.P (k.x.0 + 1) o → to_come (stand_of o) < to_come (Looks k)
+  less (Some j) z = let a = z.0 in let l = x_low in omega arith
+  less None z = let l = x_low in omega arith
 
-  pub gone_none : {r : MaybeMove} {i : ℕ} {o : MaybeLook} {q : Stand} → r ≡ move.Not → i ≡ k.x.0 → Sought bounds recs replay s work32 (i + 1) o → q ≡ stand_of o → GoneOn bounds recs replay s k r work32 q
+  pub gone_none : {r : Option Move} {i : ℕ} {o : Option Look} {q : Stand} → r ≡ None → i ≡ k.x.0 → Sought bounds recs replay s work32 (i + 1) o → q ≡ stand_of o → GoneOn bounds recs replay s k r work32 q
   gone_none {r} {i} {o} {q} e ei f eq =
       let f' : Sought bounds recs replay s work32 (k.x.0 + 1) o = subst (λ (n : ℕ). Sought bounds recs replay s work32 (n + 1) o) ei f in
-      subst (λ (r : MaybeMove). GoneOn bounds recs replay s k r work32 q) (sym e)
-      (subst (GoneOn bounds recs replay s k move.Not work32) (sym eq) (record {
+      subst (λ (r : Option Move). GoneOn bounds recs replay s k r work32 q) (sym e)
+      (subst (GoneOn bounds recs replay s k None work32) (sym eq) (record {
         fewer = less o (f'.is g.P g.sees);
         is = λ P G work64 v n t. taken n.held o (k.x.0 + 1) (none_more P G k.x.0 n.none_yet (λ y. t)) (f'.is P v);
       }))
@@ -86,7 +83,7 @@ pub record Running (bounds recs ops pairs targets replay : List ℕ) (s : Sizes)
 module _ {bounds recs ops pairs targets replay : List ℕ} {s : Sizes} {work64 work32 : List ℕ} where
   module _ {work64' work32' : List ℕ} {q : Stand} (r : Running bounds recs ops pairs targets replay s work64 work32 work64' work32' q) where
     -- the search is at its end
-    pub running_end : {a : MaybeMove} → ((k : Look) → q ≡ Looks k → ⊥) → a ≡ outcome q → Searched bounds recs ops pairs targets replay s work64 work32 work64' work32' a
+    pub running_end : {a : Option Move} → ((k : Look) → q ≡ Looks k → ⊥) → a ≡ outcome q → Searched bounds recs ops pairs targets replay s work64 work32 work64' work32' a
     running_end {a} n ea = subst (Searched bounds recs ops pairs targets replay s work64 work32 work64' work32') (sym ea)
         (record { size64 = r.size64; size32 = r.size32; is = λ P G sh b. go P G q n (r.is P G sh b) })
       where
@@ -106,7 +103,7 @@ module _ {bounds recs ops pairs targets replay : List ℕ} {s : Sizes} {work64 w
           record { given = record { P = f.P; G = f.G; shown = shown_at r.size64 r.size32 f.shown; held = n.held }; chosen = n.chosen }
 
       -- and was: the work slices hold as much, and a is the answer
-      module _ {work64'' work32'' : List ℕ} {a : MaybeMove} (d : Followed bounds recs ops pairs targets replay s k.x.0 k.c work64' work32' work64'' work32'' a) where
+      module _ {work64'' work32'' : List ℕ} {a : Option Move} (d : Followed bounds recs ops pairs targets replay s k.x.0 k.c work64' work32' work64'' work32'' a) where
         module _ (P : Picture) (G : Facts) (sh : Shown P bounds recs ops pairs targets replay s (length work64) (length work32)) (b : Begun P G work64 work32) where
           n : Next P G work64' work32' k
           n = next_of P G sh b

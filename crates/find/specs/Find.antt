@@ -1,5 +1,5 @@
 -- 01, "A round": the move of a round, `model`'s `round`: where the search for it stands, and what it answers. Assumes nothing.
-use Rattle.std.specs.Prelude.{◌≡◌, List, ℕ, ◌-◌, ◌<◌, length}
+use Rattle.std.specs.Prelude.{◌≡◌, List, ℕ, ◌-◌, ◌<◌, length, Option, Some, None}
 use Rattle.std.proofs.Math.Option.{none, some}
 use Rattle.words.specs.Lists.{upto}
 use Rattle.model.specs.Picture.{Picture}
@@ -10,11 +10,7 @@ use Rattle.apply.specs.declared.moves.Move.{Move}
 use Rattle.chainwords.specs.Work.{Shown, Begun, Held, chain_words}
 use Rattle.worth.specs.Worth.{Chosen}
 use Rattle.trial.specs.Trial.{Found, IsTried}
-use Rattle.trial.specs.declared.block.MaybeMove.{MaybeMove}
-use Rattle.trial.specs.declared.block.MaybeMove.TheVariants.{Is, Not}
 use Rattle.search.specs.declared.find.Look.{Look}
-use Rattle.search.specs.declared.find.MaybeLook.{MaybeLook}
-use Rattle.search.specs.declared.find.MaybeLook.TheVariants as look
 use Rattle.search.specs.Search.{Sees}
 use Rattle.find.specs.declared.stand.Stand.{Stand}
 use Rattle.find.specs.declared.stand.Stand.TheVariants.{Looks, Moves, Ends}
@@ -44,9 +40,9 @@ StandsAs P G work64 work32 (Moves mv) = Sure P G work64 work32 mv
 StandsAs P G work64 work32 Ends = Over P G work64 work32
 
 -- what it answers
-abbrev pub IsAnswered : Picture → Facts → List ℕ → List ℕ → MaybeMove → Type 0
-IsAnswered P G work64 work32 (Is mv) = Sure P G work64 work32 mv
-IsAnswered P G work64 work32 Not = Over P G work64 work32
+abbrev pub IsAnswered : Picture → Facts → List ℕ → List ℕ → Option Move → Type 0
+IsAnswered P G work64 work32 (Some mv) = Sure P G work64 work32 mv
+IsAnswered P G work64 work32 None = Over P G work64 work32
 
 -- there is an accepted picture whose lists these are, and the work slices hold what the call began with
 pub record Finding (bounds recs ops pairs targets replay : List ℕ) (s : Sizes) (work64 work32 : List ℕ) : Type 0 where
@@ -56,7 +52,7 @@ pub record Finding (bounds recs ops pairs targets replay : List ℕ) (s : Sizes)
   pub begun : Begun P G work64 work32
 
 -- the work slices after: of every picture and facts that they were for
-pub record Searched (bounds recs ops pairs targets replay : List ℕ) (s : Sizes) (work64 work32 work64' work32' : List ℕ) (r : MaybeMove) : Type 0 where
+pub record Searched (bounds recs ops pairs targets replay : List ℕ) (s : Sizes) (work64 work32 work64' work32' : List ℕ) (r : Option Move) : Type 0 where
   pub size64 : length work64' ≡ length work64
   pub size32 : length work32' ≡ length work32
   pub is : (P : Picture) (G : Facts) → Shown P bounds recs ops pairs targets replay s (length work64) (length work32) → Begun P G work64 work32 → IsAnswered P G work64' work32' r
@@ -64,15 +60,15 @@ pub record Searched (bounds recs ops pairs targets replay : List ℕ) (s : Sizes
 -- ---- the parts of the search: `stand.rt`
 
 -- with the chain that was found, or none
-abbrev pub stand_of : MaybeLook → Stand
-stand_of (look.Is k) = Looks k
-stand_of look.Not = Ends
+abbrev pub stand_of : Option Look → Stand
+stand_of (Some k) = Looks k
+stand_of None = Ends
 
 -- the move, where the search is at its end
-abbrev pub outcome : Stand → MaybeMove
-outcome (Looks k) = Not
-outcome (Moves mv) = Is mv
-outcome Ends = Not
+abbrev pub outcome : Stand → Option Move
+outcome (Looks k) = None
+outcome (Moves mv) = Some mv
+outcome Ends = None
 
 -- how much may come: blocks
 abbrev pub to_come : Stand → ℕ
@@ -84,6 +80,6 @@ pub record Opened (bounds recs pairs targets replay : List ℕ) (s : Sizes) (wor
   pub size64 : length work64' ≡ length work64
   pub is : (P : Picture) (G : Facts) → Shown P bounds recs P.ops pairs targets replay s (length work64) (length work32) → Begun P G work64 work32 → StandsAs P G work64' work32 q
 
-pub record GoneOn (bounds recs replay : List ℕ) (s : Sizes) (k : Look) (r : MaybeMove) (work32 : List ℕ) (q : Stand) : Type 0 where
+pub record GoneOn (bounds recs replay : List ℕ) (s : Sizes) (k : Look) (r : Option Move) (work32 : List ℕ) (q : Stand) : Type 0 where
   pub fewer : to_come q < to_come (Looks k)
   pub is : (P : Picture) (G : Facts) (work64 : List ℕ) → Sees P bounds recs replay s work32 → Next P G work64 work32 k → IsTried P G k.x.0 r (chain_words work32) → StandsAs P G work64 work32 q

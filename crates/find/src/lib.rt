@@ -5,17 +5,17 @@
 pub mod stand; // stand.rt: where the search stands
 
 ghost use Rattle.std.specs.Prelude.{◌≡◌, ◌≤◌, length};
-ghost use Rattle.inst.specs.Table.{rows};
 ghost use Rattle.find.specs.Find.{Finding, Searched};
 
 use crate::stand::{Stand, go_on, open, outcome};
 use facts::Fact;
+use inst::table::Table;
 use sizes::Sizes;
-use trial::block::{MaybeMove, try_chain};
+use trial::block::try_chain;
 
 // The move of the round, if there is one. The words of its chain then stand for it, and the list holds the facts along that chain.
 pub fn find_move<'a>(
-    t: &[u32; 202],
+    t: &Table,
     bounds: &[u32],
     recs: &'a [u32],
     ops: &[u32],
@@ -26,8 +26,8 @@ pub fn find_move<'a>(
     work32: &mut [u32],
     facts: &mut [Fact],
     s: Sizes,
-) -> MaybeMove
-    requires { (t.now ≡ rows) × Finding bounds.now recs.now ops.now pairs.now targets.now replay.now s work64.old work32.old × (800 ≤ length facts.old) }
+) -> Option<Move>
+    requires { Finding bounds.now recs.now ops.now pairs.now targets.now replay.now s work64.old work32.old × (800 ≤ length facts.old) }
     ensures { Searched bounds.now recs.now ops.now pairs.now targets.now replay.now s work64.old work32.old work64.new work32.new result }
 {
     let mut at = open(t, bounds, recs, pairs, targets, replay, work64, work32, s);

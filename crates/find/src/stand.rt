@@ -1,13 +1,12 @@
 // Where the search for a round's move stands (01, "A round"): a chain to be tried, a move, or no block is left.
 ghost use Rattle.std.specs.Prelude.{◌≡◌, ◌<◌};
-ghost use Rattle.inst.specs.Table.{rows};
 ghost use Rattle.search.specs.Search.{Looking, Seeking};
 ghost use Rattle.find.specs.Find.{stand_of, outcome, Opened, GoneOn};
 
 use apply::moves::Move;
-use search::find::{Look, MaybeLook, first_look, seek};
+use inst::table::Table;
+use search::find::{Look, first_look, seek};
 use sizes::Sizes;
-use trial::block::MaybeMove;
 
 #[derive(Clone, Copy)]
 pub enum Stand {
@@ -17,10 +16,10 @@ pub enum Stand {
 }
 
 // With the chain that was found, or none.
-fn stand_of(r: MaybeLook) -> Stand
+fn stand_of(r: Option<Look>) -> Stand
     ensures { result ≡ stand_of r }
 {
-    let MaybeLook::Is(k) = r else {
+    let Some(k) = r else {
         return Stand::Ends;
     };
     Stand::Looks(k)
@@ -28,7 +27,7 @@ fn stand_of(r: MaybeLook) -> Stand
 
 // At the start of a round: live-in anew, and the first chain.
 pub fn open<'a>(
-    t: &[u32; 202],
+    t: &Table,
     bounds: &[u32],
     recs: &'a [u32],
     pairs: &[u32],
@@ -38,7 +37,7 @@ pub fn open<'a>(
     work32: &[u32],
     s: Sizes,
 ) -> Stand
-    requires { (t.now ≡ rows) × Looking bounds.now recs.now pairs.now targets.now replay.now s work64.old work32.now }
+    requires { Looking bounds.now recs.now pairs.now targets.now replay.now s work64.old work32.now }
     ensures { Opened bounds.now recs.now pairs.now targets.now replay.now s work64.old work32.now work64.new result }
 {
     stand_of(first_look(t, bounds, recs, pairs, targets, replay, work64, work32, s))
@@ -52,12 +51,12 @@ pub fn go_on(
     work32: &[u32],
     s: Sizes,
     k: Look,
-    r: MaybeMove,
+    r: Option<Move>,
 ) -> Stand
     requires { Seeking bounds.now recs.now replay.now s work32.now × (k.x.0 < s.blocks) }
     ensures { GoneOn bounds.now recs.now replay.now s k r work32.now result }
 {
-    if let MaybeMove::Is(mv) = r {
+    if let Some(mv) = r {
         return Stand::Moves(mv);
     }
     let x = k.x;
@@ -65,11 +64,11 @@ pub fn go_on(
 }
 
 // The move, where the search is at its end.
-pub fn outcome(at: Stand) -> MaybeMove
+pub fn outcome(at: Stand) -> Option<Move>
     ensures { result ≡ outcome at }
 {
     let Stand::Moves(mv) = at else {
-        return MaybeMove::Not;
+        return None;
     };
-    MaybeMove::Is(mv)
+    Some(mv)
 }

@@ -6,7 +6,6 @@ ghost use Rattle.std.specs.Prelude.{◌≡◌, not, List, [], ℕ, ◌+◌, ◌*
 ghost use Rattle.std.proofs.lemmas.List.Edits.{sets};
 ghost use Rattle.words.specs.Bits.{width};
 ghost use Rattle.model.specs.Picture.{succs};
-ghost use Rattle.inst.specs.Table.{rows};
 ghost use Rattle.cfg.specs.Drawn.{drawn};
 ghost use Rattle.cfg.specs.Graph.{Graph};
 ghost use Rattle.defuse.specs.Sets.{Room};
@@ -14,7 +13,8 @@ ghost use Rattle.flow.specs.Progress.{raised, Among, Edges, Progress, Solved};
 ghost use Rattle.flow.specs.Live.{RowRoom, Rows, Live, gathered};
 
 use cfg::graph::succs;
-use inst::index::{BlockId, MaybeBlock};
+use inst::index::BlockId;
+use inst::table::Table;
 use words::bits::width;
 use words::numbers::wide;
 
@@ -57,7 +57,7 @@ fn settle(bits: &mut [u64], list: &[u32], n: u32, w: usize, b: BlockId) -> bool
     let mut changed = false;
     let mut j = 0usize;
     while j < list.len() {
-        let MaybeBlock::Is(s) = BlockId::new(list[j], n) else {
+        let Some(s) = BlockId::new(list[j], n) else {
             return changed;
         };
         let more = join(bits, n, w, b, s);
@@ -70,14 +70,14 @@ fn settle(bits: &mut [u64], list: &[u32], n: u32, w: usize, b: BlockId) -> bool
 // Every block once, from the last to the first. Tells whether one changed.
 fn sweep<'a>(
     bits: &mut [u64],
-    t: &[u32; 202],
+    t: &Table,
     bounds: &[u32],
     recs: &'a [u32],
     pairs: &[u32],
     targets: &'a [u32],
     w: usize,
 ) -> bool
-    requires { (t.now ≡ rows) × Graph bounds.now recs.now pairs.now targets.now × Room (length bounds.now / 2) w bits.old }
+    requires { Graph bounds.now recs.now pairs.now targets.now × Room (length bounds.now / 2) w bits.old }
     ensures { Progress (length bounds.now / 2) w (drop (length bounds.now / 2 * w) bits.old)
         (Edges (length bounds.now / 2) w (succs (drawn bounds.now recs.now [] pairs.now targets.now)))
         bits.old bits.new result }
@@ -87,7 +87,7 @@ fn sweep<'a>(
     let mut k = n;
     while 0 < k {
         k -= 1;
-        let MaybeBlock::Is(b) = BlockId::new(k, n) else {
+        let Some(b) = BlockId::new(k, n) else {
             return changed;
         };
         let list = succs(t, bounds, recs, pairs, targets, b);
@@ -100,14 +100,14 @@ fn sweep<'a>(
 // Every block once, from the first to the last. Tells whether one changed.
 fn sweep_up<'a>(
     bits: &mut [u64],
-    t: &[u32; 202],
+    t: &Table,
     bounds: &[u32],
     recs: &'a [u32],
     pairs: &[u32],
     targets: &'a [u32],
     w: usize,
 ) -> bool
-    requires { (t.now ≡ rows) × Graph bounds.now recs.now pairs.now targets.now × Room (length bounds.now / 2) w bits.old }
+    requires { Graph bounds.now recs.now pairs.now targets.now × Room (length bounds.now / 2) w bits.old }
     ensures { Progress (length bounds.now / 2) w (drop (length bounds.now / 2 * w) bits.old)
         (Edges (length bounds.now / 2) w (succs (drawn bounds.now recs.now [] pairs.now targets.now)))
         bits.old bits.new result }
@@ -116,7 +116,7 @@ fn sweep_up<'a>(
     let mut changed = false;
     let mut k: u32 = 0;
     while k < n {
-        let MaybeBlock::Is(b) = BlockId::new(k, n) else {
+        let Some(b) = BlockId::new(k, n) else {
             return changed;
         };
         let list = succs(t, bounds, recs, pairs, targets, b);
@@ -130,14 +130,14 @@ fn sweep_up<'a>(
 // Sweeps down and up until a sweep up changes nothing: then every edge holds, whatever the sweep down changed.
 fn solve<'a>(
     bits: &mut [u64],
-    t: &[u32; 202],
+    t: &Table,
     bounds: &[u32],
     recs: &'a [u32],
     pairs: &[u32],
     targets: &'a [u32],
     w: usize,
 )
-    requires { (t.now ≡ rows) × Graph bounds.now recs.now pairs.now targets.now × Room (length bounds.now / 2) w bits.old }
+    requires { Graph bounds.now recs.now pairs.now targets.now × Room (length bounds.now / 2) w bits.old }
     ensures { Solved (length bounds.now / 2) w (succs (drawn bounds.now recs.now [] pairs.now targets.now))
         bits.old bits.new }
 {
@@ -164,14 +164,14 @@ fn to_head(bits: &mut [u64], s: usize, n: usize)
 // those are of. What lies behind the n rows of live-in is left as it was.
 pub fn live_in<'a>(
     bits: &mut [u64],
-    t: &[u32; 202],
+    t: &Table,
     bounds: &[u32],
     recs: &'a [u32],
     pairs: &[u32],
     targets: &'a [u32],
     regs: usize,
 )
-    requires { (t.now ≡ rows) × Graph bounds.now recs.now pairs.now targets.now × RowRoom (length bounds.now / 2) (width regs) bits.old × (regs ≤ 65536) }
+    requires { Graph bounds.now recs.now pairs.now targets.now × RowRoom (length bounds.now / 2) (width regs) bits.old × (regs ≤ 65536) }
     ensures by_index { (ops : List ℕ)
         → ((b : ℕ) → b < length bounds.now / 2 → Rows (drawn bounds.now recs.now ops pairs.now targets.now) (width regs) b bits.old)
         → Live (drawn bounds.now recs.now ops pairs.now targets.now) (width regs) bits.new }
@@ -191,7 +191,7 @@ pub fn gather(bits: &[u64], list: &[u32], n: u32, w: usize, i: usize) -> u64
     let mut x: u64 = 0;
     let mut j = 0usize;
     while j < list.len() {
-        let MaybeBlock::Is(s) = BlockId::new(list[j], n) else {
+        let Some(s) = BlockId::new(list[j], n) else {
             return x;
         };
         x = x | bits[s.at() * w + i];

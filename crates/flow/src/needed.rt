@@ -1,13 +1,13 @@
 // The registers needed elsewhere than in the target (01, "The legal set", rule 2: "live into the other branch, nor live out of the
 // target unless written there"), as a row of bits behind the rows of live-in and of what each block writes.
 ghost use Rattle.std.specs.Prelude.{◌≡◌, ◌+◌, ◌*◌, ◌/◌, ◌≤◌, ◌<◌, length};
-ghost use Rattle.inst.specs.Table.{rows};
 ghost use Rattle.cfg.specs.Graph.{Graph};
 ghost use Rattle.flow.specs.Needed.{Fits, Word, Put, Needed};
 
 use crate::live::gather;
 use cfg::graph::succs;
 use inst::index::BlockId;
+use inst::table::Table;
 use words::numbers::wide;
 
 // Word i of the row. The list is the target's successors.
@@ -46,7 +46,7 @@ fn put_row(work: &mut [u64], list: &[u32], n: u32, w: usize, into: BlockId, othe
 
 // The row of w words behind the 2 n rows: the registers needed elsewhere than in block `into`, if `other` is the other branch.
 pub fn put_needed<'a>(
-    t: &[u32; 202],
+    t: &Table,
     bounds: &[u32],
     recs: &'a [u32],
     pairs: &[u32],
@@ -56,7 +56,7 @@ pub fn put_needed<'a>(
     into: BlockId,
     other: BlockId,
 )
-    requires { (t.now ≡ rows) × Graph bounds.now recs.now pairs.now targets.now × (into.0 < length bounds.now / 2) × (other.0 < length bounds.now / 2)
+    requires { Graph bounds.now recs.now pairs.now targets.now × (into.0 < length bounds.now / 2) × (other.0 < length bounds.now / 2)
         × (length bounds.now / 2 * w + length bounds.now / 2 * w + w ≤ length work.old) }
     ensures { Needed bounds.now recs.now pairs.now targets.now w into.0 other.0 work.old work.new }
 {

@@ -3,14 +3,14 @@
 ghost use Rattle.std.specs.Prelude.{◌≡◌, [], ℕ, ◌+◌, ◌*◌, ◌/◌, ◌≤◌, ◌<◌, length, get_or, replicate};
 ghost use Rattle.std.proofs.lemmas.List.Edits.{sets};
 ghost use Rattle.words.specs.Bits.{width};
-ghost use Rattle.inst.specs.Table.{rows};
 ghost use Rattle.cfg.specs.Drawn.{drawn};
 ghost use Rattle.cfg.specs.Graph.{Blocks};
 ghost use Rattle.defuse.specs.Sets.{Code};
 ghost use Rattle.flow.specs.Live.{RowRoom, Rows, OnlyRows};
 
 use defuse::sets::{Pair, block_sets};
-use inst::index::{BlockId, MaybeBlock};
+use inst::index::BlockId;
+use inst::table::Table;
 use words::bits::width;
 use words::numbers::wide;
 
@@ -29,14 +29,14 @@ fn clear_at(bits: &mut [u64], at: usize, n: usize)
 // Both rows of block b, of `regs` registers, from its code.
 pub fn block_rows(
     bits: &mut [u64],
-    t: &[u32; 202],
+    t: &Table,
     bounds: &[u32],
     recs: &[u32],
     ops: &[u32],
     regs: usize,
     b: BlockId,
 )
-    requires { (t.now ≡ rows) × Blocks bounds.now recs.now × Code recs.now ops.now regs
+    requires { Blocks bounds.now recs.now × Code recs.now ops.now regs
         × RowRoom (length bounds.now / 2) (width regs) bits.old × (b.0 < length bounds.now / 2) }
     ensures rows { Rows (drawn bounds.now recs.now ops.now [] []) (width regs) b.0 bits.new }
     ensures only_rows { OnlyRows (length bounds.now / 2) (width regs) b.0 bits.old bits.new }
@@ -61,13 +61,13 @@ pub fn block_rows(
 // The rows of every block. What lies behind all rows is left as it was.
 pub fn all_rows(
     bits: &mut [u64],
-    t: &[u32; 202],
+    t: &Table,
     bounds: &[u32],
     recs: &[u32],
     ops: &[u32],
     regs: usize,
 )
-    requires { (t.now ≡ rows) × Blocks bounds.now recs.now × Code recs.now ops.now regs × RowRoom (length bounds.now / 2) (width regs) bits.old }
+    requires { Blocks bounds.now recs.now × Code recs.now ops.now regs × RowRoom (length bounds.now / 2) (width regs) bits.old }
     ensures by_index { (b : ℕ) → b < length bounds.now / 2 → Rows (drawn bounds.now recs.now ops.now [] []) (width regs) b bits.new }
     ensures bits_len_unchanged { length bits.new ≡ length bits.old }
     ensures by_index_2 { (i : ℕ) → 3 * (length bounds.now / 2) * width regs + width regs ≤ i → get_or bits.new i 0 ≡ get_or bits.old i 0 }
@@ -75,7 +75,7 @@ pub fn all_rows(
     let n = (bounds.len() / 2) as u32;
     let mut k: u32 = 0;
     while k < n {
-        let MaybeBlock::Is(b) = BlockId::new(k, n) else {
+        let Some(b) = BlockId::new(k, n) else {
             return;
         };
         block_rows(bits, t, bounds, recs, ops, regs, b);

@@ -5,10 +5,7 @@ ghost use Rattle.layout.specs.Layout.{readable, held, picture_in};
 ghost use Rattle.words.specs.Bytes.{words_of};
 ghost use Rattle.host.specs.Host.{Loaded};
 
-use layout::read::{
-    get_bounds, get_locs, get_ops, get_pairs, get_recs, get_replay, get_targets, get_types,
-    get_vias,
-};
+use layout::read::{get_bounds, get_locs, get_ops, get_pairs, get_recs, get_replay, get_targets, get_types, get_vias};
 use layout::{BOUNDS, INSTS, OPERANDS, PAIRS, RECS, REGISTERS, REPLAY, TARGETS, VIAS};
 use words::copy::fill;
 

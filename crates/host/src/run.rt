@@ -5,10 +5,7 @@ ghost use Rattle.layout.specs.Layout.{readable, picture_bytes, Fitting};
 ghost use Rattle.checks.specs.Causes.{picture_of};
 ghost use Rattle.host.specs.Host.{sunk_of, sunk, put_by, put_left, RanAs, left_by, Roomy, unread, replied, written};
 
-use crate::load::{
-    load_bounds, load_locs, load_ops, load_pairs, load_recs, load_replay, load_targets, load_types,
-    load_vias,
-};
+use crate::load::{load_bounds, load_locs, load_ops, load_pairs, load_recs, load_replay, load_targets, load_types, load_vias};
 use layout::read::{counts, readable};
 use layout::write::write_picture;
 use layout::{BLOCKS, OPERANDS, PICTURE_BYTES, RECS, REGISTERS, TARGETS};

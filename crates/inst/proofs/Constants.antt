@@ -1,4 +1,5 @@
 -- A constant keeps the 64 bits of its record, whole number or float, and a whole number is `model`'s. Assumes nothing.
+use Rattle.std.specs.Prelude.{Some, None}
 use mathlib.Core.Bool.{Bool, true, false, not}
 use mathlib.Core.Path.{◌≡◌, refl, sym, ap, ◌∙◌, subst}
 use Prim.Native.Nat.{ℕ, ◌-◌, ◌^◌, ◌≤◌, ◌<◌}
@@ -12,7 +13,7 @@ use borrow.Author.Tests.{lt-ltb, le-ltb}
 use Rattle.model.specs.Kinds.{Const, ConstF}
 use Rattle.model.specs.Picture.{Inst, is_kind}
 use Rattle.model.specs.Analyse.{whole}
-use Rattle.inst.specs.declared.constant.Constant.TheVariants.{Whole, Float, Nan, Not}
+use Rattle.inst.specs.declared.constant.Constant.TheVariants.{Whole, Float, Nan}
 use Rattle.inst.specs.Constant.{bits_of, signed, pick, constant_of, unsigned, bits_in}
 
 pub whole_is : (i : Inst) → signed (bits_of i) ≡ whole i
@@ -21,11 +22,11 @@ whole_is i = refl
 
 -- the constant by the three tests
 pub constant_by : (i : Inst) (a b c : Bool) → is_kind Const i ≡ a → is_kind ConstF i ≡ b → nan_bits binary64 (bits_of i) ≡ c
-    → constant_of i ≡ pick a (Whole (whole i)) (pick b (pick c (Nan (bits_of i)) (Float (of_bits binary64 (bits_of i)))) Not)
+    → constant_of i ≡ pick a (Some (Whole (whole i))) (pick b (pick c (Some (Nan (bits_of i))) (Some (Float (of_bits binary64 (bits_of i))))) None)
 unfolding constant_of
 constant_by i a b c ea eb ec = rw (ea, eb, ec)
 
-pub whole_constant : (i : Inst) → is_kind Const i ≡ true → constant_of i ≡ Whole (whole i)
+pub whole_constant : (i : Inst) → is_kind Const i ≡ true → constant_of i ≡ Some (Whole (whole i))
 whole_constant i e = constant_by i true (is_kind ConstF i) (nan_bits binary64 (bits_of i)) e refl refl
 
 signed_by : (n : ℕ) (b : Bool) → ltb n (2 ^ 63) ≡ b → signed n ≡ (elim b [ true ↦ pos n | false ↦ negsuc (2 ^ 64 - 1 - n) ])
@@ -46,10 +47,10 @@ signed_kept n h = go (ltb n (2 ^ 63))
     go true = refl
     go false = omega arith
 
-float_kept : (n : ℕ) → n < 2 ^ 64 → bits_in (pick (nan_bits binary64 n) (Nan n) (Float (of_bits binary64 n))) ≡ n
+float_kept : (n : ℕ) → n < 2 ^ 64 → bits_in (pick (nan_bits binary64 n) (Some (Nan n)) (Some (Float (of_bits binary64 n)))) ≡ n
 float_kept n h = go (nan_bits binary64 n) refl
   where
-    go : (b : Bool) → nan_bits binary64 n ≡ b → bits_in (pick b (Nan n) (Float (of_bits binary64 n))) ≡ n
+    go : (b : Bool) → nan_bits binary64 n ≡ b → bits_in (pick b (Some (Nan n)) (Some (Float (of_bits binary64 n)))) ≡ n
     go true e = refl
     go false e = to_bits-of_bits binary64 n h (subst (λ (b : Bool). T (not b)) (sym e ∙ nan_bits_is binary64 n) tt)
 

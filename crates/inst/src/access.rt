@@ -2,35 +2,35 @@
 // in the table once, and then each slot by its place; the operand list is a part of the operands.
 ghost use Rattle.std.specs.Prelude.{◌≡◌, List, [], ◌++◌, get_or, ℕ, ◌+◌, ◌<◌};
 ghost use Rattle.model.specs.Picture.{inst, kind, absent, list_of, reads, writes};
-ghost use Rattle.inst.specs.Table.{rows, packed};
+ghost use Rattle.inst.specs.Table.{packed};
 ghost use Rattle.inst.specs.Record.{Known, Used, Listed, uses_of, asks_of, read_at, write_at, later, present, rest_reads, rest_writes};
 ghost use Rattle.inst.specs.Firsts.{Heads};
 ghost use Rattle.inst.specs.Index.{reg_of};
 
-use crate::index::{MaybeReg, Reg};
+use crate::index::Reg;
 use crate::record::{form, kind, list_len, list_start, slot};
-use crate::table::{asks, row, two_bits, used};
+use crate::table::{Table, asks, two_bits};
 use model::ABSENT;
 
 // The row of record p's kind.
-pub fn row_at(t: &[u32; 202], recs: &[u32], p: usize) -> u32
-    requires { (t.now ≡ rows) × Known recs.now p }
+pub fn row_at(t: &Table, recs: &[u32], p: usize) -> u32
+    requires { Known recs.now p }
     ensures { result ≡ packed (kind (inst recs.now p)) }
 {
-    row(t, kind(recs, p))
+    t.row(kind(recs, p))
 }
 
 // What the slots of record p do, 2 bits a slot.
-pub fn uses(t: &[u32; 202], recs: &[u32], p: usize) -> u32
-    requires { (t.now ≡ rows) × Known recs.now p }
+pub fn uses(t: &Table, recs: &[u32], p: usize) -> u32
+    requires { Known recs.now p }
     ensures { result ≡ uses_of (inst recs.now p) }
 {
-    used(t, kind(recs, p), form(recs, p))
+    t.used(kind(recs, p), form(recs, p))
 }
 
 // What the slots of record p ask, 2 bits a slot.
-pub fn wanted(t: &[u32; 202], recs: &[u32], p: usize) -> u32
-    requires { (t.now ≡ rows) × Known recs.now p }
+pub fn wanted(t: &Table, recs: &[u32], p: usize) -> u32
+    requires { Known recs.now p }
     ensures { result ≡ asks_of (inst recs.now p) }
 {
     asks(row_at(t, recs, p), form(recs, p))
@@ -60,7 +60,7 @@ fn write_word(recs: &[u32], p: usize, uses: u32, s: usize) -> u32
 }
 
 // The register, of `count`, that slot s reads, if there is one: absent is not below any count.
-pub fn read_at(recs: &[u32], p: usize, uses: u32, s: usize, count: usize) -> MaybeReg
+pub fn read_at(recs: &[u32], p: usize, uses: u32, s: usize, count: usize) -> Option<Reg>
     requires { Used recs.now p uses × (s < 5) }
     ensures { result ≡ reg_of (read_at (inst recs.now p) s) count }
 {
@@ -68,7 +68,7 @@ pub fn read_at(recs: &[u32], p: usize, uses: u32, s: usize, count: usize) -> May
 }
 
 // The register, of `count`, that slot s writes, if there is one.
-pub fn write_at(recs: &[u32], p: usize, uses: u32, s: usize, count: usize) -> MaybeReg
+pub fn write_at(recs: &[u32], p: usize, uses: u32, s: usize, count: usize) -> Option<Reg>
     requires { Used recs.now p uses × (s < 5) }
     ensures { result ≡ reg_of (write_at (inst recs.now p) s) count }
 {

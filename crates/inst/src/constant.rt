@@ -9,7 +9,6 @@ ghost use Rattle.inst.specs.Constant.{bits_of, signed, constant_of};
 
 use crate::kinds::{CONST, CONST_F};
 use crate::record::{kind, word};
-use words::numbers::long;
 
 // 2^32, which the higher of two words counts.
 const HIGH: u64 = 4294967296;
@@ -29,17 +28,17 @@ pub enum Constant {
     Whole(i64),
     Float(f64),
     Nan(u64),
-    Not,
 }
 
 // The 64 bits of words 9 and 10.
+#[tactic(auto, unfolding(crate::specs::Constant::bits_of))]
 pub fn bits(recs: &[u32], p: usize) -> u64
     requires { Within recs.now p }
     ensures { result ≡ bits_of (inst recs.now p) }
 {
     let low = word(recs, p, 9);
     let high = word(recs, p, 10);
-    long(low) + HIGH * long(high)
+    u64::from(low) + HIGH * u64::from(high)
 }
 
 // The signed number whose bits are n.
@@ -63,21 +62,21 @@ pub fn is_nan(n: u64) -> bool
     false
 }
 
-// The constant of record p.
-pub fn decode(recs: &[u32], p: usize) -> Constant
+// The constant of record p, if it is one.
+pub fn decode(recs: &[u32], p: usize) -> Option<Constant>
     requires { Within recs.now p }
     ensures { result ≡ constant_of (inst recs.now p) }
 {
     let k = kind(recs, p);
     let n = bits(recs, p);
     if k == CONST {
-        return Constant::Whole(signed(n));
+        return Some(Constant::Whole(signed(n)));
     }
     if k != CONST_F {
-        return Constant::Not;
+        return None;
     }
     if is_nan(n) {
-        return Constant::Nan(n);
+        return Some(Constant::Nan(n));
     }
-    Constant::Float(f64::from_bits(n))
+    Some(Constant::Float(f64::from_bits(n)))
 }

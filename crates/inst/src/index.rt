@@ -9,27 +9,15 @@ pub struct Reg(u32);
 #[derive(Clone, Copy)]
 pub struct BlockId(u32);
 
-#[derive(Clone, Copy)]
-pub enum MaybeReg {
-    Is(Reg),
-    Not,
-}
-
-#[derive(Clone, Copy)]
-pub enum MaybeBlock {
-    Is(BlockId),
-    Not,
-}
-
 impl Reg {
     // The register n of count, or none.
-    pub fn new(n: u32, count: usize) -> MaybeReg
+    pub fn new(n: u32, count: usize) -> Option<Reg>
         ensures { result ≡ reg_of n count }
     {
         if (n as usize) < count {
-            return MaybeReg::Is(Reg(n));
+            return Some(Reg(n));
         }
-        MaybeReg::Not
+        None
     }
 
     // Its place in a list of registers.
@@ -49,13 +37,13 @@ impl Reg {
 
 impl BlockId {
     // The block n of count, or none.
-    pub fn new(n: u32, count: u32) -> MaybeBlock
+    pub fn new(n: u32, count: u32) -> Option<BlockId>
         ensures { result ≡ block_of n count }
     {
         if n < count {
-            return MaybeBlock::Is(BlockId(n));
+            return Some(BlockId(n));
         }
-        MaybeBlock::Not
+        None
     }
 
     // Its place in a list of blocks.

@@ -3,8 +3,6 @@
 ghost use Rattle.std.specs.Prelude.{◌≡◌, ◌+◌, ◌<◌};
 ghost use Rattle.inst.specs.Record.{word, Within};
 
-use words::numbers::wide;
-
 // Word k of record p.
 pub fn word(recs: &[u32], p: usize, k: usize) -> u32
     requires { Within recs.now p × (k < 16) }
@@ -39,12 +37,12 @@ pub fn list_start(recs: &[u32], p: usize) -> usize
     requires { Within recs.now p }
     ensures { result ≡ word recs.now p 7 }
 {
-    wide(word(recs, p, 7))
+    word(recs, p, 7) as usize
 }
 
 pub fn list_len(recs: &[u32], p: usize) -> usize
     requires { Within recs.now p }
     ensures { result ≡ word recs.now p 8 }
 {
-    wide(word(recs, p, 8))
+    word(recs, p, 8) as usize
 }

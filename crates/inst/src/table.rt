@@ -6,9 +6,10 @@ ghost use Rattle.std.specs.Prelude.{◌≡◌, ◌<◌, ◌*◌, ◌/◌, ◌%�
 ghost use Rattle.model.specs.Kinds.{kind_of};
 ghost use Rattle.inst.specs.Table.{packed, rows, has_list, shape, arm, quiet, least, most, acts, wants, two_bits, spread, lift};
 
-use words::numbers::wide;
+// How many words the table has: a row and a word of uses for each kind.
+const WORDS: usize = 202;
 
-pub const ROWS: [u32; 202] = [
+const ROWS: [u32; WORDS] = [
     8388609, // 0 Const: Def
     8650753, // 1 ConstF: Def
     9175057, // 2 Move: Def Use
@@ -214,19 +215,33 @@ pub const ROWS: [u32; 202] = [
     0, // 100 Stmt: none
 ];
 
-// The table itself.
-pub fn table() -> [u32; 202]
-    ensures { result ≡ rows }
-{
-    ROWS
+// The table itself: no value of this type has other words.
+#[derive(Clone, Copy)]
+pub struct Table {
+    words: [u32; WORDS],
+    ghost is_rows: { words ≡ rows },
 }
 
-// The row of a kind.
-pub fn row(t: &[u32; 202], kind: u32) -> u32
-    requires { (t.now ≡ rows) × (kind < 101) }
-    ensures { result ≡ packed (kind_of kind) }
-{
-    t[wide(kind)]
+impl Table {
+    pub fn new() -> Table {
+        Table { words: ROWS }
+    }
+
+    // The row of a kind.
+    pub fn row(&self, kind: u32) -> u32
+        requires { kind < 101 }
+        ensures { result ≡ packed (kind_of kind) }
+    {
+        self.words[kind as usize]
+    }
+
+    // What the slots of a kind do at a form, 2 bits a slot: 0 nothing, 1 reads, 2 writes.
+    pub fn used(&self, kind: u32, form: u32) -> u32
+        requires { kind < 101 }
+        ensures { result ≡ spread (acts form) (packed (kind_of kind)) }
+    {
+        (self.words[101 + kind as usize] >> lift(form)) % 1024
+    }
 }
 
 // How far up in a word of the second half a form lies.
@@ -237,16 +252,6 @@ fn lift(form: u32) -> u32
         return 10 * form;
     }
     20
-}
-
-// What the slots of a kind do at a form, 2 bits a slot: 0 nothing, 1 reads, 2 writes.
-pub fn used(t: &[u32; 202], kind: u32, form: u32) -> u32
-    requires { (t.now ≡ rows) × (kind < 101) }
-    ensures { result ≡ spread (acts form) (packed (kind_of kind)) }
-{
-    let s = lift(form);
-    let x = t[101 + wide(kind)];
-    (x >> s) % 1024
 }
 
 // Does the kind have a list?

@@ -4,7 +4,6 @@ ghost use Rattle.std.specs.Prelude.{◌≡◌, cond, ℕ, ◌<◌, ◌≤◌, le
 ghost use Rattle.words.specs.Lists.{all};
 ghost use Rattle.summary.specs.Passes.{result_test};
 ghost use Rattle.model.specs.Picture.{inst, reads, writes};
-ghost use Rattle.inst.specs.Table.{rows};
 ghost use Rattle.inst.specs.Index.{word_of, Among};
 ghost use Rattle.inst.specs.Record.{Known, Used};
 ghost use Rattle.regfacts.specs.Written.{Fits, Good};
@@ -12,18 +11,19 @@ ghost use Rattle.lastuse.specs.Uses.{note_in, Noticed, ReadOn, Legible, ReadersA
 
 use chains::chain::Chain;
 use chains::cursor::{first, next};
-use inst::index::MaybeReg;
+use inst::index::Reg;
+use inst::table::Table;
 use legality::rules::unneeded_slots;
 use model::RECORDS;
 use summary::reads::{places, read_place};
 use summary::stamps::{Stamp, put_slots};
 
 // Position q reads register r, if it is one: r's writer has a reader.
-fn note(st: &[u64], lasts: &mut [u32; RECORDS], r: MaybeReg, q: u32)
+fn note(st: &[u64], lasts: &mut [u32; RECORDS], r: Option<Reg>, q: u32)
     requires { Among (length st.now) r × ((x : ℕ) → x < length st.now → get_or st.now x 0 ≤ 800) }
     ensures { lasts.new ≡ note_in st.now (word_of r) q lasts.old }
 {
-    let MaybeReg::Is(k) = r else {
+    let Some(k) = r else {
         return;
     };
     let d = st[k.at()];
@@ -58,7 +58,7 @@ fn note_places(
 
 // Position q, record g: what it reads is noted, then what it writes.
 fn read_on(
-    t: &[u32; 202],
+    t: &Table,
     recs: &[u32],
     ops: &[u32],
     st: &mut [u64],
@@ -66,7 +66,7 @@ fn read_on(
     g: usize,
     q: usize,
 )
-    requires { (t.now ≡ rows) × Good recs.now ops.now (length st.old) g × ((x : ℕ) → x < length st.old → get_or st.old x 0 ≤ 800) × (length lasts.old ≡ 800) × (q < 800) }
+    requires { Good recs.now ops.now (length st.old) g × ((x : ℕ) → x < length st.old → get_or st.old x 0 ≤ 800) × (length lasts.old ≡ 800) × (q < 800) }
     ensures { ReadOn (writes (inst recs.now g)) (reads ops.now (inst recs.now g)) q st.old lasts.old st.new lasts.new }
 {
     let u = inst::access::uses(t, recs, g);
@@ -82,7 +82,7 @@ fn read_on(
 
 // Each position's last reader in chain c: `lasts` holds each position itself at first.
 pub fn last_readers(
-    t: &[u32; 202],
+    t: &Table,
     recs: &[u32],
     ops: &[u32],
     bounds: &[u32],
@@ -90,7 +90,7 @@ pub fn last_readers(
     lasts: &mut [u32; RECORDS],
     c: Chain,
 )
-    requires { (t.now ≡ rows) × Legible recs.now ops.now bounds.now c (length st.old) × (length lasts.old ≡ 800) × ((p : ℕ) → p < 800 → get_or lasts.old p 0 ≡ p) }
+    requires { Legible recs.now ops.now bounds.now c (length st.old) × (length lasts.old ≡ 800) × ((p : ℕ) → p < 800 → get_or lasts.old p 0 ≡ p) }
     ensures { ReadersAlong recs.now ops.now bounds.now c lasts.new × (length st.new ≡ length st.old) }
 {
     words::bits::clear(st);
@@ -106,7 +106,7 @@ pub fn last_readers(
 // The last use of position p, record g, by its last reader: past the end if the target reads its value; the row of what is
 // live there begins at word `o` of `bits`.
 pub fn last_use(
-    t: &[u32; 202],
+    t: &Table,
     recs: &[u32],
     regs: &[u32],
     bits: &[u64],
@@ -116,7 +116,7 @@ pub fn last_use(
     p: usize,
     n: usize,
 ) -> u32
-    requires { (t.now ≡ rows) × Known recs.now g × Fits recs.now (length regs.now) g × (p < n) × (n ≤ 800) × (o ≤ length bits.now) }
+    requires { Known recs.now g × Fits recs.now (length regs.now) g × (p < n) × (n ≤ 800) × (o ≤ length bits.now) }
     ensures { result ≡ cond (all (result_test regs.now bits.now o p) (writes (inst recs.now g))) (get_or lasts.now p 0) n }
 {
     let u = inst::access::uses(t, recs, g);

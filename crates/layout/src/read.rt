@@ -5,10 +5,7 @@ ghost use Rattle.std.proofs.lemmas.List.Edits.{sets};
 ghost use Rattle.words.specs.Bytes.{words_of};
 ghost use Rattle.layout.specs.Layout.{counts, within, places, held, readable, part, room, at_recs, at_locs, at_vias, at_types, at_ops, at_pairs, at_targets, at_replay};
 
-use crate::{
-    BLOCKS, Counts, HEAD, HEAD_BYTES, INSTS, OPERANDS, PAIRS, Places, REGISTERS, REPLAY, TARGETS,
-    VIAS,
-};
+use crate::{BLOCKS, Counts, HEAD, HEAD_BYTES, INSTS, OPERANDS, PAIRS, Places, REGISTERS, REPLAY, TARGETS, VIAS};
 use words::bytes::{get_words, word_at};
 use words::copy::fill;
 

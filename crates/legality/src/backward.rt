@@ -4,18 +4,18 @@
 ghost use Rattle.std.specs.Prelude.{◌≡◌, ◌&&◌, ℕ, ◌<◌, leb, length, get_or};
 ghost use Rattle.words.specs.Lists.{all};
 ghost use Rattle.model.specs.Picture.{inst, reads, writes};
-ghost use Rattle.inst.specs.Table.{rows};
 ghost use Rattle.summary.specs.Passes.{kept_word, Awaited, Backed, Written, Readable, Small};
 
 use crate::known::back_known;
 use crate::rules::rule1;
 use facts::Fact;
+use inst::table::Table;
 use summary::notes::note_at;
 use summary::stamps::{AWAITED, Stamp, put_reads, put_writes};
 
 // A member that keeps rule 1.
-fn may_stay(t: &[u32; 202], recs: &[u32], f: Fact, st: &[u64]) -> bool
-    requires { (t.now ≡ rows) × Written recs.now (length st.now) f.rec f.def f.more }
+fn may_stay(t: &Table, recs: &[u32], f: Fact, st: &[u64]) -> bool
+    requires { Written recs.now (length st.now) f.rec f.def f.more }
     ensures { result ≡ (f.member && all (λ x. leb (get_or st.now x 0) 1023) (writes (inst recs.now f.rec))) }
 {
     if !f.member {
@@ -36,8 +36,8 @@ pub fn kept_at(member: bool, q: usize) -> u64
 }
 
 // If the position of fact f is kept, what it reads is awaited.
-fn await_reads(t: &[u32; 202], ops: &[u32], recs: &[u32], f: Fact, member: bool, st: &mut [u64])
-    requires { (t.now ≡ rows) × Readable recs.now ops.now (length st.old) f }
+fn await_reads(t: &Table, ops: &[u32], recs: &[u32], f: Fact, member: bool, st: &mut [u64])
+    requires { Readable recs.now ops.now (length st.old) f }
     ensures { Awaited (reads ops.now (inst recs.now f.rec)) member st.old st.new }
 {
     if member {
@@ -53,7 +53,7 @@ fn await_reads(t: &[u32; 202], ops: &[u32], recs: &[u32], f: Fact, member: bool,
 
 // The step at position q, of fact f, by its record.
 fn back_looked(
-    t: &[u32; 202],
+    t: &Table,
     recs: &[u32],
     ops: &[u32],
     f: Fact,
@@ -61,7 +61,7 @@ fn back_looked(
     lasts: &mut [u32; 2008],
     q: usize,
 ) -> bool
-    requires { (t.now ≡ rows) × Written recs.now (length st.old) f.rec f.def f.more × Readable recs.now ops.now (length st.old) f × Small f × (q < 800) }
+    requires { Written recs.now (length st.old) f.rec f.def f.more × Readable recs.now ops.now (length st.old) f × Small f × (q < 800) }
     ensures { Backed recs.now ops.now f q st.old lasts.old st.new lasts.new result }
 {
     let stays = may_stay(t, recs, f, st);
@@ -79,7 +79,7 @@ fn back_looked(
 // Position q, of fact f: dropped if it is a member that writes what is awaited. Says whether it is in the set. Whether the fact has all is
 // asked once: of most positions it has, and then the loop of a sweep holds nothing that only a record needs.
 pub fn back(
-    t: &[u32; 202],
+    t: &Table,
     recs: &[u32],
     ops: &[u32],
     f: Fact,
@@ -87,7 +87,7 @@ pub fn back(
     lasts: &mut [u32; 2008],
     q: usize,
 ) -> bool
-    requires { (t.now ≡ rows) × Written recs.now (length st.old) f.rec f.def f.more × Readable recs.now ops.now (length st.old) f × Small f × (q < 800) }
+    requires { Written recs.now (length st.old) f.rec f.def f.more × Readable recs.now ops.now (length st.old) f × Small f × (q < 800) }
     ensures { Backed recs.now ops.now f q st.old lasts.old st.new lasts.new result }
 {
     if f.more {

@@ -1,10 +1,10 @@
 // The sweep that drops what breaks one of rules 3 to 6 against the summary of a set (01, "The legal set").
 ghost use Rattle.std.specs.Prelude.{◌≡◌, not, ◌&&◌, ◌*◌, ◌<◌, length};
-ghost use Rattle.inst.specs.Table.{rows};
 ghost use Rattle.summary.specs.Passes.{fact_word, stay_test, Near, Forwarded, Written, Readable, Small};
 
 use crate::rules::{rule3, rule4, rule5, rule6};
 use facts::Fact;
+use inst::table::Table;
 use summary::notes::forget;
 use summary::stamps::{MEMBER_AT, ORIGIN, Stamp, WRITER, put_writes};
 
@@ -13,7 +13,7 @@ const IN_SET: u64 = WRITER + MEMBER_AT;
 
 // A member that keeps rules 3 to 6, the cheap ones first.
 fn may_stay(
-    t: &[u32; 202],
+    t: &Table,
     ops: &[u32],
     recs: &[u32],
     f: Fact,
@@ -24,7 +24,7 @@ fn may_stay(
     bar: u32,
     p: usize,
 ) -> bool
-    requires { (t.now ≡ rows) × Readable recs.now ops.now (length st.now) f × Small f × Near st.now × (length regs.now ≡ length st.now) × (p < 800) }
+    requires { Readable recs.now ops.now (length st.now) f × Small f × Near st.now × (length regs.now ≡ length st.now) × (p < 800) }
     ensures { result ≡ (f.member && stay_test recs.now ops.now regs.now st.now lasts.now f sus bar p) }
 {
     if !f.member {
@@ -56,7 +56,7 @@ fn stamp_of(f: Fact, member: bool) -> u64
 
 // Position p, of fact f: dropped if it is a member that breaks one of rules 3 to 6. Its writes are noted. Says whether it is in the set.
 pub fn forth(
-    t: &[u32; 202],
+    t: &Table,
     recs: &[u32],
     ops: &[u32],
     f: Fact,
@@ -67,7 +67,7 @@ pub fn forth(
     bar: u32,
     p: usize,
 ) -> bool
-    requires { (t.now ≡ rows) × Written recs.now (length st.old) f.rec f.def f.more × Readable recs.now ops.now (length st.old) f × Small f × Near st.old × (length regs.now ≡ length st.old) × (p < 800) }
+    requires { Written recs.now (length st.old) f.rec f.def f.more × Readable recs.now ops.now (length st.old) f × Small f × Near st.old × (length regs.now ≡ length st.old) × (p < 800) }
     ensures { Forwarded recs.now ops.now regs.now f sus bar p st.old lasts.old st.new lasts.new result }
 {
     let stays = may_stay(t, ops, recs, f, regs, st, lasts, sus, bar, p);

@@ -5,7 +5,6 @@
 ghost use Rattle.std.specs.Prelude.{◌≡◌, ◌⊎◌, not, ◌||◌, ℕ, ◌+◌, ◌/◌, ◌%◌, ◌<◌, ◌≤◌, length, get_or, eqb, leb};
 ghost use Rattle.words.specs.Lists.{all};
 ghost use Rattle.model.specs.Picture.{inst, absent, reads, writes};
-ghost use Rattle.inst.specs.Table.{rows};
 ghost use Rattle.inst.specs.Index.{word_of, Among};
 ghost use Rattle.inst.specs.Record.{Used};
 ghost use Rattle.regfacts.specs.Written.{Fits, Good};
@@ -15,7 +14,8 @@ ghost use Rattle.summary.specs.Passes.{result_test, read_test, place_test, word_
 
 use effects::arms::PIECES;
 use facts::Fact;
-use inst::index::{MaybeReg, Reg};
+use inst::index::Reg;
+use inst::table::Table;
 use regfacts::flags;
 use summary::notes::MEMBER;
 use summary::reads::{places, read_place};
@@ -28,11 +28,11 @@ const NOT_AWAITED: u64 = AWAITED - 1;
 const FLAGS: u32 = flags::FLAGS as u32;
 
 // Is register r, if it is one, not awaited?
-fn free(st: &[u64], r: MaybeReg) -> bool
+fn free(st: &[u64], r: Option<Reg>) -> bool
     requires { Among (length st.now) r }
     ensures { result ≡ (eqb (word_of r) absent || leb (get_or st.now (word_of r) 0) 1023) }
 {
-    let MaybeReg::Is(k) = r else {
+    let Some(k) = r else {
         return true;
     };
     st[k.at()] <= NOT_AWAITED
@@ -62,8 +62,8 @@ pub fn def_free(f: Fact, st: &[u64]) -> bool
 }
 
 // Rule 1: nothing that the position of fact f writes is awaited, that is, read further on by a kept position with no write in between.
-pub fn rule1(t: &[u32; 202], recs: &[u32], f: Fact, st: &[u64]) -> bool
-    requires { (t.now ≡ rows) × Written recs.now (length st.now) f.rec f.def f.more }
+pub fn rule1(t: &Table, recs: &[u32], f: Fact, st: &[u64]) -> bool
+    requires { Written recs.now (length st.now) f.rec f.def f.more }
     ensures { result ≡ all (λ x. leb (get_or st.now x 0) 1023) (writes (inst recs.now f.rec)) }
 {
     if !f.more {
@@ -74,11 +74,11 @@ pub fn rule1(t: &[u32; 202], recs: &[u32], f: Fact, st: &[u64]) -> bool
 }
 
 // Rule 2 for register r, if it is one: p does not write it last in the chain, or it is not needed elsewhere.
-fn unneeded(regs: &[u32], bits: &[u64], o: usize, r: MaybeReg, p: usize) -> bool
+fn unneeded(regs: &[u32], bits: &[u64], o: usize, r: Option<Reg>, p: usize) -> bool
     requires { Among (length regs.now) r × (p < 800) × (o ≤ length bits.now) }
     ensures { result ≡ (eqb (word_of r) absent || result_test regs.now bits.now o p (word_of r)) }
 {
-    let MaybeReg::Is(w) = r else {
+    let Some(w) = r else {
         return true;
     };
     let k = w.at();
@@ -111,7 +111,7 @@ pub fn unneeded_slots(
 
 // Rule 2: no register of the row that begins at word `o` of `bits` is written at p and by none after it.
 pub fn rule2(
-    t: &[u32; 202],
+    t: &Table,
     recs: &[u32],
     f: Fact,
     regs: &[u32],
@@ -119,7 +119,7 @@ pub fn rule2(
     o: usize,
     p: usize,
 ) -> bool
-    requires { (t.now ≡ rows) × Written recs.now (length regs.now) f.rec f.def f.more × (p < 800) × (o ≤ length bits.now) }
+    requires { Written recs.now (length regs.now) f.rec f.def f.more × (p < 800) × (o ≤ length bits.now) }
     ensures { result ≡ all (result_test regs.now bits.now o p) (writes (inst recs.now f.rec)) }
 {
     if !f.more {
@@ -130,11 +130,11 @@ pub fn rule2(
 }
 
 // Rule 3 for register r, if it is one.
-fn read_ok(st: &[u64], r: MaybeReg, p: usize) -> bool
+fn read_ok(st: &[u64], r: Option<Reg>, p: usize) -> bool
     requires { Among (length st.now) r × (p < 800) }
     ensures { result ≡ place_test st.now p (word_of r) }
 {
-    let MaybeReg::Is(k) = r else {
+    let Some(k) = r else {
         return true;
     };
     let v = st[k.at()];
@@ -158,8 +158,8 @@ fn places_ok(ops: &[u32], recs: &[u32], g: usize, uses: u32, st: &[u64], p: usiz
 }
 
 // Rule 3: each register that position p reads has its writer in the set, or is written by no kept position after p.
-pub fn rule3(t: &[u32; 202], ops: &[u32], recs: &[u32], f: Fact, st: &[u64], p: usize) -> bool
-    requires { (t.now ≡ rows) × Readable recs.now ops.now (length st.now) f × (p < 800) }
+pub fn rule3(t: &Table, ops: &[u32], recs: &[u32], f: Fact, st: &[u64], p: usize) -> bool
+    requires { Readable recs.now ops.now (length st.now) f × (p < 800) }
     ensures { result ≡ all (read_test st.now p) (reads ops.now (inst recs.now f.rec)) }
 {
     if !f.more {
@@ -248,7 +248,7 @@ fn pieces_ok(
         if xs.len() - k < 2 {
             return true;
         }
-        let MaybeReg::Is(r) = Reg::new(xs[k], st.len()) else {
+        let Some(r) = Reg::new(xs[k], st.len()) else {
             return false;
         };
         if !piece_ok(regs, st, lasts, bar, p, sc, r) {

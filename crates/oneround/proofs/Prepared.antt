@@ -1,4 +1,5 @@
 -- What the move of a round comes to (01, "A round" and "Answers"): it is counted, against the room that is lent. Assumes nothing.
+use Rattle.std.specs.Prelude.{Option, Some}
 use mathlib.Core.Path.{◌≡◌, sym, ap, ◌∙◌, subst}
 use mathlib.Core.Logic.{⊎_elim}
 use mathlib.Core.Bool.{Bool, true, false, ◌&&◌, and-false}
@@ -29,8 +30,6 @@ use Rattle.sizes.specs.declared.Sizes.{Sizes}
 use Rattle.sizes.specs.Parts.{stamps_at}
 use Rattle.chainwords.specs.Work.{at_stamps, chain_words, Begun}
 use Rattle.trial.specs.Trial.{Found}
-use Rattle.trial.specs.declared.block.MaybeMove.{MaybeMove}
-use Rattle.trial.specs.declared.block.MaybeMove.TheVariants.{Is}
 use Rattle.find.specs.Find.{IsAnswered, Sure}
 use Rattle.oneround.specs.declared.weigh.Line.{Line}
 use Rattle.oneround.specs.declared.weigh.Step.{Step}
@@ -93,7 +92,7 @@ module _ {P : Picture} (ok : Accepted P) {G : Facts} {x : ℕ} {mv : Move} {w v 
 -- ---- `weigh`
 
 -- a move mv
-module _ {bounds recs types ops : List ℕ} {s : Sizes} {work64 work32 : List ℕ} {r : MaybeMove} (k : Ready bounds recs types ops s work64 work32 r) where
+module _ {bounds recs types ops : List ℕ} {s : Sizes} {work64 work32 : List ℕ} {r : Option Move} (k : Ready bounds recs types ops s work64 work32 r) where
   abbrev P : Beside → Picture
   P e = with_beside bounds recs types ops s e
 
@@ -118,7 +117,7 @@ module _ {bounds recs types ops : List ℕ} {s : Sizes} {work64 work32 : List �
   stamps_are : (e : Beside) → stamps_at s ≡ at_stamps (P e)
   stamps_are e = ap (λ (z : Sizes). stamps_at z) k.sizes_are
 
-  module _ {mv : Move} (m : r ≡ Is mv) where
+  module _ {mv : Move} (m : r ≡ Some mv) where
     sure : (e : Beside) (G : Facts) → IsAnswered (P e) G work64 work32 r → Sure (P e) G work64 work32 mv
     sure e G b = subst (IsAnswered (P e) G work64 work32) m b
 

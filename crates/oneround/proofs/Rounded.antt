@@ -1,5 +1,6 @@
 -- One round by itself (01, "A round"): what each of its three parts asks of what the one before left, and what they come to together.
 -- Assumes nothing.
+use Rattle.std.specs.Prelude.{Option}
 use mathlib.Core.Path.{◌≡◌, refl, ap, ap₂, ◌∙◌}
 use mathlib.Core.List.{List}
 use Prim.Native.Nat.{ℕ}
@@ -11,7 +12,7 @@ use Rattle.checks.specs.Causes.{picture_of}
 use Rattle.apply.specs.Apply.{Rest}
 use Rattle.sizes.specs.declared.Sizes.{Sizes}
 use Rattle.chainwords.specs.Work.{Shown, Begun, chain_words}
-use Rattle.trial.specs.declared.block.MaybeMove.{MaybeMove}
+use Rattle.apply.specs.declared.moves.Move.{Move}
 use Rattle.find.specs.Find.{Finding, Searched}
 use Rattle.oneround.specs.declared.weigh.Step.{Step}
 use Rattle.oneround.specs.Weigh.{Beside, Ready, Weighed, IsPrepared}
@@ -57,7 +58,7 @@ module _ {bounds recs locs vias types ops pairs targets replay : List ℕ} {s : 
 
   -- ---- weighed
 
-  module _ {bits words : List ℕ} {r : MaybeMove} (d : Searched bounds recs ops pairs targets replay s work64 work32 bits words r) where
+  module _ {bits words : List ℕ} {r : Option Move} (d : Searched bounds recs ops pairs targets replay s work64 work32 bits words r) where
     found_still : refusal P (length bits) (length words) records ≡ 0
     found_still = still d.size64 d.size32
 

@@ -1,5 +1,5 @@
 -- 01, "A round" and "Answers": what the move of a round comes to, against the room that is lent. Assumes nothing.
-use Rattle.std.specs.Prelude.{◌≡◌, true, false, List, ℕ, ◌+◌, ◌≤◌, ◌<◌, length, take, drop}
+use Rattle.std.specs.Prelude.{◌≡◌, true, false, List, ℕ, ◌+◌, ◌≤◌, ◌<◌, length, take, drop, Option}
 use Rattle.std.proofs.Math.Option.{none, some}
 use Rattle.words.specs.Lists.{count}
 use Rattle.model.specs.Picture.{Picture}
@@ -15,7 +15,6 @@ use Rattle.apply.specs.Apply.{Stands, Given, Asks, Counted, Fits}
 use Rattle.sizes.specs.declared.Sizes.{Sizes}
 use Rattle.sizes.specs.Parts.{sizes_of, stamps_at}
 use Rattle.chainwords.specs.Work.{Begun, chain_words}
-use Rattle.trial.specs.declared.block.MaybeMove.{MaybeMove}
 use Rattle.find.specs.Find.{IsAnswered}
 use Rattle.oneround.specs.declared.weigh.Step.{Step}
 use Rattle.oneround.specs.declared.weigh.Step.TheVariants.{Ends, Goes, Short}
@@ -77,7 +76,7 @@ abbrev pub with_beside : List ℕ → List ℕ → List ℕ → List ℕ → Siz
 with_beside bounds recs types ops s e = picture_of bounds recs e.locs e.vias types s.regs ops s.opers e.pairs e.targets e.replay
 
 -- there is an accepted picture of these lists and sizes, and facts by which r is what the search of a round answers
-pub record Ready (bounds recs types ops : List ℕ) (s : Sizes) (work64 work32 : List ℕ) (r : MaybeMove) : Type 0 where
+pub record Ready (bounds recs types ops : List ℕ) (s : Sizes) (work64 work32 : List ℕ) (r : Option Move) : Type 0 where
   pub e : Beside
   pub G : Facts
   pub accepted : refusal (with_beside bounds recs types ops s e) (length work64) (length work32) records ≡ 0
@@ -85,7 +84,7 @@ pub record Ready (bounds recs types ops : List ℕ) (s : Sizes) (work64 work32 :
   pub answer : IsAnswered (with_beside bounds recs types ops s e) G work64 work32 r
 
 -- of every such picture and facts: the work slices hold what the call began with, and q is what it comes to
-pub record Weighed (bounds recs types ops : List ℕ) (s : Sizes) (work64 work32 : List ℕ) (r : MaybeMove) (work64' work32' : List ℕ) (q : Step) : Type 0 where
+pub record Weighed (bounds recs types ops : List ℕ) (s : Sizes) (work64 work32 : List ℕ) (r : Option Move) (work64' work32' : List ℕ) (q : Step) : Type 0 where
   pub size64 : length work64' ≡ length work64
   pub size32 : length work32' ≡ length work32
   pub is : (e : Beside) (G : Facts) → refusal (with_beside bounds recs types ops s e) (length work64) (length work32) records ≡ 0 → IsAnswered (with_beside bounds recs types ops s e) G work64 work32 r

@@ -1,6 +1,5 @@
 // The move of a round, made (01, "The move"), and the rows of the blocks that it changed.
 ghost use Rattle.std.specs.Prelude.{◌≡◌};
-ghost use Rattle.inst.specs.Table.{rows};
 ghost use Rattle.words.specs.Bits.{width};
 ghost use Rattle.oneround.specs.Make.{Renewing, Renewed, Making, Made};
 
@@ -8,6 +7,7 @@ use crate::weigh::{Line, Step};
 use apply::apply;
 use apply::needs::Counts;
 use flow::rows::{all_rows, block_rows};
+use inst::table::Table;
 use model::CHAIN_WORDS;
 use sizes::{Sizes, at_stamps};
 use words::bits::width;
@@ -15,7 +15,7 @@ use words::numbers::wide;
 
 // After move l, the rows of its two blocks anew; all rows, where those of the registers in use are wider than with `was` registers.
 fn renew(
-    t: &[u32; 202],
+    t: &Table,
     bounds: &[u32],
     recs: &[u32],
     ops: &[u32],
@@ -23,7 +23,7 @@ fn renew(
     was: u32,
     l: Line,
 )
-    requires { (t.now ≡ rows) × Renewing bounds.now recs.now ops.now work64.old was l.registers l.moved.from.0 l.moved.into.0 }
+    requires { Renewing bounds.now recs.now ops.now work64.old was l.registers l.moved.from.0 l.moved.into.0 }
     ensures { Renewed bounds.now recs.now ops.now work64.old (width was) (width l.registers) l.moved.from.0 l.moved.into.0 work64.new }
 {
     let mv = l.moved;
@@ -38,7 +38,7 @@ fn renew(
 
 // The round's move, if it fits.
 pub fn make(
-    t: &[u32; 202],
+    t: &Table,
     bounds: &mut [u32],
     recs: &mut [u32],
     locs: &mut [u32],
@@ -50,7 +50,7 @@ pub fn make(
     s: Sizes,
     q: Step,
 )
-    requires { (t.now ≡ rows) × Making bounds.old recs.old locs.old vias.old types.old ops.old s work64.old work32.now q }
+    requires { Making bounds.old recs.old locs.old vias.old types.old ops.old s work64.old work32.now q }
     ensures { Made bounds.old recs.old locs.old vias.old types.old ops.old s work64.old work32.now q bounds.new recs.new locs.new vias.new types.new ops.new work64.new }
 {
     let Step::Goes(l) = q else {

@@ -1,7 +1,6 @@
 // One round by itself (01, "A round"): its move found, weighed, and made if it fits. The facts on registers are those that the work
 // slices hold, so that a round can follow on another call's.
 ghost use Rattle.std.specs.Prelude.{◌≡◌, ◌≤◌, length};
-ghost use Rattle.inst.specs.Table.{rows};
 ghost use Rattle.checks.specs.Causes.{picture_of};
 ghost use Rattle.oneround.specs.Round.{Open, Stepped};
 ghost use Rattle.oneround.specs.Kept.{registers_then, operands_then, StepKept};
@@ -10,10 +9,11 @@ use crate::make::make;
 use crate::weigh::{Step, weigh};
 use facts::Fact;
 use find::find_move;
+use inst::table::Table;
 use sizes::Sizes;
 
 pub fn round(
-    t: &[u32; 202],
+    t: &Table,
     bounds: &mut [u32],
     recs: &mut [u32],
     locs: &mut [u32],
@@ -29,7 +29,7 @@ pub fn round(
     s: Sizes,
 ) -> Step
     requires { let P = picture_of bounds.old recs.old locs.old vias.old types.old s.regs ops.old s.opers pairs.now targets.now replay.now in
-        (t.now ≡ rows) × Open P s work64.old work32.old × (800 ≤ length facts.old) }
+        Open P s work64.old work32.old × (800 ≤ length facts.old) }
     ensures { let P = picture_of bounds.old recs.old locs.old vias.old types.old s.regs ops.old s.opers pairs.now targets.now replay.now in
         let Q = picture_of bounds.new recs.new locs.new vias.new types.new (registers_then result s.regs) ops.new (operands_then result s.opers) pairs.now targets.now replay.now in
         Stepped P work64.old work32.old result bounds.new recs.new locs.new vias.new types.new ops.new work64.new work32.new

@@ -1,15 +1,14 @@
 // What the move of a round comes to (01, "A round" and "Answers"): it fits the room that is lent, it needs more, or there is none. Of
 // what is lent, only work words are written.
 ghost use Rattle.std.specs.Prelude.{◌≡◌, ◌≤◌};
-ghost use Rattle.inst.specs.Table.{rows};
 ghost use Rattle.rename.specs.Names.{Some};
 ghost use Rattle.oneround.specs.Weigh.{Needing, Needed, IsStepped, Ready, Weighed};
 
 use apply::moves::Move;
 use apply::needs::{Counts, needs};
+use inst::table::Table;
 use model::CHAIN_WORDS;
 use sizes::{Sizes, at_stamps};
-use trial::block::MaybeMove;
 use words::numbers::wide;
 
 // A move that fits, with the registers and operands in use after it.
@@ -30,7 +29,7 @@ pub enum Step {
 
 // What move mv needs: the registers and operands in use after it. Its new registers are then in the words of its positions.
 fn count_needs(
-    t: &[u32; 202],
+    t: &Table,
     bounds: &[u32],
     recs: &[u32],
     types: &[u32],
@@ -40,7 +39,7 @@ fn count_needs(
     s: Sizes,
     mv: Move,
 ) -> Counts
-    requires { (t.now ≡ rows) × Some (λ n. Needing bounds.now recs.now types.now ops.now s work64.old work32.old n mv) }
+    requires { Some (λ n. Needing bounds.now recs.now types.now ops.now s work64.old work32.old n mv) }
     ensures { Needed bounds.now recs.now types.now ops.now s work64.old work32.old mv work64.new work32.new result }
 {
     let a = at_stamps(s);
@@ -83,7 +82,7 @@ fn step_of(mv: Move, c: Counts, lent: usize, room: usize) -> Step
 
 // What the round comes to, of which r is the move, if there is one.
 pub fn weigh(
-    t: &[u32; 202],
+    t: &Table,
     bounds: &[u32],
     recs: &[u32],
     types: &[u32],
@@ -91,12 +90,12 @@ pub fn weigh(
     work64: &mut [u64],
     work32: &mut [u32],
     s: Sizes,
-    r: MaybeMove,
+    r: Option<Move>,
 ) -> Step
-    requires { (t.now ≡ rows) × Ready bounds.now recs.now types.now ops.now s work64.old work32.old r }
+    requires { Ready bounds.now recs.now types.now ops.now s work64.old work32.old r }
     ensures { Weighed bounds.now recs.now types.now ops.now s work64.old work32.old r work64.new work32.new result }
 {
-    let MaybeMove::Is(mv) = r else {
+    let Some(mv) = r else {
         return Step::Ends;
     };
     let c = count_needs(t, bounds, recs, types, ops, work64, work32, s, mv);

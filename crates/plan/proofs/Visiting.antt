@@ -80,12 +80,12 @@ module _ {recs ops regs work : List ℕ} {g : Sweep} {f : Fact} {a : Tally} {p :
   same : length regs ≡ wide
   same = sym (sized g.s (length regs))
 
-  pub back_asks : {t : List ℕ} → t ≡ rows → (t ≡ rows) × Written recs wide f.rec f.def f.more × Readable recs ops wide f × Small f × (p < 800) × (g.s ≤ g.s + length regs) × (g.s + length regs ≤ length work)
-  back_asks z = (z, subst (λ (m : ℕ). Written recs m f.rec f.def f.more) same v.written, subst (λ (m : ℕ). Readable recs ops m f) same v.readable, v.small, v.low, omega arith, v.room)
+  pub back_asks : Written recs wide f.rec f.def f.more × Readable recs ops wide f × Small f × (p < 800) × (g.s ≤ g.s + length regs) × (g.s + length regs ≤ length work)
+  back_asks = (subst (λ (m : ℕ). Written recs m f.rec f.def f.more) same v.written, subst (λ (m : ℕ). Readable recs ops m f) same v.readable, v.small, v.low, omega arith, v.room)
 
-  pub forth_asks : {t : List ℕ} → t ≡ rows → g.first ≡ false → g.ahead ≡ true
-      → (t ≡ rows) × Written recs wide f.rec f.def f.more × Readable recs ops wide f × Small f × Near (part g.s wide work) × (length regs ≡ wide) × (p < 800) × (g.s ≤ g.s + length regs) × (g.s + length regs ≤ length work)
-  forth_asks z e u = (z, subst (λ (m : ℕ). Written recs m f.rec f.def f.more) same v.written, subst (λ (m : ℕ). Readable recs ops m f) same v.readable, v.small, subst (λ (m : ℕ). Near (part g.s m work)) same (v.near e u), same, v.low, omega arith, v.room)
+  pub forth_asks : g.first ≡ false → g.ahead ≡ true
+      → Written recs wide f.rec f.def f.more × Readable recs ops wide f × Small f × Near (part g.s wide work) × (length regs ≡ wide) × (p < 800) × (g.s ≤ g.s + length regs) × (g.s + length regs ≤ length work)
+  forth_asks e u = (subst (λ (m : ℕ). Written recs m f.rec f.def f.more) same v.written, subst (λ (m : ℕ). Readable recs ops m f) same v.readable, v.small, subst (λ (m : ℕ). Near (part g.s m work)) same (v.near e u), same, v.low, omega arith, v.room)
 
 -- ---- the three kinds of visit
 

@@ -1,15 +1,15 @@
 // The greatest legal set of a chain for a target (01, "The legal set"; 000's `plan`).
 ghost use Rattle.std.specs.Prelude.{◌≡◌};
-ghost use Rattle.inst.specs.Table.{rows};
 ghost use Rattle.plan.specs.Cycle.{Choosable, Chose};
 
 use crate::settle::{Cycle, settle};
 use facts::Fact;
+use inst::table::Table;
 
 // The facts' marks become the greatest legal set, unless it has fewer members than `least`. Says how many are marked. The row of registers
 // needed elsewhere begins at word `o` of `work`; its words from `s` on, one a register, are written. The notes of the sweeps are its own.
 pub fn legal_set(
-    t: &[u32; 202],
+    t: &Table,
     recs: &[u32],
     ops: &[u32],
     regs: &[u32],
@@ -17,7 +17,7 @@ pub fn legal_set(
     facts: &mut [Fact],
     z: Cycle,
 ) -> u32
-    requires { (t.now ≡ rows) × Choosable recs.now ops.now regs.now work.old facts.old z }
+    requires { Choosable recs.now ops.now regs.now work.old facts.old z }
     ensures { Chose recs.now ops.now regs.now z work.old facts.old work.new facts.new result }
 {
     if z.n == 0 {

@@ -1,13 +1,13 @@
 // Sweeps in turn until both drop nothing, or too few are left (01, "The legal set": unions of legal sets are legal, so a greatest one exists):
 // the loop, and what is decided between them.
 ghost use Rattle.std.specs.Prelude.{◌≡◌, true, false, cond, ◌+◌, ◌-◌, ◌≤◌, length, replicate};
-ghost use Rattle.inst.specs.Table.{rows};
 ghost use Rattle.summary.specs.Passes.{Around};
 ghost use Rattle.plan.specs.Sweep.{part};
 ghost use Rattle.plan.specs.Cycle.{sweep_of, Readied, Next, Choosable, Chose};
 
 use crate::sweep::{Sweep, Tally, run};
 use facts::Fact;
+use inst::table::Table;
 use summary::notes::{BARRIER, MEMBER, SUSPENSION};
 
 // `go`: there is a sweep to come; `first` the start, else `ahead` that forward. `quiet`: the last dropped nothing; `done`: nor did the one
@@ -128,7 +128,7 @@ pub fn next(c: Cycle, a: Tally) -> Cycle
 // The facts' marks become the greatest legal set, unless it has fewer members than `least`. Says how many are marked. The row of registers
 // needed elsewhere begins at word `o` of `work`; its words from `s` on, one a register, are written.
 pub fn settle(
-    t: &[u32; 202],
+    t: &Table,
     recs: &[u32],
     ops: &[u32],
     regs: &[u32],
@@ -137,7 +137,7 @@ pub fn settle(
     facts: &mut [Fact],
     z: Cycle,
 ) -> u32
-    requires { (t.now ≡ rows) × Choosable recs.now ops.now regs.now work.old facts.old z }
+    requires { Choosable recs.now ops.now regs.now work.old facts.old z }
     ensures { Chose recs.now ops.now regs.now z work.old facts.old work.new facts.new result }
 {
     let a = zero();

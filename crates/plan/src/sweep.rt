@@ -2,11 +2,11 @@
 // forward, which drop members. Each fact is looked at once, by value, and its mark is written.
 ghost use Rattle.std.specs.Prelude.{◌≡◌, ◌&&◌, ◌+◌, ◌-◌, ◌<◌, ◌≤◌, ltb, length};
 ghost use Rattle.words.specs.Lists.{hit};
-ghost use Rattle.inst.specs.Table.{rows};
 ghost use Rattle.summary.specs.Passes.{begin_test, Backed, Forwarded, Around, Near, Written, Readable, Small};
 ghost use Rattle.plan.specs.Sweep.{part, place, Visitable, Visit, Sweepable, Swept};
 
 use facts::{Fact, fact_at, set_member};
+use inst::table::Table;
 use legality::backward::back;
 use legality::forward::forth;
 use legality::start::begins_in;
@@ -62,7 +62,7 @@ fn counted(keep: bool, count: u32, more: bool) -> Tally
 
 // Does position p, of fact f, begin in the set?
 fn starts(
-    t: &[u32; 202],
+    t: &Table,
     recs: &[u32],
     f: Fact,
     regs: &[u32],
@@ -70,7 +70,7 @@ fn starts(
     g: Sweep,
     p: usize,
 ) -> bool
-    requires { (t.now ≡ rows) × Written recs.now (length regs.now) f.rec f.def f.more × (p < 800) × (g.o ≤ length work.now) }
+    requires { Written recs.now (length regs.now) f.rec f.def f.more × (p < 800) × (g.o ≤ length work.now) }
     ensures { result ≡ (ltb p g.m && begin_test recs.now regs.now work.now f g.o p) }
 {
     if p < g.m {
@@ -81,7 +81,7 @@ fn starts(
 
 // The step backward, over the words of the work from s on.
 fn back_in(
-    t: &[u32; 202],
+    t: &Table,
     recs: &[u32],
     ops: &[u32],
     f: Fact,
@@ -91,7 +91,7 @@ fn back_in(
     lasts: &mut [u32; 2008],
     p: usize,
 ) -> bool
-    requires { (t.now ≡ rows) × Written recs.now (e - s) f.rec f.def f.more × Readable recs.now ops.now (e - s) f × Small f × (p < 800) × (s ≤ e) × (e ≤ length work.old) }
+    requires { Written recs.now (e - s) f.rec f.def f.more × Readable recs.now ops.now (e - s) f × Small f × (p < 800) × (s ≤ e) × (e ≤ length work.old) }
     ensures { Backed recs.now ops.now f p (part s (e - s) work.old) lasts.old (part s (e - s) work.new) lasts.new result × Around s (e - s) work.old work.new }
 {
     back(t, recs, ops, f, &mut work[s..e], lasts, p)
@@ -99,7 +99,7 @@ fn back_in(
 
 // The step forward, likewise.
 fn forth_in(
-    t: &[u32; 202],
+    t: &Table,
     recs: &[u32],
     ops: &[u32],
     f: Fact,
@@ -110,7 +110,7 @@ fn forth_in(
     lasts: &mut [u32; 2008],
     p: usize,
 ) -> bool
-    requires { (t.now ≡ rows) × Written recs.now (e - g.s) f.rec f.def f.more × Readable recs.now ops.now (e - g.s) f × Small f × Near (part g.s (e - g.s) work.old) × (length regs.now ≡ e - g.s) × (p < 800) × (g.s ≤ e) × (e ≤ length work.old) }
+    requires { Written recs.now (e - g.s) f.rec f.def f.more × Readable recs.now ops.now (e - g.s) f × Small f × Near (part g.s (e - g.s) work.old) × (length regs.now ≡ e - g.s) × (p < 800) × (g.s ≤ e) × (e ≤ length work.old) }
     ensures { Forwarded recs.now ops.now regs.now f g.sus g.bar p (part g.s (e - g.s) work.old) lasts.old (part g.s (e - g.s) work.new) lasts.new result × Around g.s (e - g.s) work.old work.new }
 {
     let s = g.s;
@@ -130,7 +130,7 @@ fn forth_in(
 
 // Position p, of fact f, is visited.
 fn visit(
-    t: &[u32; 202],
+    t: &Table,
     recs: &[u32],
     ops: &[u32],
     regs: &[u32],
@@ -141,7 +141,7 @@ fn visit(
     a: Tally,
     p: usize,
 ) -> Tally
-    requires { (t.now ≡ rows) × Visitable recs.now ops.now regs.now work.old g f a p }
+    requires { Visitable recs.now ops.now regs.now work.old g f a p }
     ensures { Visit recs.now ops.now regs.now g f a p work.old lasts.old work.new lasts.new result }
 {
     if g.first {
@@ -159,7 +159,7 @@ fn visit(
 
 // k turns of a sweep.
 pub fn run(
-    t: &[u32; 202],
+    t: &Table,
     recs: &[u32],
     ops: &[u32],
     regs: &[u32],
@@ -170,7 +170,7 @@ pub fn run(
     a: Tally,
     k: usize,
 ) -> Tally
-    requires { (t.now ≡ rows) × Sweepable recs.now ops.now regs.now work.old facts.old g a k }
+    requires { Sweepable recs.now ops.now regs.now work.old facts.old g a k }
     ensures { Swept recs.now ops.now regs.now g work.old lasts.old facts.old a k work.new lasts.new facts.new result }
 {
     let mut b = a;

@@ -1,4 +1,5 @@
 -- One position's turn, and all of them. Assumes nothing.
+use Rattle.std.specs.Prelude.{Option}
 use mathlib.Core.Path.{◌≡◌, refl, sym, ap, ap₂, ◌∙◌, subst}
 use mathlib.Core.Bool.{Bool, true, false, cond}
 use mathlib.Core.List.{List, ◌∷◌}
@@ -15,7 +16,7 @@ use Rattle.words.proofs.Bools.{lt?}
 use mathlib.Core.Logic.{⊎_elim}
 use Rattle.model.specs.Picture.{absent}
 use Rattle.inst.specs.Index.{reg_of, word_of, Among}
-use Rattle.inst.specs.declared.index.MaybeReg.{MaybeReg}
+use Rattle.inst.specs.declared.index.Reg.{Reg}
 use Rattle.model.specs.Move.{Pool, release, gives}
 use Rattle.inst.proofs.Indices.{among_made, word_made}
 use Rattle.pool.specs.Pool.{Is, Turn, Ready, Positioned, Allotted, Allots, mark_at, last_at, wrote_at, new_at, after, typed, start, reg_or, regs_of, grow_if, piled}
@@ -47,7 +48,7 @@ position_some {p} {p'} {d} {nh} {nf} {next} {reg} {nh'} {nf'} {next'} {types} {w
 }
 
 -- the register that a position writes
-module _ {R m p c : ℕ} {types w : List ℕ} {d : MaybeReg} (r : Ready R m types w) (lt : p < m) (made : d ≡ reg_of (wrote_at w p) c) (is : c ≡ R) where
+module _ {R m p c : ℕ} {types w : List ℕ} {d : Option Reg} (r : Ready R m types w) (lt : p < m) (made : d ≡ reg_of (wrote_at w p) c) (is : c ≡ R) where
   pub wrote_word : word_of d ≡ wrote_at w p
   wrote_word = word_made (wrote_at w p) R made is (r.wrote_ok p lt)
 

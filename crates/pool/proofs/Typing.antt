@@ -1,4 +1,5 @@
 -- The new registers' types, written behind those in use. Assumes nothing.
+use Rattle.std.specs.Prelude.{Option}
 use mathlib.Core.Path.{◌≡◌, refl, sym, ap, ap₂, ◌∙◌, subst}
 use mathlib.Core.Bool.{Bool, true, false, cond}
 use mathlib.Core.List.{List, [], ◌∷◌, ◌++◌, append_assoc}
@@ -12,7 +13,7 @@ use lib.ListN.{length, take, drop, get_or, set, length-set, length-append, lengt
 use lib.Seq.{drop-cons, set-append_seam, append_snoc, get_or-take, length-take-le}
 use Rattle.model.specs.Picture.{absent}
 use Rattle.inst.specs.Index.{reg_of, word_of, Among}
-use Rattle.inst.specs.declared.index.MaybeReg.{MaybeReg}
+use Rattle.inst.specs.declared.index.Reg.{Reg}
 use Rattle.inst.proofs.Indices.{among_made, word_made}
 use Rattle.pool.specs.Pool.{grow_if, typed, width, one_if, new_at, wrote_at}
 use Rattle.pool.specs.Types.{over, TypeAdded, TypesFit}
@@ -166,10 +167,10 @@ module _ {R m n p : ℕ} {T w xs : List ℕ} (f : TypesFit R m T w) (t : Typing 
       omega arith
 
   -- the register that the position writes, by its range test
-  word_there : {k : MaybeReg} {c : ℕ} → k ≡ reg_of d c → c ≡ R → reg ≡ n → word_of k ≡ d
+  word_there : {k : Option Reg} {c : ℕ} → k ≡ reg_of d c → c ≡ R → reg ≡ n → word_of k ≡ d
   word_there made is e = word_made d R made is (λ nt. in_use e)
 
-  pub typing_ok : {k : MaybeReg} {c : ℕ} → k ≡ reg_of d c → c ≡ R → Among (length xs) k × (reg ≡ n → (word_of k ≡ absent → ⊥) × (n + width (get_or xs (word_of k) 0) ≤ length xs))
+  pub typing_ok : {k : Option Reg} {c : ℕ} → k ≡ reg_of d c → c ≡ R → Among (length xs) k × (reg ≡ n → (word_of k ≡ absent → ⊥) × (n + width (get_or xs (word_of k) 0) ≤ length xs))
   typing_ok {k} made is =
       let r = f.regs in
       let s = t.size in
@@ -181,7 +182,7 @@ module _ {R m n p : ℕ} {T w xs : List ℕ} (f : TypesFit R m T w) (t : Typing 
             (λ z. omega arith, subst (λ (j : ℕ). n + width (get_or xs j 0) ≤ length xs) (sym q) (room_for e)),
       )
 
-  pub typing_more : {k : MaybeReg} {c r : ℕ} {ys : List ℕ} → k ≡ reg_of d c → c ≡ R → TypeAdded n (word_of k) reg xs ys r → Typing R m T w ys r (p + 1)
+  pub typing_more : {k : Option Reg} {c r : ℕ} {ys : List ℕ} → k ≡ reg_of d c → c ≡ R → TypeAdded n (word_of k) reg xs ys r → Typing R m T w ys r (p + 1)
   typing_more {k} {c} {r} {ys} made in_all a =
       let s = a.step now_types T t.is t.count in
       let same : grow_if (eqb reg n) now_types (get_or xs (word_of k) 0) ≡ typed T w (suc p) (take R T) =

@@ -6,7 +6,7 @@ ghost use Rattle.pool.specs.Pool.{Gave, Turn, width};
 
 use crate::free::{find, remove};
 use crate::held::{FREE, UNTIL, release};
-use inst::index::MaybeReg;
+use inst::index::Reg;
 use model::ABSENT;
 
 // How many registers are held, and free, and which is the next.
@@ -76,7 +76,7 @@ fn give(pool: &mut [u32], n: Count, until: u32, ty: u32) -> Given
 }
 
 // The turn of member m: registers whose last reader is before it become free; then its own, for the register d that it writes, if any.
-pub fn turn(pool: &mut [u32], n: Count, m: Member, d: MaybeReg, types: &[u32]) -> Given
+pub fn turn(pool: &mut [u32], n: Count, m: Member, d: Option<Reg>, types: &[u32]) -> Given
     requires nf_bound { (n.nh + n.nf < 800) × (m.until < 4096) × (n.next < 131000) × (1600 ≤ length pool.old) }
     requires among { Among (length types.now) d × ((word_of d ≡ 4294967295 → ⊥) → get_or types.now (word_of d) 0 < 8) }
     ensures { Turn 800 m.at m.until (word_of d) n.nh n.nf n.next types.now pool.old pool.new result.reg result.n.nh result.n.nf result.n.next }
@@ -89,7 +89,7 @@ pub fn turn(pool: &mut [u32], n: Count, m: Member, d: MaybeReg, types: &[u32]) -
         nf: nf + g,
         next: n.next,
     };
-    let MaybeReg::Is(k) = d else {
+    let Some(k) = d else {
         return Given {
             reg: ABSENT,
             n: rest,

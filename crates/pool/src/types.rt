@@ -5,19 +5,19 @@ ghost use Rattle.inst.specs.Index.{word_of, Among};
 ghost use Rattle.pool.specs.Pool.{width, typed};
 ghost use Rattle.pool.specs.Types.{TypeAdded, TypesFit, over};
 
-use inst::index::{MaybeReg, Reg};
+use inst::index::Reg;
 use position::{DEF, NEW, PLACE};
 use words::numbers::wide;
 
 // The type of register d once more, at n, if it is n that was given. Returns the types in use then.
-fn add_type(types: &mut [u32], n: usize, d: MaybeReg, reg: u32) -> usize
+fn add_type(types: &mut [u32], n: usize, d: Option<Reg>, reg: u32) -> usize
     requires { Among (length types.old) d × (reg ≡ n → (word_of d ≡ 4294967295 → ⊥) × (n + width (get_or types.old (word_of d) 0) ≤ length types.old)) }
     ensures { TypeAdded n (word_of d) reg types.old types.new result }
 {
     if wide(reg) != n {
         return n;
     }
-    let MaybeReg::Is(k) = d else {
+    let Some(k) = d else {
         return n;
     };
     let ty = types[k.at()];

@@ -1,4 +1,5 @@
 -- What `virdzeba_try` gives, case by case: refused, no block, no chain, sought. Assumes nothing.
+use Rattle.std.specs.Prelude.{Option, Some, None}
 use mathlib.Core.Path.{◌≡◌, refl, sym, ap, ◌∙◌, subst}
 use mathlib.Core.Bool.{Bool, true, false}
 use mathlib.Core.List.{List}
@@ -18,8 +19,6 @@ use Rattle.sizes.specs.declared.Sizes.{Sizes}
 use Rattle.sizes.specs.Parts.{sizes_of}
 use Rattle.inst.specs.Index.{block_of}
 use Rattle.inst.specs.declared.index.BlockId.{BlockId}
-use Rattle.inst.specs.declared.index.MaybeBlock.{MaybeBlock}
-use Rattle.inst.specs.declared.index.MaybeBlock.TheVariants as blocks
 use Rattle.inst.proofs.Indices.{is_block, not_block}
 use Rattle.facts.specs.declared.Fact.{Fact}
 use Rattle.apply.specs.Apply.{Stands}
@@ -27,12 +26,8 @@ use Rattle.apply.specs.declared.moves.Move.{Move}
 use Rattle.chainwords.specs.Work.{Shown, Held, chain_words}
 use Rattle.worth.specs.Worth.{Chosen}
 use Rattle.search.specs.declared.find.Look.{Look}
-use Rattle.search.specs.declared.find.MaybeLook.{MaybeLook}
-use Rattle.search.specs.declared.find.MaybeLook.TheVariants.{Is, Not}
 use Rattle.search.specs.Search.{IsLooked}
 use Rattle.search.proofs.Looked.{shown_at}
-use Rattle.trial.specs.declared.block.MaybeMove.{MaybeMove}
-use Rattle.trial.specs.declared.block.MaybeMove.TheVariants as tries
 use Rattle.trial.specs.Trial.{Found, IsTried, Following, Followed}
 use Rattle.probe.specs.declared.attempt.Judged.{Judged}
 use Rattle.probe.specs.declared.attempt.Ready.{Ready}
@@ -43,11 +38,11 @@ use Rattle.probe.specs.Attempt.{move_number, with_move, plan_number, with_plan, 
 
 module _ (P : Picture) (r : Room) (x : ℕ) where
   module _ (ok : refusal P r.w64 r.w32 r.records ≡ 0) where
-    by_new : (o : MaybeBlock) → block_of x (nblocks P) ≡ o → Judges P r x (record { block = o; number = 300; sizes = sizes_of P })
-    by_new (blocks.Is b) e = let i = is_block x (nblocks P) b e in record { is = record { accepted = ok; is_block = i.1; block_is = sym i.0; sizes_are = refl } }
-    by_new blocks.Not e = record { is = no_block ok (not_block x (nblocks P) e) refl }
+    by_new : (o : Option BlockId) → block_of x (nblocks P) ≡ o → Judges P r x (record { block = o; number = 300; sizes = sizes_of P })
+    by_new (Some b) e = let i = is_block x (nblocks P) b e in record { is = record { accepted = ok; is_block = i.1; block_is = sym i.0; sizes_are = refl } }
+    by_new None e = record { is = no_block ok (not_block x (nblocks P) e) refl }
 
-    pub block_judges : {o : MaybeBlock} → o ≡ block_of x (nblocks P) → Judges P r x (record { block = o; number = 300; sizes = sizes_of P })
+    pub block_judges : {o : Option BlockId} → o ≡ block_of x (nblocks P) → Judges P r x (record { block = o; number = 300; sizes = sizes_of P })
     block_judges {o} e = by_new o (sym e)
 
 -- ---- where the search stands
@@ -62,7 +57,7 @@ shown_of P w64 w32 nf ok e = subst (λ (s : Sizes). Shown P P.bounds P.recs P.op
     }
 
 -- after the search from block x of an accepted picture
-pub record Sought (P : Picture) (work64 work32 work64' work32' : List ℕ) (x : ℕ) (r : MaybeMove) : Type 0 where
+pub record Sought (P : Picture) (work64 work32 work64' work32' : List ℕ) (x : ℕ) (r : Option Move) : Type 0 where
   pub size64 : length work64' ≡ length work64
   pub size32 : length work32' ≡ length work32
   pub is : IsTried P (facts P) x r (chain_words work32')
@@ -85,9 +80,9 @@ pub record Goes (P : Picture) (x nf : ℕ) (work64 work32 work64' work32' : List
   pub chosen : Chosen P l.x.0 l.c
 
 -- with so many records lent, where the search from block x stands
-abbrev pub StandsAt : Picture → ℕ → ℕ → List ℕ → List ℕ → List ℕ → List ℕ → Ready → MaybeLook → Type 0
-StandsAt P x nf work64 work32 work64' work32' k (Is l) = Goes P x nf work64 work32 work64' work32' k.sizes l
-StandsAt P x nf work64 work32 work64' work32' k Not = Ended P x nf work64 work32 work64' work32' k.number
+abbrev pub StandsAt : Picture → ℕ → ℕ → List ℕ → List ℕ → List ℕ → List ℕ → Ready → Option Look → Type 0
+StandsAt P x nf work64 work32 work64' work32' k (Some l) = Goes P x nf work64 work32 work64' work32' k.sizes l
+StandsAt P x nf work64 work32 work64' work32' k None = Ended P x nf work64 work32 work64' work32' k.number
 
 pub record SetOut (P : Picture) (x nf : ℕ) (work64 work32 work64' work32' : List ℕ) (k : Ready) : Type 0 where
   pub is : StandsAt P x nf work64 work32 work64' work32' k k.next
@@ -118,11 +113,11 @@ module _ (P : Picture) (x : ℕ) where
   -- ---- a search that leaves the chain's words w
 
   module _ (w : List ℕ) where
-    same_number : (r : MaybeMove) → IsTried P (facts P) x r w → move_number r ≡ plan_number (try_block P (facts P) x)
-    same_number (tries.Is mv) f = sym (ap plan_number f.is)
-    same_number tries.Not f = sym (ap plan_number f)
+    same_number : (r : Option Move) → IsTried P (facts P) x r w → move_number r ≡ plan_number (try_block P (facts P) x)
+    same_number (Some mv) f = sym (ap plan_number f.is)
+    same_number None f = sym (ap plan_number f)
 
-    same_words : (out : List ℕ) (mv : Move) → Found P (facts P) x mv w → with_move out (tries.Is mv) ≡ with_plan out (size P x - 1) (try_block P (facts P) x)
+    same_words : (out : List ℕ) (mv : Move) → Found P (facts P) x mv w → with_move out (Some mv) ≡ with_plan out (size P x - 1) (try_block P (facts P) x)
     same_words out mv f =
         ap (λ (i : ℕ). with_four out i mv.inside mv.places mv.moved) f.into_is
         ∙ ap (λ (i : ℕ). with_four out f.a.into i mv.places mv.moved) f.in_x
@@ -130,18 +125,18 @@ module _ (P : Picture) (x : ℕ) where
         ∙ ap (λ (i : ℕ). with_four out f.a.into (size P x - 1) (length f.a.run) i) f.moved_is
         ∙ sym (ap (with_plan out (size P x - 1)) f.is)
 
-    same_out : (out : List ℕ) (r : MaybeMove) → IsTried P (facts P) x r w → with_move out r ≡ with_plan out (size P x - 1) (try_block P (facts P) x)
-    same_out out (tries.Is mv) f = same_words out mv f
-    same_out out tries.Not f = sym (ap (with_plan out (size P x - 1)) f)
+    same_out : (out : List ℕ) (r : Option Move) → IsTried P (facts P) x r w → with_move out r ≡ with_plan out (size P x - 1) (try_block P (facts P) x)
+    same_out out (Some mv) f = same_words out mv f
+    same_out out None f = sym (ap (with_plan out (size P x - 1)) f)
 
-    stands_so : (r : MaybeMove) → IsTried P (facts P) x r w → (a : Plan) → try_block P (facts P) x ≡ some a
+    stands_so : (r : Option Move) → IsTried P (facts P) x r w → (a : Plan) → try_block P (facts P) x ≡ some a
         → Stands P a (size P x - 1) (length a.run) w
-    stands_so (tries.Is mv) f a e =
+    stands_so (Some mv) f a e =
         let q : f.a ≡ a = ap (λ (o : Option Plan). elim o as (λ z. Plan) [ some p ↦ p | none ↦ a ]) (sym f.is ∙ e) in
         subst (λ (p : Plan). Stands P p (size P x - 1) (length p.run) w) q
         (subst (λ (n : ℕ). Stands P f.a (size P x - 1) n w) (sym f.stands.long)
         (subst (λ (m : ℕ). Stands P f.a m mv.places w) f.in_x f.stands))
-    stands_so tries.Not f a e = absurd (none-ne-some a (sym f ∙ e))
+    stands_so None f a e = absurd (none-ne-some a (sym f ∙ e))
 
   -- ---- the cases
 
@@ -165,7 +160,7 @@ module _ (P : Picture) (x : ℕ) where
         }
 
     -- block x was tried
-    module _ (ok : refusal P (length work64) (length work32) nf ≡ 0) (h : x < nblocks P) {work64' work32' : List ℕ} {r : MaybeMove} (s : Sought P work64 work32 work64' work32' x r) where
+    module _ (ok : refusal P (length work64) (length work32) nf ≡ 0) (h : x < nblocks P) {work64' work32' : List ℕ} {r : Option Move} (s : Sought P work64 work32 work64' work32' x r) where
       left_as : Left P x nf work64 work32 work64' work32'
       left_as = record { size64 = s.size64; size32 = s.size32; kept = λ k. absurd (k ok h); stands = λ a q l e. stands_so (chain_words work32') r s.is a e }
 
@@ -182,20 +177,20 @@ module _ (P : Picture) (x : ℕ) where
       room = record { w64 = length work64; w32 = length work32; records = nf }
 
       -- what `set_out` asks
-      may_by : (o : MaybeBlock) → IsJudged P room x j o → MaySeek P.bounds P.recs P.ops P.pairs P.targets P.replay j.sizes (length work64) (length work32) o
-      may_by (blocks.Is b) t = record { P = P; shown = shown_of P (length work64) (length work32) nf t.accepted t.sizes_are; is_block = subst (λ (i : ℕ). i < nblocks P) (sym t.block_is) t.is_block }
-      may_by blocks.Not t = tt
+      may_by : (o : Option BlockId) → IsJudged P room x j o → MaySeek P.bounds P.recs P.ops P.pairs P.targets P.replay j.sizes (length work64) (length work32) o
+      may_by (Some b) t = record { P = P; shown = shown_of P (length work64) (length work32) nf t.accepted t.sizes_are; is_block = subst (λ (i : ℕ). i < nblocks P) (sym t.block_is) t.is_block }
+      may_by None t = tt
 
       pub may_set : MaySeek P.bounds P.recs P.ops P.pairs P.targets P.replay j.sizes (length work64) (length work32) j.block
       may_set = may_by j.block d.is
 
       module _ {work64' work32' : List ℕ} {k : Ready} where
-        by_look : (b : BlockId) (o : MaybeLook) → k.next ≡ o → Taken P (length work64) (length work32) nf x j.sizes b → SetsTo P.bounds P.recs P.ops P.pairs P.targets P.replay j work64 work32 work64' work32' k (blocks.Is b)
+        by_look : (b : BlockId) (o : Option Look) → k.next ≡ o → Taken P (length work64) (length work32) nf x j.sizes b → SetsTo P.bounds P.recs P.ops P.pairs P.targets P.replay j work64 work32 work64' work32' k (Some b)
             → StandsAt P x nf work64 work32 work64' work32' k o
-        by_look b (Is l) e t z =
+        by_look b (Some l) e t z =
             let v = z.2 in
             let sh = shown_of P (length work64) (length work32) nf t.accepted t.sizes_are in
-            let c = subst (λ (o : MaybeLook). IsLooked P b.0 o) e (v.is P sh) in
+            let c = subst (λ (o : Option Look). IsLooked P b.0 o) e (v.is P sh) in
             record {
               accepted = t.accepted;
               is_block = t.is_block;
@@ -206,16 +201,16 @@ module _ (P : Picture) (x : ℕ) where
               from_is = c.0 ∙ t.block_is;
               chosen = subst (λ (i : ℕ). Chosen P i l.c) (sym c.0) c.1;
             }
-        by_look b Not e t z =
+        by_look b None e t z =
             let v = z.2 in
             let sh = shown_of P (length work64) (length work32) nf t.accepted t.sizes_are in
-            let c = subst (λ (o : MaybeLook). IsLooked P b.0 o) e (v.is P sh) in
-            let g : Sought P work64 work32 work64' work32' x tries.Not = record { size64 = v.size64; size32 = v.size32; is = subst (λ (i : ℕ). try_block P (facts P) i ≡ none) t.block_is (c (facts P)) } in
+            let c = subst (λ (o : Option Look). IsLooked P b.0 o) e (v.is P sh) in
+            let g : Sought P work64 work32 work64' work32' x None = record { size64 = v.size64; size32 = v.size32; is = subst (λ (i : ℕ). try_block P (facts P) i ≡ none) t.block_is (c (facts P)) } in
             record { number_is = z.0 ∙ number_as t.accepted t.is_block g; out_is = out_as t.accepted t.is_block g; left = left_as t.accepted t.is_block g }
 
-        by_judged : (o : MaybeBlock) → IsJudged P room x j o → SetsTo P.bounds P.recs P.ops P.pairs P.targets P.replay j work64 work32 work64' work32' k o → SetOut P x nf work64 work32 work64' work32' k
-        by_judged (blocks.Is b) t z = record { is = by_look b k.next refl t z }
-        by_judged blocks.Not t z = record {
+        by_judged : (o : Option BlockId) → IsJudged P room x j o → SetsTo P.bounds P.recs P.ops P.pairs P.targets P.replay j work64 work32 work64' work32' k o → SetOut P x nf work64 work32 work64' work32' k
+        by_judged (Some b) t z = record { is = by_look b k.next refl t z }
+        by_judged None t z = record {
           is = subst (StandsAt P x nf work64 work32 work64' work32' k) (sym z.0)
               (subst (Ended P x nf work64 work32 work64' work32') (sym z.1)
               (subst (λ (l : List ℕ). Ended P x nf work64 work32 l work32' j.number) (sym z.2)
@@ -228,12 +223,12 @@ module _ (P : Picture) (x : ℕ) where
   -- ---- all of it, with the list of records
 
   module _ (work64 work32 : List ℕ) (facts₀ : List Fact) where
-    pub ended_all : {work64' work32' : List ℕ} {k : Ready} → SetOut P x (length facts₀) work64 work32 work64' work32' k → k.next ≡ Not → (out : List ℕ)
+    pub ended_all : {work64' work32' : List ℕ} {k : Ready} → SetOut P x (length facts₀) work64 work32 work64' work32' k → k.next ≡ None → (out : List ℕ)
         → (k.number ≡ attempt P (length work64) (length work32) (length facts₀) x) × (out ≡ with_attempt out P (length work64) (length work32) (length facts₀) x)
         × Left P x (length facts₀) work64 work32 work64' work32' × Listed P x (length work64) (length work32) facts₀ facts₀
     ended_all {work64'} {work32'} {k} s e out = let z : Ended P x (length facts₀) work64 work32 work64' work32' k.number = subst (StandsAt P x (length facts₀) work64 work32 work64' work32' k) e s.is in (z.number_is, z.out_is out, z.left, record { size = refl; kept = λ h. refl })
 
-    module _ {work64' work32' : List ℕ} {k : Ready} (s : SetOut P x (length facts₀) work64 work32 work64' work32' k) {l : Look} (e : k.next ≡ Is l) where
+    module _ {work64' work32' : List ℕ} {k : Ready} (s : SetOut P x (length facts₀) work64 work32 work64' work32' k) {l : Look} (e : k.next ≡ Some l) where
       goes : Goes P x (length facts₀) work64 work32 work64' work32' k.sizes l
       goes = subst (StandsAt P x (length facts₀) work64 work32 work64' work32' k) e s.is
 
@@ -246,7 +241,7 @@ module _ (P : Picture) (x : ℕ) where
       pub many : 800 ≤ length facts₀
       many = (work_room P (length work64) (length work32) (length facts₀) goes.accepted).2
 
-      pub settled : {work64'' work32'' out' : List ℕ} {facts'' : List Fact} {n : ℕ} (out : List ℕ) (r : MaybeMove)
+      pub settled : {work64'' work32'' out' : List ℕ} {facts'' : List Fact} {n : ℕ} (out : List ℕ) (r : Option Move)
           → Followed P.bounds P.recs P.ops P.pairs P.targets P.replay k.sizes l.x.0 l.c work64' work32' work64'' work32'' r
           → length facts'' ≡ length facts₀ → (n ≡ move_number r) × (out' ≡ with_move out r)
           → (n ≡ attempt P (length work64) (length work32) (length facts₀) x) × (out' ≡ with_attempt out P (length work64) (length work32) (length facts₀) x)

@@ -1,4 +1,5 @@
 -- The search from one block of an accepted picture: what each step asks, and what the last one leaves. Assumes nothing.
+use Rattle.std.specs.Prelude.{Option}
 use mathlib.Core.Path.{◌≡◌, sym, ◌∙◌, subst}
 use mathlib.Core.List.{List}
 use Prim.Native.Nat.{ℕ}
@@ -8,7 +9,7 @@ use Rattle.model.specs.Picture.{Picture}
 use Rattle.model.specs.Analyse.{facts}
 use Rattle.sizes.specs.declared.Sizes.{Sizes}
 use Rattle.chainwords.specs.Work.{Shown, Begun}
-use Rattle.search.specs.declared.find.MaybeLook.{MaybeLook}
+use Rattle.search.specs.declared.find.Look.{Look}
 use Rattle.search.specs.Search.{Began, Looking, Looked}
 use Rattle.search.proofs.Looked.{shown_at}
 use Rattle.search.proofs.Anew.{Anew, sees_of, held_anew}
@@ -35,7 +36,7 @@ module _ {bounds recs ops pairs targets replay : List ℕ} {s : Sizes} {work64 w
     }
 
     -- with live-in made
-    pub seen : {r : ℕ} {bits : List ℕ} {o : MaybeLook} → r ≡ s.regs → Anew bounds recs pairs targets work64' bits (width r) → Looked bounds recs replay s work32' x o
+    pub seen : {r : ℕ} {bits : List ℕ} {o : Option Look} → r ≡ s.regs → Anew bounds recs pairs targets work64' bits (width r) → Looked bounds recs replay s work32' x o
         → Seen bounds recs ops pairs targets replay s work64 work32 bits work32' x o
     seen er n l = record {
       size64 = n.size ∙ b.size64;

@@ -1,5 +1,5 @@
 -- 01, "A round": the move from one block x of a picture, as a first round finds it, and what the search leaves. Assumes nothing.
-use Rattle.std.specs.Prelude.{◌≡◌, true, false, List, ℕ, zero, suc, ◌+◌, ◌-◌, ◌≤◌, ◌<◌, ltb, length}
+use Rattle.std.specs.Prelude.{◌≡◌, true, false, List, ℕ, zero, suc, ◌+◌, ◌-◌, ◌≤◌, ◌<◌, ltb, length, Option, Some, None}
 use Rattle.std.proofs.Math.Option.{Option, none, some}
 use Rattle.words.specs.Lists.{count}
 use Rattle.model.specs.Picture.{Picture, nblocks, size}
@@ -9,16 +9,12 @@ use Rattle.model.specs.Move.{Plan, try_block}
 use Rattle.apply.specs.Apply.{Stands}
 use Rattle.facts.specs.declared.Fact.{Fact}
 use Rattle.inst.specs.declared.index.BlockId.{BlockId}
-use Rattle.inst.specs.declared.index.MaybeBlock.{MaybeBlock}
-use Rattle.inst.specs.declared.index.MaybeBlock.TheVariants as blocks
 use Rattle.sizes.specs.declared.Room.{Room}
 use Rattle.sizes.specs.declared.Sizes.{Sizes}
 use Rattle.sizes.specs.Parts.{sizes_of}
-use Rattle.trial.specs.declared.block.MaybeMove.{MaybeMove}
-use Rattle.trial.specs.declared.block.MaybeMove.TheVariants as tries
+use Rattle.apply.specs.declared.moves.Move.{Move}
 use Rattle.chainwords.specs.Work.{Shown, Held, chain_words}
-use Rattle.search.specs.declared.find.MaybeLook.{MaybeLook}
-use Rattle.search.specs.declared.find.MaybeLook.TheVariants as looks
+use Rattle.search.specs.declared.find.Look.{Look}
 use Rattle.search.specs.Search.{IsLooked}
 use Rattle.probe.specs.declared.attempt.Judged.{Judged}
 use Rattle.probe.specs.declared.attempt.Ready.{Ready}
@@ -27,13 +23,13 @@ use Rattle.probe.specs.Heads.{with_four}
 -- ---- the number and the words that are given
 
 -- of an answer of the search: 1 if there is a move, and its target, positions in x but for its last, positions of the chain, members
-abbrev pub move_number : MaybeMove → ℕ
-move_number (tries.Is mv) = 1
-move_number tries.Not = 0
+abbrev pub move_number : Option Move → ℕ
+move_number (Some mv) = 1
+move_number None = 0
 
-abbrev pub with_move : List ℕ → MaybeMove → List ℕ
-with_move out (tries.Is mv) = with_four out mv.into.0 mv.inside mv.places mv.moved
-with_move out tries.Not = out
+abbrev pub with_move : List ℕ → Option Move → List ℕ
+with_move out (Some mv) = with_four out mv.into.0 mv.inside mv.places mv.moved
+with_move out None = out
 
 -- of `model`'s plan
 abbrev pub plan_number : Option Plan → ℕ
@@ -88,9 +84,9 @@ pub record Taken (P : Picture) (w64 w32 nf x : ℕ) (s : Sizes) (b : BlockId) : 
   pub block_is : b.0 ≡ x
   pub sizes_are : s ≡ sizes_of P
 
-abbrev pub IsJudged : Picture → Room → ℕ → Judged → MaybeBlock → Type 0
-IsJudged P r x j (blocks.Is b) = Taken P r.w64 r.w32 r.records x j.sizes b
-IsJudged P r x j blocks.Not = Stopped P r.w64 r.w32 r.records x j.number
+abbrev pub IsJudged : Picture → Room → ℕ → Judged → Option BlockId → Type 0
+IsJudged P r x j (Some b) = Taken P r.w64 r.w32 r.records x j.sizes b
+IsJudged P r x j None = Stopped P r.w64 r.w32 r.records x j.number
 
 pub record Judges (P : Picture) (r : Room) (x : ℕ) (j : Judged) : Type 0 where
   pub is : IsJudged P r x j j.block
@@ -102,22 +98,22 @@ pub record Asking (bounds recs ops pairs targets replay : List ℕ) (s : Sizes) 
   pub is_block : x < nblocks P
 
 -- of every such picture: the work slices hold what a round needs, and o is the chain from block x, or it has no move
-pub record Seen (bounds recs ops pairs targets replay : List ℕ) (s : Sizes) (work64 work32 work64' work32' : List ℕ) (x : ℕ) (o : MaybeLook) : Type 0 where
+pub record Seen (bounds recs ops pairs targets replay : List ℕ) (s : Sizes) (work64 work32 work64' work32' : List ℕ) (x : ℕ) (o : Option Look) : Type 0 where
   pub size64 : length work64' ≡ length work64
   pub size32 : length work32' ≡ length work32
   pub held : (P : Picture) → Shown P bounds recs ops pairs targets replay s (length work64) (length work32) → Held P (facts P) work64' work32'
   pub is : (P : Picture) → Shown P bounds recs ops pairs targets replay s (length work64) (length work32) → IsLooked P x o
 
 -- the same of a block that there may be; where there is none, the answer stays and so do the work slices
-abbrev pub MaySeek : (bounds recs ops pairs targets replay : List ℕ) (s : Sizes) (w64 w32 : ℕ) → MaybeBlock → Type 0
-MaySeek bounds recs ops pairs targets replay s w64 w32 (blocks.Is b) = Asking bounds recs ops pairs targets replay s w64 w32 b.0
-MaySeek bounds recs ops pairs targets replay s w64 w32 blocks.Not = Unit {0}
+abbrev pub MaySeek : (bounds recs ops pairs targets replay : List ℕ) (s : Sizes) (w64 w32 : ℕ) → Option BlockId → Type 0
+MaySeek bounds recs ops pairs targets replay s w64 w32 (Some b) = Asking bounds recs ops pairs targets replay s w64 w32 b.0
+MaySeek bounds recs ops pairs targets replay s w64 w32 None = Unit {0}
 
-abbrev pub SetsTo : (bounds recs ops pairs targets replay : List ℕ) (j : Judged) (work64 work32 work64' work32' : List ℕ) (k : Ready) → MaybeBlock → Type 0
-SetsTo bounds recs ops pairs targets replay j work64 work32 work64' work32' k (blocks.Is b) =
+abbrev pub SetsTo : (bounds recs ops pairs targets replay : List ℕ) (j : Judged) (work64 work32 work64' work32' : List ℕ) (k : Ready) → Option BlockId → Type 0
+SetsTo bounds recs ops pairs targets replay j work64 work32 work64' work32' k (Some b) =
     (k.number ≡ 0) × (k.sizes ≡ j.sizes) × Seen bounds recs ops pairs targets replay j.sizes work64 work32 work64' work32' b.0 k.next
-SetsTo bounds recs ops pairs targets replay j work64 work32 work64' work32' k blocks.Not =
-    (k.next ≡ looks.Not) × (k.number ≡ j.number) × (work64' ≡ work64) × (work32' ≡ work32)
+SetsTo bounds recs ops pairs targets replay j work64 work32 work64' work32' k None =
+    (k.next ≡ None) × (k.number ≡ j.number) × (work64' ≡ work64) × (work32' ≡ work32)
 
 pub record Sets (bounds recs ops pairs targets replay : List ℕ) (j : Judged) (work64 work32 work64' work32' : List ℕ) (k : Ready) : Type 0 where
   pub is : SetsTo bounds recs ops pairs targets replay j work64 work32 work64' work32' k j.block

@@ -2,26 +2,25 @@
 // a move the chain's words.
 ghost use Rattle.std.specs.Prelude.{◌≡◌, List, ℕ, length};
 ghost use Rattle.checks.specs.Causes.{picture_of};
-ghost use Rattle.inst.specs.declared.index.MaybeBlock.TheVariants.{Not};
-ghost use Rattle.inst.specs.Table.{rows};
+ghost use Rattle.inst.specs.declared.index.Option<BlockId>.TheVariants.{Not};
 ghost use Rattle.probe.specs.Heads.{with_four};
 ghost use Rattle.probe.specs.Attempt.{move_number, with_move, attempt, with_attempt, Left, Listed, Judges, Asking, Seen, MaySeek, Sets};
 
 use acceptance::refusal;
 use facts::Fact;
 use flow::live::live_in;
-use inst::index::{BlockId, MaybeBlock};
-use inst::table::table;
+use inst::index::BlockId;
+use inst::table::Table;
 use search::begin::begin;
-use search::find::{MaybeLook, look_from};
+use search::find::{Look, look_from};
 use sizes::{InUse, Room, Sizes};
-use trial::block::{MaybeMove, try_chain};
+use trial::block::try_chain;
 use words::numbers::wide;
 
 // Block x of an accepted picture, if it is one; the answer where nothing is sought; the picture's sizes.
 #[derive(Clone, Copy)]
 pub struct Judged {
-    pub block: MaybeBlock,
+    pub block: Option<BlockId>,
     pub number: u32,
     pub sizes: Sizes,
 }
@@ -29,7 +28,7 @@ pub struct Judged {
 // The chain to be tried, if there is one; the answer where there is none; the picture's sizes.
 #[derive(Clone, Copy)]
 pub struct Ready {
-    pub next: MaybeLook,
+    pub next: Option<Look>,
     pub number: u32,
     pub sizes: Sizes,
 }
@@ -48,10 +47,10 @@ fn put_four(out: &mut [usize], a: usize, b: usize, c: usize, d: usize)
 }
 
 // Is there a move, and which?
-fn put_move(out: &mut [usize], r: MaybeMove) -> u32
+fn put_move(out: &mut [usize], r: Option<Move>) -> u32
     ensures { (result ≡ move_number r) × (out.new ≡ with_move out.old r) }
 {
-    let MaybeMove::Is(mv) = r else {
+    let Some(mv) = r else {
         return 0;
     };
     let into = mv.into;
@@ -71,7 +70,7 @@ fn stop(n: u32) -> Judged
         opers: 0,
     };
     Judged {
-        block: MaybeBlock::Not,
+        block: None,
         number: n,
         sizes: s,
     }
@@ -79,7 +78,7 @@ fn stop(n: u32) -> Judged
 
 // Refused; no block; or block x.
 fn judge<'a>(
-    t: &[u32; 202],
+    t: &Table,
     bounds: &[u32],
     recs: &'a [u32],
     locs: &[u32],
@@ -92,7 +91,6 @@ fn judge<'a>(
     room: Room,
     x: u32,
 ) -> Judged
-    requires { t.now ≡ rows }
     ensures { (replay : List ℕ) → Judges (picture_of bounds.now recs.now locs.now vias.now types.now used.regs ops.now used.opers pairs.now targets.now replay) room x result }
 {
     let n = refusal(
@@ -119,7 +117,7 @@ fn judge<'a>(
 
 // The chain from block x, if it is worth a look; facts on registers, predecessors and live-in made for it.
 fn seek<'a>(
-    t: &[u32; 202],
+    t: &Table,
     bounds: &[u32],
     recs: &'a [u32],
     ops: &[u32],
@@ -130,8 +128,8 @@ fn seek<'a>(
     work32: &mut [u32],
     s: Sizes,
     x: BlockId,
-) -> MaybeLook
-    requires { (t.now ≡ rows) × Asking bounds.now recs.now ops.now pairs.now targets.now replay.now s (length work64.old) (length work32.old) x.0 }
+) -> Option<Look>
+    requires { Asking bounds.now recs.now ops.now pairs.now targets.now replay.now s (length work64.old) (length work32.old) x.0 }
     ensures { Seen bounds.now recs.now ops.now pairs.now targets.now replay.now s work64.old work32.old work64.new work32.new x.0 result }
 {
     begin(t, bounds, recs, ops, pairs, targets, work64, work32, s);
@@ -141,7 +139,7 @@ fn seek<'a>(
 
 // The chain from the block that was judged, if there is one.
 fn set_out<'a>(
-    t: &[u32; 202],
+    t: &Table,
     bounds: &[u32],
     recs: &'a [u32],
     ops: &[u32],
@@ -152,14 +150,14 @@ fn set_out<'a>(
     work32: &mut [u32],
     j: Judged,
 ) -> Ready
-    requires { (t.now ≡ rows) × MaySeek bounds.now recs.now ops.now pairs.now targets.now replay.now j.sizes (length work64.old) (length work32.old) j.block }
+    requires { MaySeek bounds.now recs.now ops.now pairs.now targets.now replay.now j.sizes (length work64.old) (length work32.old) j.block }
     ensures { Sets bounds.now recs.now ops.now pairs.now targets.now replay.now j work64.old work32.old work64.new work32.new result }
 {
     let block = j.block;
     let s = j.sizes;
-    let MaybeBlock::Is(b) = block else {
+    let Some(b) = block else {
         return Ready {
-            next: MaybeLook::Not,
+            next: None,
             number: j.number,
             sizes: s,
         };
@@ -201,7 +199,7 @@ pub fn virdzeba_try<'a>(
         let lent = length facts.old in
         (result ≡ attempt P n64 n32 lent x) × (out.new ≡ with_attempt out.old P n64 n32 lent x) × Left P x lent work64.old work32.old work64.new work32.new × Listed P x n64 n32 facts.old facts.new }
 {
-    let t = table();
+    let t = Table::new();
     let used = InUse {
         regs: registers,
         opers: operands,
@@ -217,7 +215,7 @@ pub fn virdzeba_try<'a>(
     let k = set_out(
         &t, bounds, recs, ops, pairs, targets, replay, work64, work32, j,
     );
-    let MaybeLook::Is(l) = k.next else {
+    let Some(l) = k.next else {
         return k.number;
     };
     let r = try_chain(

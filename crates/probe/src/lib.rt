@@ -16,7 +16,7 @@ use acceptance::refusal;
 use cfg::graph::find_preds;
 use flow::live::live_in;
 use flow::rows::all_rows;
-use inst::table::table;
+use inst::table::Table;
 use sizes::{InUse, Room};
 use words::numbers::wide;
 
@@ -38,7 +38,7 @@ pub fn virdzeba_refusal(
 ) -> u32
     ensures { result ≡ refusal (picture_of bounds.now recs.now locs.now vias.now types.now registers ops.now operands pairs.now targets.now []) w64 w32 records }
 {
-    let t = table();
+    let t = Table::new();
     let used = InUse {
         regs: registers,
         opers: operands,
@@ -74,7 +74,7 @@ pub fn virdzeba_preds<'a>(
     ensures words_unchanged { (result ≡ 0 → ⊥) → words.new ≡ words.old }
     ensures preds { result ≡ 0 → Preds (picture_of bounds.now recs.now locs.now vias.now types.now registers ops.now operands pairs.now targets.now []) words.new }
 {
-    let t = table();
+    let t = Table::new();
     let used = InUse {
         regs: registers,
         opers: operands,
@@ -115,7 +115,7 @@ pub fn virdzeba_live<'a>(
     ensures bits_unchanged { (result ≡ 0 → ⊥) → bits.new ≡ bits.old }
     ensures live { result ≡ 0 → Live (picture_of bounds.now recs.now locs.now vias.now types.now registers ops.now operands pairs.now targets.now []) (width registers) bits.new }
 {
-    let t = table();
+    let t = Table::new();
     let used = InUse {
         regs: registers,
         opers: operands,

@@ -1,4 +1,5 @@
 -- The writes of a record, slot by slot, over a word a register. Assumes nothing.
+use Rattle.std.specs.Prelude.{Option}
 use mathlib.Core.Bool.{Bool, true, false, cond}
 use mathlib.Core.List.{List, [], ◌++◌, append-nil}
 use mathlib.Core.Logic.{◌⊎◌, inl, inr, ⊎_elim}
@@ -13,7 +14,7 @@ use lib.Seq.{get_or-set_same, get_or-set_other}
 use Rattle.words.specs.Lists.{mem}
 use Rattle.model.specs.Picture.{Inst, inst, absent, writes}
 use Rattle.inst.specs.Index.{reg_of, word_of, Among}
-use Rattle.inst.specs.declared.index.MaybeReg.{MaybeReg}
+use Rattle.inst.specs.declared.index.Reg.{Reg}
 use Rattle.inst.specs.Record.{Within, write_at, present, rest_writes}
 use Rattle.inst.proofs.Rest.{writes_step, writes_next, writes_end, writes_all}
 use Rattle.inst.proofs.Firsts.{present_none, present_some}
@@ -45,7 +46,7 @@ unfolding put_in
 put_none f xs {w} e = sym (ap (λ (b : Bool). cond b xs (set xs w (f (get_or xs w 0)))) (eq-eqb w absent e))
 
 -- what is made of slot s, by a count of registers
-pub slot_made : {recs : List ℕ} {R g s count : ℕ} → Fits recs R g → s < 5 → count ≡ R → {m : MaybeReg} → m ≡ reg_of (write_at (inst recs g) s) count
+pub slot_made : {recs : List ℕ} {R g s count : ℕ} → Fits recs R g → s < 5 → count ≡ R → {m : Option Reg} → m ≡ reg_of (write_at (inst recs g) s) count
     → Among count m × (word_of m ≡ write_at (inst recs g) s)
 slot_made {recs} {R} {g} {s} {count} fits lt size =
     let n = write_at (inst recs g) s in
@@ -145,7 +146,7 @@ module _ (recs : List ℕ) (g : ℕ) {R : ℕ} (fits : Fits recs R g) where
       (low_step 0 (omega arith) (low_step 1 (omega arith) (low_step 2 (omega arith) (low_step 3 (omega arith) (low_step 4 (omega arith) low_end)))))
 
   -- what is made of it, by R
-  pub first_made : {d : ℕ} → d ≡ get_or (writes (inst recs g)) 0 absent → {m : MaybeReg} → m ≡ reg_of d R → Among R m × (word_of m ≡ d) × ((word_of m ≡ absent) ⊎ (word_of m < R))
+  pub first_made : {d : ℕ} → d ≡ get_or (writes (inst recs g)) 0 absent → {m : Option Reg} → m ≡ reg_of d R → Among R m × (word_of m ≡ d) × ((word_of m ≡ absent) ⊎ (word_of m < R))
   first_made {d} e q =
       let low : (d ≡ absent) ⊎ (d < R) = subst (λ (n : ℕ). (n ≡ absent) ⊎ (n < R)) (sym e) first_low in
       let made = reg_made d R (omega (arith, fits.room)) low q in

@@ -1,10 +1,10 @@
 -- 01, "A round", the facts on registers: the only writer of a register as a number, and the facts as flags. Assumes nothing.
-use Rattle.std.specs.Prelude.{◌≡◌, Bool, false, cond, List, map, ℕ, zero, suc, ◌+◌, ◌*◌, ◌%◌, ◌≤◌, ◌<◌, eqb, get_or, length}
+use Rattle.std.specs.Prelude.{◌≡◌, Bool, false, cond, List, map, ℕ, zero, suc, ◌+◌, ◌*◌, ◌%◌, ◌≤◌, ◌<◌, eqb, get_or, length, Option, Some}
 use Rattle.words.specs.Lists.{mem, filter, upto}
 use Rattle.model.specs.Picture.{inst, writes}
 use Rattle.model.specs.Analyse.{Known, unknown, known, from_writers, Facts, known_of, when_some, small, positive}
 use Rattle.inst.specs.declared.constant.Constant.{Constant}
-use Rattle.inst.specs.declared.constant.Constant.TheVariants.{Whole, Float, Nan, Not}
+use Rattle.inst.specs.declared.constant.Constant.TheVariants.{Whole}
 use Rattle.effects.specs.Origin.{num}
 use Rattle.regfacts.specs.Written.{settle}
 
@@ -31,18 +31,14 @@ unfoldable pub flags_of : Known → ℕ
 flags_of k = num k.ro + 2 * num k.frame + 4 * num (when_some small k.konst) + 8 * num (when_some positive k.konst)
 
 -- a constant that is a length
-unfoldable pub is_length : Constant → Bool
-is_length (Whole z) = small z
-is_length (Float x) = false
-is_length (Nan n) = false
-is_length Not = false
+unfoldable pub is_length : Option Constant → Bool
+is_length (Some (Whole z)) = small z
+is_length c = false
 
 -- of a constant
-unfoldable pub flags_in : Constant → ℕ
-flags_in (Whole z) = 4 * num (small z) + 8 * num (positive z)
-flags_in (Float x) = 0
-flags_in (Nan n) = 0
-flags_in Not = 0
+unfoldable pub flags_in : Option Constant → ℕ
+flags_in (Some (Whole z)) = 4 * num (small z) + 8 * num (positive z)
+flags_in c = 0
 
 -- what is known of a register whose only writer is v
 unfoldable pub sole_of : List ℕ → ℕ → Known

@@ -5,16 +5,16 @@ ghost use Rattle.std.specs.Prelude.{◌≡◌, ◌⊎◌, ℕ, ◌*◌, ◌≤�
 ghost use Rattle.model.specs.Picture.{inst};
 ghost use Rattle.model.specs.Analyse.{known, small, positive};
 ghost use Rattle.inst.specs.Index.{word_of, Among};
-ghost use Rattle.inst.specs.Table.{rows};
 ghost use Rattle.inst.specs.Record.{Within, Used};
 ghost use Rattle.regfacts.specs.Written.{put_in, Fits, Written};
 ghost use Rattle.regfacts.specs.Flags.{noted, many, Soles, flags_of, flags_in, is_length, sole_of, Found};
 
 use inst::access::{later, uses, write_at};
 use inst::constant::{Constant, decode};
-use inst::index::MaybeReg;
+use inst::index::Reg;
 use inst::kinds::ADDR_OF;
 use inst::record::{form, kind};
+use inst::table::Table;
 use words::numbers::{full, long, one};
 
 // A register's word counts what stands over its flags by this.
@@ -43,11 +43,11 @@ fn next(v: u64, p: u64) -> u64
 }
 
 // Record p writes register w, if that is one.
-fn note(regs: &mut [u64], w: MaybeReg, p: u64)
+fn note(regs: &mut [u64], w: Option<Reg>, p: u64)
     requires { (p < 32768) × Among (length regs.old) w }
     ensures { regs.new ≡ put_in (noted p) (word_of w) regs.old }
 {
-    let MaybeReg::Is(r) = w else {
+    let Some(r) = w else {
         return;
     };
     let k = r.at();
@@ -68,8 +68,8 @@ fn note_all(recs: &[u32], regs: &mut [u64], p: usize, uses: u32)
 }
 
 // Record p and all that it writes, mostly in its first slot alone.
-fn note_record(t: &[u32; 202], recs: &[u32], regs: &mut [u64], p: usize)
-    requires { (t.now ≡ rows) × (p < 32768) × Fits recs.now (length regs.old) p }
+fn note_record(t: &Table, recs: &[u32], regs: &mut [u64], p: usize)
+    requires { (p < 32768) × Fits recs.now (length regs.old) p }
     ensures { Written (noted p) (inst recs.now p) regs.old regs.new }
 {
     let u = uses(t, recs, p);
@@ -91,8 +91,8 @@ fn clear(regs: &mut [u64])
 }
 
 // The only writer of each register among n records.
-fn find_soles(t: &[u32; 202], recs: &[u32], regs: &mut [u64], n: usize)
-    requires { (t.now ≡ rows) × (n ≤ 32768) × ((p : ℕ) → p < n → Fits recs.now (length regs.old) p) }
+fn find_soles(t: &Table, recs: &[u32], regs: &mut [u64], n: usize)
+    requires { (n ≤ 32768) × ((p : ℕ) → p < n → Fits recs.now (length regs.old) p) }
     ensures { Soles recs.now n (length regs.old) regs.new }
 {
     clear(regs);
@@ -118,27 +118,23 @@ fn is_positive(z: i64) -> bool
 
 // Is the constant a length?
 #[tactic(auto, unfolding(crate::specs::Flags::is_length))]
-pub fn is_length(c: Constant) -> bool
+pub fn is_length(c: Option<Constant>) -> bool
     ensures { result ≡ is_length c }
 {
     match c {
-        Constant::Whole(z) => is_small(z),
-        Constant::Float(_) => false,
-        Constant::Nan(_) => false,
-        Constant::Not => false,
+        Some(Constant::Whole(z)) => is_small(z),
+        _ => false,
     }
 }
 
 // The flags of a constant.
 #[tactic(auto, unfolding(crate::specs::Flags::flags_in, effects::specs::Origin::num))]
-fn constant_flags(c: Constant) -> u64
+fn constant_flags(c: Option<Constant>) -> u64
     ensures { result ≡ flags_in c }
 {
     match c {
-        Constant::Whole(z) => long(4 * one(is_small(z)) + 8 * one(is_positive(z))),
-        Constant::Float(_) => 0,
-        Constant::Nan(_) => 0,
-        Constant::Not => 0,
+        Some(Constant::Whole(z)) => long(4 * one(is_small(z)) + 8 * one(is_positive(z))),
+        _ => 0,
     }
 }
 
@@ -167,8 +163,8 @@ fn flags(recs: &[u32], v: u64) -> u64
 }
 
 // The facts on all registers, from n records.
-pub fn find_facts(t: &[u32; 202], recs: &[u32], regs: &mut [u64], n: usize)
-    requires { (t.now ≡ rows) × (n ≤ 32768) × ((p : ℕ) → p < n → Fits recs.now (length regs.old) p) }
+pub fn find_facts(t: &Table, recs: &[u32], regs: &mut [u64], n: usize)
+    requires { (n ≤ 32768) × ((p : ℕ) → p < n → Fits recs.now (length regs.old) p) }
     ensures { Found recs.now n (length regs.old) regs.new }
 {
     find_soles(t, recs, regs, n);

@@ -1,22 +1,22 @@
 -- A position's words as a value: what is said of the one is said of the other. Assumes nothing.
+use Rattle.std.specs.Prelude.{Option, Some, None}
 use mathlib.Core.Path.{◌≡◌, refl, sym, subst}
 use mathlib.Core.List.{List}
 use Prim.Native.Nat.{ℕ, ◌≤◌, ◌<◌}
 use native.Mathlib.Omega.{arith}
 use Rattle.model.specs.Picture.{absent}
 use Rattle.inst.specs.Index.{word_of, Among}
-use Rattle.inst.specs.declared.index.MaybeReg.{MaybeReg}
-use Rattle.inst.specs.declared.index.MaybeReg.TheVariants as R
+use Rattle.inst.specs.declared.index.Reg.{Reg}
 use Rattle.pool.specs.Pool.{mark_at, wrote_at, new_at}
 use Rattle.inst.proofs.Indices.{among_made, word_made}
 use Rattle.rename.specs.Runs.{Parted, Pass, Passed}
 use Rattle.rename.specs.Counts.{Counted}
 
-pub among_ok : (count : ℕ) (d : MaybeReg) → Among count d → (word_of d ≡ absent → ⊥) → word_of d < count
-among_ok count (R.Is k) a f = a.0
-among_ok count R.Not a f = absurd (f refl)
+pub among_ok : (count : ℕ) (d : Option Reg) → Among count d → (word_of d ≡ absent → ⊥) → word_of d < count
+among_ok count (Some k) a f = a.0
+among_ok count None a f = absurd (f refl)
 
-module _ {p count mark new : ℕ} {w : List ℕ} {def : MaybeReg} (k : Parted w p count mark def new) where
+module _ {p count mark new : ℕ} {w : List ℕ} {def : Option Reg} (k : Parted w p count mark def new) where
   pub part_among : count ≤ absent → Among count def
   part_among few = among_made (wrote_at w p) count k.def_is refl count few (omega arith)
 

@@ -1,11 +1,11 @@
 -- 01, "The move": the walk along the chain and through the target, with the names that hold at each position. Assumes nothing.
-use Rattle.std.specs.Prelude.{◌≡◌, Bool, true, false, cond, not, ◌&&◌, List, map, ℕ, zero, suc, ◌+◌, ◌-◌, ◌*◌, ◌≤◌, ◌<◌, eqb, get_or, length, take, drop}
+use Rattle.std.specs.Prelude.{◌≡◌, Bool, true, false, cond, not, ◌&&◌, List, map, ℕ, zero, suc, ◌+◌, ◌-◌, ◌*◌, ◌≤◌, ◌<◌, eqb, get_or, length, take, drop, Option}
 use Rattle.words.specs.Lists.{mem, range, upto, filter}
 use Rattle.model.specs.Picture.{inst, absent, writes}
 use Rattle.model.specs.Move.{Job, made_all, appended, changes, own_jobs}
 use Rattle.inst.specs.Record.{Known}
 use Rattle.inst.specs.Index.{reg_of}
-use Rattle.inst.specs.declared.index.MaybeReg.{MaybeReg}
+use Rattle.inst.specs.declared.index.Reg.{Reg}
 use Rattle.pool.specs.Pool.{mark_at, wrote_at, new_at}
 use Rattle.rename.specs.Names.{part, named, reg_or, pick, job, Remade}
 
@@ -71,7 +71,7 @@ gone_jobs rd w xs lo p = map (gone_job rd w xs lo) (filter (goes w) (upto p))
 -- ---- one position
 
 -- what its words say, of count registers
-pub record Parted (w : List ℕ) (p count : ℕ) (mark : ℕ) (def : MaybeReg) (new : ℕ) : Type 0 where
+pub record Parted (w : List ℕ) (p count : ℕ) (mark : ℕ) (def : Option Reg) (new : ℕ) : Type 0 where
   pub mark_is : mark ≡ mark_at w p
   pub def_is : def ≡ reg_of (wrote_at w p) count
   pub new_is : new ≡ new_at w p

@@ -1,7 +1,6 @@
 // The whole walk, counted or done (01, "The move"): x, the rest of the chain, the target.
 ghost use Rattle.std.specs.Prelude.{◌≡◌, ◌+◌, ◌*◌, ◌≤◌, length};
 ghost use Rattle.model.specs.Move.{appended};
-ghost use Rattle.inst.specs.Table.{rows};
 ghost use Rattle.rename.specs.Names.{Some};
 ghost use Rattle.rename.specs.Runs.{Run};
 ghost use Rattle.rename.specs.All.{AskAll, all_places, all_jobs};
@@ -10,10 +9,11 @@ use crate::count::{count_target, count_x};
 use crate::names::clear;
 use crate::parts::{Head, Span};
 use crate::walk::{own_all, pass_all, skip_all};
+use inst::table::Table;
 
 // How many operands the move would append. The chain has n positions, the first ones those of x; the target's records are s.
 pub fn count_all(
-    t: &[u32; 202],
+    t: &Table,
     recs: &[u32],
     x: Head,
     n: usize,
@@ -22,7 +22,7 @@ pub fn count_all(
     names: &mut [u64],
     w: &[u32],
 ) -> usize
-    requires { (t.now ≡ rows) × Some (λ u. AskAll u x.from x.count n s.from s.past (length names.old) recs.now ops.now w.now) }
+    requires { Some (λ u. AskAll u x.from x.count n s.from s.past (length names.old) recs.now ops.now w.now) }
     ensures { (result ≡ length (appended ops.now (all_jobs w.now recs.now x.from x.count n s.from s.past))) × (result ≤ 4294967295 * 131072) }
 {
     clear(names);
@@ -37,7 +37,7 @@ pub fn count_all(
 
 // The members and the target's own records made anew where they lie, where u operands are in use. Returns how many are then.
 pub fn rename_all(
-    t: &[u32; 202],
+    t: &Table,
     recs: &mut [u32],
     x: Head,
     n: usize,
@@ -47,7 +47,7 @@ pub fn rename_all(
     names: &mut [u64],
     w: &[u32],
 ) -> usize
-    requires t_value { (t.now ≡ rows) × AskAll u x.from x.count n s.from s.past (length names.old) recs.old ops.old w.now }
+    requires t_value { AskAll u x.from x.count n s.from s.past (length names.old) recs.old ops.old w.now }
     requires past_in_bounds { u + length (appended ops.old (all_jobs w.now recs.old x.from x.count n s.from s.past)) ≤ length ops.old }
     ensures { Run u (all_places w.now x.from x.count s.from s.past) (all_jobs w.now recs.old x.from x.count n s.from s.past) recs.old recs.new ops.old ops.new result }
 {

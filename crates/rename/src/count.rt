@@ -4,7 +4,6 @@ ghost use Rattle.std.specs.Prelude.{◌≡◌, ◌+◌, ◌*◌, ◌≤◌, ◌<
 ghost use Rattle.model.specs.Picture.{inst, absent};
 ghost use Rattle.model.specs.Move.{more_of, appended};
 ghost use Rattle.inst.specs.Index.{word_of, Among};
-ghost use Rattle.inst.specs.Table.{rows};
 ghost use Rattle.rename.specs.Names.{Some, job, named};
 ghost use Rattle.rename.specs.Runs.{target_jobs};
 ghost use Rattle.rename.specs.Counts.{CountAsk, Counted, CountedOwn, CountX, CountedX, CountOwn};
@@ -14,6 +13,7 @@ use crate::names::{forget, put};
 use crate::parts::{Head, Part, Span, part_at};
 use inst::access::uses;
 use inst::record::{list_len, list_start};
+use inst::table::Table;
 
 // How many operands record q would append.
 fn count_list(recs: &[u32], q: usize, ops: &[u32], names: &[u64]) -> usize
@@ -30,14 +30,14 @@ fn count_list(recs: &[u32], q: usize, ops: &[u32], names: &[u64]) -> usize
 
 // Record q of x, which is position k.
 fn count_pass(
-    t: &[u32; 202],
+    t: &Table,
     recs: &[u32],
     q: usize,
     ops: &[u32],
     names: &mut [u64],
     k: Part,
 ) -> usize
-    requires { (t.now ≡ rows) × Some (λ u. CountAsk q u names.old recs.now ops.now) × Among (length names.old) k.def }
+    requires { Some (λ u. CountAsk q u names.old recs.now ops.now) × Among (length names.old) k.def }
     ensures { Counted q k.mark (word_of k.def) k.new names.old names.new recs.now ops.now result }
 {
     let does = uses(t, recs, q);
@@ -53,14 +53,14 @@ fn count_pass(
 
 // The positions of x.
 pub fn count_x(
-    t: &[u32; 202],
+    t: &Table,
     recs: &[u32],
     x: Head,
     ops: &[u32],
     names: &mut [u64],
     w: &[u32],
 ) -> usize
-    requires { (t.now ≡ rows) × Some (λ u. CountX u x.from x.count names.old recs.now ops.now w.now) }
+    requires { Some (λ u. CountX u x.from x.count names.old recs.now ops.now w.now) }
     ensures { CountedX x.from x.count names.old names.new recs.now ops.now w.now result }
 {
     let mut n = 0usize;
@@ -74,8 +74,8 @@ pub fn count_x(
 }
 
 // Record q of the target.
-fn count_own(t: &[u32; 202], recs: &[u32], q: usize, ops: &[u32], names: &mut [u64]) -> usize
-    requires { (t.now ≡ rows) × Some (λ u. CountAsk q u names.old recs.now ops.now) }
+fn count_own(t: &Table, recs: &[u32], q: usize, ops: &[u32], names: &mut [u64]) -> usize
+    requires { Some (λ u. CountAsk q u names.old recs.now ops.now) }
     ensures { CountedOwn q names.old names.new recs.now ops.now result }
 {
     let does = uses(t, recs, q);
@@ -86,14 +86,14 @@ fn count_own(t: &[u32; 202], recs: &[u32], q: usize, ops: &[u32], names: &mut [u
 
 // The target's records s, behind n operands that were counted before.
 pub fn count_target(
-    t: &[u32; 202],
+    t: &Table,
     recs: &[u32],
     s: Span,
     ops: &[u32],
     names: &mut [u64],
     n: usize,
 ) -> usize
-    requires { (t.now ≡ rows) × Some (λ u. CountOwn u s.from s.past names.old recs.now ops.now) × (n ≤ 4294967295 * 65536) }
+    requires { Some (λ u. CountOwn u s.from s.past names.old recs.now ops.now) × (n ≤ 4294967295 * 65536) }
     ensures { (result ≡ n + length (appended ops.now (target_jobs (named names.old) recs.now s.from s.past))) × (result ≤ 4294967295 * 131072) }
 {
     let mut k = n;

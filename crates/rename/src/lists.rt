@@ -3,7 +3,7 @@ ghost use Rattle.std.specs.Prelude.{◌≡◌, ℕ, ◌+◌, ◌≤◌, ◌<◌,
 ghost use Rattle.rename.specs.Names.{named, list_changes, Appended};
 
 use crate::names::name;
-use inst::index::{MaybeReg, Reg};
+use inst::index::Reg;
 
 // The new name of operand k, which is a register.
 fn place(ops: &[u32], k: usize, names: &[u64]) -> u32
@@ -11,7 +11,7 @@ fn place(ops: &[u32], k: usize, names: &[u64]) -> u32
     ensures { result ≡ named names.now (get_or ops.now k 0) }
 {
     let w = ops[k];
-    let MaybeReg::Is(r) = Reg::new(w, names.len()) else {
+    let Some(r) = Reg::new(w, names.len()) else {
         return w;
     };
     name(names, r)

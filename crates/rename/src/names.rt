@@ -6,7 +6,7 @@ ghost use Rattle.inst.specs.Record.{Used, write_at};
 ghost use Rattle.rename.specs.Names.{reg_or, named, put_name, Forgot};
 
 use inst::access::write_at;
-use inst::index::{MaybeReg, Reg};
+use inst::index::Reg;
 use model::ABSENT;
 use words::numbers::long;
 
@@ -41,11 +41,11 @@ pub fn name(names: &[u64], r: Reg) -> u32
 }
 
 // Register r, if it is one, has the name nw.
-pub fn put(names: &mut [u64], r: MaybeReg, nw: u32)
+pub fn put(names: &mut [u64], r: Option<Reg>, nw: u32)
     requires { Among (length names.old) r }
     ensures { names.new ≡ put_name names.old (word_of r) nw }
 {
-    let MaybeReg::Is(k) = r else {
+    let Some(k) = r else {
         return;
     };
     names[k.at()] = long(nw);

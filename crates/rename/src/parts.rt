@@ -2,7 +2,7 @@
 ghost use Rattle.std.specs.Prelude.{◌+◌, ◌*◌, ◌≤◌, length};
 ghost use Rattle.rename.specs.Runs.{Parted};
 
-use inst::index::{MaybeReg, Reg};
+use inst::index::Reg;
 use position::{DEF, MARK, NEW, PLACE};
 
 // A position of x: its mark, the register that it writes, and the word of the one that it gets in its place. That one is no `Reg`:
@@ -10,7 +10,7 @@ use position::{DEF, MARK, NEW, PLACE};
 #[derive(Clone, Copy)]
 pub struct Part {
     pub mark: u32,
-    pub def: MaybeReg,
+    pub def: Option<Reg>,
     pub new: u32,
 }
 

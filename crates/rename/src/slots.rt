@@ -5,16 +5,16 @@ ghost use Rattle.inst.specs.Record.{Used};
 ghost use Rattle.rename.specs.Names.{slotted, Slotted};
 
 use crate::names::{name, or};
-use inst::index::{MaybeReg, Reg};
+use inst::index::Reg;
 use inst::table::two_bits;
 use model::ABSENT;
 
 // A slot's word after: a read by its name, a write by nw.
-fn slot_word(r: MaybeReg, does: u32, names: &[u64], nw: u32) -> u32
+fn slot_word(r: Option<Reg>, does: u32, names: &[u64], nw: u32) -> u32
     requires { Among (length names.now) r }
     ensures { result ≡ slotted does names.now nw (word_of r) }
 {
-    let MaybeReg::Is(k) = r else {
+    let Some(k) = r else {
         return ABSENT;
     };
     if does == 1 {

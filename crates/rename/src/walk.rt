@@ -2,7 +2,6 @@
 // are all kept, and through the target, whose reads are renamed until it writes the register itself.
 ghost use Rattle.std.specs.Prelude.{◌≡◌, ◌-◌, length};
 ghost use Rattle.inst.specs.Index.{word_of, Among};
-ghost use Rattle.inst.specs.Table.{rows};
 ghost use Rattle.model.specs.Picture.{absent};
 ghost use Rattle.words.specs.Lists.{range};
 ghost use Rattle.rename.specs.Names.{Some, named};
@@ -12,6 +11,7 @@ use crate::names::{forget, put};
 use crate::parts::{Head, Part, Span, part_at};
 use crate::remake::remake;
 use inst::access::uses;
+use inst::table::Table;
 use model::ABSENT;
 use position::PLACE;
 use words::numbers::wide;
@@ -19,7 +19,7 @@ use words::numbers::wide;
 // Record q of x, which is position k: a kept one's writes keep their names; a member is made anew, and the register that it wrote has
 // a new name.
 fn pass(
-    t: &[u32; 202],
+    t: &Table,
     recs: &mut [u32],
     q: usize,
     ops: &mut [u32],
@@ -27,7 +27,7 @@ fn pass(
     names: &mut [u64],
     k: Part,
 ) -> usize
-    requires { (t.now ≡ rows) × Some (λ u. Pass q u o names.old k.mark (word_of k.def) k.new recs.old ops.old) × Among (length names.old) k.def }
+    requires { Some (λ u. Pass q u o names.old k.mark (word_of k.def) k.new recs.old ops.old) × Among (length names.old) k.def }
     ensures { Passed q o k.mark (word_of k.def) k.new names.old names.new recs.old recs.new ops.old ops.new result }
 {
     let does = uses(t, recs, q);
@@ -43,7 +43,7 @@ fn pass(
 
 // The positions of x, where u operands are in use. Returns how many are then.
 pub fn pass_all(
-    t: &[u32; 202],
+    t: &Table,
     recs: &mut [u32],
     x: Head,
     ops: &mut [u32],
@@ -51,7 +51,7 @@ pub fn pass_all(
     names: &mut [u64],
     w: &[u32],
 ) -> usize
-    requires { (t.now ≡ rows) × AskX u x.from x.count names.old recs.old ops.old w.now }
+    requires { AskX u x.from x.count names.old recs.old ops.old w.now }
     ensures { PassedX u x.from x.count names.old names.new recs.old recs.new ops.old ops.new w.now result }
 {
     let mut n = u;
@@ -65,8 +65,8 @@ pub fn pass_all(
 }
 
 // The positions s of the chain, all kept.
-pub fn skip_all(t: &[u32; 202], recs: &[u32], w: &[u32], s: Span, names: &mut [u64])
-    requires { (t.now ≡ rows) × Some (λ u. AskRest u s.from s.past names.old recs.now w.now) }
+pub fn skip_all(t: &Table, recs: &[u32], w: &[u32], s: Span, names: &mut [u64])
+    requires { Some (λ u. AskRest u s.from s.past names.old recs.now w.now) }
     ensures { PassedRest s.from (s.past - s.from) names.old names.new recs.now w.now }
 {
     let mut p = s.from;
@@ -79,14 +79,14 @@ pub fn skip_all(t: &[u32; 202], recs: &[u32], w: &[u32], s: Span, names: &mut [u
 
 // Record q of the target: its reads are renamed, and then what it writes keeps its name.
 fn own(
-    t: &[u32; 202],
+    t: &Table,
     recs: &mut [u32],
     q: usize,
     ops: &mut [u32],
     o: usize,
     names: &mut [u64],
 ) -> usize
-    requires { (t.now ≡ rows) × Some (λ u. Pass q u o names.old 1 absent absent recs.old ops.old) }
+    requires { Some (λ u. Pass q u o names.old 1 absent absent recs.old ops.old) }
     ensures { Owned q o names.old names.new recs.old recs.new ops.old ops.new result }
 {
     let does = uses(t, recs, q);
@@ -97,14 +97,14 @@ fn own(
 
 // The target's records s, where o operands are in use. Returns how many are then.
 pub fn own_all(
-    t: &[u32; 202],
+    t: &Table,
     recs: &mut [u32],
     s: Span,
     ops: &mut [u32],
     o: usize,
     names: &mut [u64],
 ) -> usize
-    requires { (t.now ≡ rows) × Some (λ u. AskOwn u o s.from s.past names.old recs.old ops.old) }
+    requires { Some (λ u. AskOwn u o s.from s.past names.old recs.old ops.old) }
     ensures { Run o (range s.from (s.past - s.from)) (target_jobs (named names.old) recs.old s.from s.past) recs.old recs.new ops.old ops.new result }
 {
     let mut n = o;

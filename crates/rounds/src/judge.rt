@@ -1,10 +1,10 @@
 // Before anything is tried (01, "The call"): refusals, then gates. Nothing is changed.
 ghost use Rattle.std.specs.Prelude.{◌≡◌};
-ghost use Rattle.inst.specs.Table.{rows};
 ghost use Rattle.rounds.specs.Judge.{Judged};
 
 use acceptance::gates::gated;
 use acceptance::refusal;
+use inst::table::Table;
 use model::{Answer, Used};
 use sizes::{InUse, Room};
 
@@ -17,7 +17,7 @@ pub enum Verdict {
 
 #[tactic(auto, using(crate::proofs::Opening::judge_refused))]
 pub fn judge(
-    t: &[u32; 202],
+    t: &Table,
     bounds: &[u32],
     recs: &[u32],
     locs: &[u32],
@@ -29,7 +29,6 @@ pub fn judge(
     used: InUse,
     room: Room,
 ) -> Verdict
-    requires { t.now ≡ rows }
     ensures { Judged bounds.now recs.now locs.now vias.now types.now ops.now pairs.now targets.now used room result }
 {
     let n = refusal(

@@ -1,12 +1,12 @@
 // Before the first round (01, "The call"): refusals and gates; then facts on registers, predecessors and rows.
 ghost use Rattle.std.specs.Prelude.{◌≡◌, List, ℕ};
-ghost use Rattle.inst.specs.Table.{rows};
 ghost use Rattle.checks.specs.Causes.{picture_of};
 ghost use Rattle.rounds.specs.State.{first_at};
 ghost use Rattle.rounds.specs.Going.{Started};
 
 use crate::judge::{Verdict, judge};
 use crate::state::At;
+use inst::table::Table;
 use model::{Answer, Used};
 use search::begin::begin;
 use sizes::{InUse, Room, Sizes};
@@ -25,7 +25,7 @@ fn at_first(more: bool, answer: Answer, s: Sizes) -> At
 
 // Where the call stands at its start.
 pub fn start<'a>(
-    t: &[u32; 202],
+    t: &Table,
     bounds: &[u32],
     recs: &'a [u32],
     locs: &[u32],
@@ -39,7 +39,6 @@ pub fn start<'a>(
     used: InUse,
     records: usize,
 ) -> At
-    requires { t.now ≡ rows }
     ensures { (replay : List ℕ) → Started (picture_of bounds.now recs.now locs.now vias.now types.now used.regs ops.now used.opers pairs.now targets.now replay) work64.old work32.old records result work64.new work32.new }
 {
     let room = Room {

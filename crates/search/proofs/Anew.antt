@@ -1,4 +1,5 @@
 -- A round starts with live-in anew (01, "A round"): it is found in the first words, and what the call began with stays. Assumes nothing.
+use Rattle.std.specs.Prelude.{Option}
 use mathlib.Core.Path.{◌≡◌, refl, ap, ap₂, ◌∙◌, subst}
 use mathlib.Core.List.{List}
 use Prim.Native.Nat.{ℕ, ◌*◌, ◌/◌, ◌≤◌, ◌<◌}
@@ -19,7 +20,7 @@ use Rattle.sizes.specs.declared.Sizes.{Sizes}
 use Rattle.words.specs.Bits.{width}
 use Rattle.chainwords.specs.Work.{Shown, Begun, Held}
 use Rattle.chainwords.proofs.Standing.{begun_kept, firm_back, rows_for}
-use Rattle.search.specs.declared.find.MaybeLook.{MaybeLook}
+use Rattle.search.specs.declared.find.Look.{Look}
 use Rattle.search.specs.Search.{Looking, Sees, Seeking, Sought, Opened}
 use Rattle.search.proofs.Start.{graph_at, rows_asked}
 
@@ -71,7 +72,7 @@ module _ {bounds recs pairs targets replay : List ℕ} {s : Sizes} {work64 work3
         live = subst (λ (v : ℕ). Live P v bits) wide (live-rows_whole P (width r) bits (subst (λ (Q : Picture). Live Q (width r) bits) d (n.live ops stood)));
       }
 
-  pub opened : {o : MaybeLook} → Sought bounds recs replay s work32 0 o → Opened bounds recs pairs targets replay s work64 work32 bits o
+  pub opened : {o : Option Look} → Sought bounds recs replay s work32 0 o → Opened bounds recs pairs targets replay s work64 work32 bits o
   opened f = record { size64 = n.size; held = λ P G sh b. held_anew P G sh b; is = λ P G sh b. f.is P (sees_of sh b) }
 
 module _ {bounds recs pairs targets replay : List ℕ} {s : Sizes} {work64 work32 : List ℕ} (k : Looking bounds recs pairs targets replay s work64 work32) where

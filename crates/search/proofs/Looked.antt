@@ -1,5 +1,6 @@
 -- The search for the next block whose chain is to be tried (01, "A round": "the first block, in number order, of more than 3 instructions
 -- for which a move exists"): the blocks that it passes over have no move, so that block by block it is `model`'s `first_plan`. Assumes nothing.
+use Rattle.std.specs.Prelude.{Option, Some, None}
 use mathlib.Core.Path.{◌≡◌, refl, sym, ap, ap₂, ◌∙◌, subst}
 use mathlib.Core.Bool.{Bool, true, false}
 use mathlib.Core.List.{List, [], ◌∷◌, ◌++◌}
@@ -22,8 +23,6 @@ use Rattle.laws.proofs.Accepted.{Accepted, accepted}
 use Rattle.laws.proofs.Admitted.{ends_goes, ends_parts}
 use Rattle.laws.proofs.Sizes.{recs_length, block_within}
 use Rattle.chains.specs.declared.chain.Chain.{Chain}
-use Rattle.chains.specs.declared.chain.MaybeChain.{MaybeChain}
-use Rattle.chains.specs.declared.chain.MaybeChain.TheVariants.{Is as IsChain, Not as NoChain}
 use Rattle.chains.specs.Chain as C
 use Rattle.chains.specs.Chain.{ended, chain_of, SoundOf, Sound, Blocks}
 use Rattle.chains.specs.Places.{Pair, Laid, end_past}
@@ -39,8 +38,6 @@ use Rattle.chainwords.proofs.Rooms.{Room, room, preds_lent, preds_room}
 use Rattle.worth.proofs.Looks.{worth_long}
 use Rattle.inst.specs.declared.index.BlockId.{BlockId}
 use Rattle.search.specs.declared.find.Look.{Look}
-use Rattle.search.specs.declared.find.MaybeLook.{MaybeLook}
-use Rattle.search.specs.declared.find.MaybeLook.TheVariants.{Is, Not}
 use Rattle.search.specs.Search.{Sees, Seeking, IsLooked, Looked, IsPassed, Sought}
 
 -- ---- `first_plan`, one block more
@@ -159,48 +156,48 @@ module _ {bounds recs replay : List ℕ} {s : Sizes} {work32 : List ℕ} (g : Se
   pub bounds_order : (x k : ℕ) → k ≡ x → x < s.blocks → get_or bounds (2 * k) 0 ≤ get_or bounds (2 * k + 1) 0
   bounds_order x k e h = (pair_ask k (omega arith)).order
 
-  pub worth_asks : (x : ℕ) {r : MaybeChain} {c : Chain} → x < s.blocks → SoundOf r s.blocks → r ≡ IsChain c
+  pub worth_asks : (x : ℕ) {r : Option Chain} {c : Chain} → x < s.blocks → SoundOf r s.blocks → r ≡ IsChain c
       → Laid bounds c × Pair bounds x × (16 * end_past bounds x ≤ length recs)
-  worth_asks x h u f = (laid_in (subst (λ (y : MaybeChain). SoundOf y s.blocks) f u) pair_ask, pair_ask x h, (chain_asks.block x h).whole)
+  worth_asks x h u f = (laid_in (subst (λ (y : Option Chain). SoundOf y s.blocks) f u) pair_ask, pair_ask x h, (chain_asks.block x h).whole)
 
 -- what the chain search answers
-abbrev Chains : List ℕ → List ℕ → Sizes → List ℕ → ℕ → MaybeChain → Type 0
+abbrev Chains : List ℕ → List ℕ → Sizes → List ℕ → ℕ → Option Chain → Type 0
 Chains bounds recs s work32 x r = C.Found bounds recs (take (length work32 - preds_at s) (drop (preds_at s) work32)) x s.blocks r
 
-pub chains_at : {bounds recs : List ℕ} (s : Sizes) (work32 : List ℕ) {x : ℕ} {r : MaybeChain} {p : ℕ} → p ≡ preds_at s → C.Found bounds recs (take (length work32 - p) (drop p work32)) x s.blocks r → Chains bounds recs s work32 x r
+pub chains_at : {bounds recs : List ℕ} (s : Sizes) (work32 : List ℕ) {x : ℕ} {r : Option Chain} {p : ℕ} → p ≡ preds_at s → C.Found bounds recs (take (length work32 - p) (drop p work32)) x s.blocks r → Chains bounds recs s work32 x r
 chains_at {bounds} {recs} s work32 {x} {r} e f = subst (λ (p : ℕ). C.Found bounds recs (take (length work32 - p) (drop p work32)) x s.blocks r) e f
 
 -- what it answers
 module _ {bounds recs replay : List ℕ} {s : Sizes} {work32 : List ℕ} (x k : ℕ) (ek : k ≡ x) where
-  pub looked_short : get_or bounds (2 * k + 1) 0 - get_or bounds (2 * k) 0 ≤ 3 → Looked bounds recs replay s work32 x Not
+  pub looked_short : get_or bounds (2 * k + 1) 0 - get_or bounds (2 * k) 0 ≤ 3 → Looked bounds recs replay s work32 x None
   looked_short h = record { is = λ P v G. too_short P G x (let z = sized P v.shown.lists.bounds_are x k ek in omega arith) }
 
-  chain_is : {r : MaybeChain} (P : Picture) → Sees P bounds recs replay s work32 → Chains bounds recs s work32 x r → chain_of r ≡ chain P x
+  chain_is : {r : Option Chain} (P : Picture) → Sees P bounds recs replay s work32 → Chains bounds recs s work32 x r → chain_of r ≡ chain P x
   chain_is P v f =
       f.is P (record { bounds_are = sym v.shown.lists.bounds_are; recs_are = sym v.shown.lists.recs_are; preds_are = preds_lent work32 v.shown.lists v.preds })
 
-  pub looked_none : {r : MaybeChain} → Chains bounds recs s work32 x r → r ≡ NoChain → Looked bounds recs replay s work32 x Not
+  pub looked_none : {r : Option Chain} → Chains bounds recs s work32 x r → r ≡ NoChain → Looked bounds recs replay s work32 x None
   unfolding chain_of
   looked_none f e = record { is = λ P v G. no_chain P G x (sym (chain_is P v f) ∙ ap chain_of e) }
 
-  this_chain : {r : MaybeChain} {c : Chain} (P : Picture) → Sees P bounds recs replay s work32 → Chains bounds recs s work32 x r → r ≡ IsChain c → chain P x ≡ some (chain_in c)
+  this_chain : {r : Option Chain} {c : Chain} (P : Picture) → Sees P bounds recs replay s work32 → Chains bounds recs s work32 x r → r ≡ IsChain c → chain P x ≡ some (chain_in c)
   unfolding chain_of ended
   this_chain P v f e = sym (chain_is P v f) ∙ ap chain_of e
 
   worth_is : {c : Chain} {b : Bool} (P : Picture) → Sees P bounds recs replay s work32 → Worth bounds recs replay c x b → b ≡ worth_a_look P x (chain_in c)
   worth_is {c} P v w = w.is P (sym v.shown.lists.bounds_are) (sym v.shown.lists.recs_are) (sym v.shown.replay_are)
 
-  pub looked_low : {r : MaybeChain} {c : Chain} {b : Bool} → Chains bounds recs s work32 x r → r ≡ IsChain c → Worth bounds recs replay c x b → b ≡ false → Looked bounds recs replay s work32 x Not
+  pub looked_low : {r : Option Chain} {c : Chain} {b : Bool} → Chains bounds recs s work32 x r → r ≡ IsChain c → Worth bounds recs replay c x b → b ≡ false → Looked bounds recs replay s work32 x None
   looked_low {r} {c} f e w z = record { is = λ P v G. not_worth P G x (chain_in c) (this_chain P v f e) (sym (worth_is P v w) ∙ z) }
 
-  pub looked_here : {r : MaybeChain} {c : Chain} {b : Bool} {y : BlockId} → y.0 ≡ x → x < s.blocks → Chains bounds recs s work32 x r → r ≡ IsChain c → Worth bounds recs replay c x b → b ≡ true
-      → Looked bounds recs replay s work32 x (Is (record { x = y; c = c }))
+  pub looked_here : {r : Option Chain} {c : Chain} {b : Bool} {y : BlockId} → y.0 ≡ x → x < s.blocks → Chains bounds recs s work32 x r → r ≡ IsChain c → Worth bounds recs replay c x b → b ≡ true
+      → Looked bounds recs replay s work32 x (Some (record { x = y; c = c }))
   looked_here {r} {c} {b} {y} ey h f e w z = record {
     is = λ P v. (
       ey,
       record {
         x_block = subst (λ (n : ℕ). x < n) v.shown.lists.blocks_are h;
-        sound = subst (Sound c) v.shown.lists.blocks_are (subst (λ (y : MaybeChain). SoundOf y s.blocks) e f.sound);
+        sound = subst (Sound c) v.shown.lists.blocks_are (subst (λ (y : Option Chain). SoundOf y s.blocks) e f.sound);
         is_chain = this_chain P v f e;
         worth = sym (worth_is P v w) ∙ z;
       },
@@ -218,8 +215,8 @@ module _ {bounds recs replay : List ℕ} {s : Sizes} {work32 : List ℕ} {from :
   pub passing_start : from ≤ s.blocks → Passing bounds recs replay s work32 from from
   passing_start h = record { past = λ P v G e. e; after = le_refl from; within = h }
 
-  module _ {b : ℕ} (l : Passing bounds recs replay s work32 from b) (x : ℕ) (e : b ≡ x) {r : MaybeLook} (u : Looked bounds recs replay s work32 x r) where
-    pub passing_more : b < s.blocks → r ≡ Not → Passing bounds recs replay s work32 from (b + 1)
+  module _ {b : ℕ} (l : Passing bounds recs replay s work32 from b) (x : ℕ) (e : b ≡ x) {r : Option Look} (u : Looked bounds recs replay s work32 x r) where
+    pub passing_more : b < s.blocks → r ≡ None → Passing bounds recs replay s work32 from (b + 1)
     passing_more h q = record {
       past = λ P v G z.
           none_more P G b (l.past P v G z)
@@ -228,15 +225,15 @@ module _ {bounds recs replay : List ℕ} {s : Sizes} {work32 : List ℕ} {from :
       within = omega arith;
     }
 
-    pub passing_found : {k : Look} → r ≡ Is k → Sought bounds recs replay s work32 from (Is k)
+    pub passing_found : {k : Look} → r ≡ Some k → Sought bounds recs replay s work32 from (Some k)
     passing_found {k} q = record {
       is = λ P v.
-          let w : IsLooked P x (Is k) = subst (IsLooked P x) q (u.is P v) in
+          let w : IsLooked P x (Some k) = subst (IsLooked P x) q (u.is P v) in
           let a : b ≡ k.x.0 = e ∙ sym w.0 in
           (subst (λ (i : ℕ). from ≤ i) a l.after, subst (IsPassed P from) a (l.past P v), subst (λ (i : ℕ). Chosen P i k.c) (sym w.0) w.1);
     }
 
-  pub passing_end : {b : ℕ} → Passing bounds recs replay s work32 from b → s.blocks ≤ b → Sought bounds recs replay s work32 from Not
+  pub passing_end : {b : ℕ} → Passing bounds recs replay s work32 from b → s.blocks ≤ b → Sought bounds recs replay s work32 from None
   passing_end {b} l h = record {
     is = λ P v. let w = l.within in let n = v.shown.lists.blocks_are in let e : b ≡ nblocks P = omega arith in subst (IsPassed P from) e (l.past P v);
   }

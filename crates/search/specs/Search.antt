@@ -1,6 +1,6 @@
 -- 01, "A round": what the call begins with, and the search for the next block whose chain is to be tried, of which `model`'s `first_plan`
 -- is made. Assumes nothing.
-use Rattle.std.specs.Prelude.{◌≡◌, List, ℕ, ◌≤◌, length}
+use Rattle.std.specs.Prelude.{◌≡◌, List, ℕ, ◌≤◌, length, Option, Some, None}
 use Rattle.std.proofs.Math.Option.{none}
 use Rattle.words.specs.Lists.{upto}
 use Rattle.model.specs.Picture.{Picture, nblocks}
@@ -12,8 +12,7 @@ use Rattle.chains.specs.Chain.{Preds}
 use Rattle.sizes.specs.declared.Sizes.{Sizes}
 use Rattle.chainwords.specs.Work.{Shown, Begun, Held, pred_words}
 use Rattle.worth.specs.Worth.{Chosen}
-use Rattle.search.specs.declared.find.MaybeLook.{MaybeLook}
-use Rattle.search.specs.declared.find.MaybeLook.TheVariants.{Is, Not}
+use Rattle.search.specs.declared.find.Look.{Look}
 
 -- ---- the start of the call
 
@@ -58,11 +57,11 @@ pub record Seeking (bounds recs replay : List ℕ) (s : Sizes) (work32 : List �
   pub sees : Sees P bounds recs replay s work32
 
 -- one block: its chain, or it has no move, whatever the facts are
-abbrev pub IsLooked : Picture → ℕ → MaybeLook → Type 0
-IsLooked P x (Is k) = (k.x.0 ≡ x) × Chosen P x k.c
-IsLooked P x Not = (G : Facts) → try_block P G x ≡ none
+abbrev pub IsLooked : Picture → ℕ → Option Look → Type 0
+IsLooked P x (Some k) = (k.x.0 ≡ x) × Chosen P x k.c
+IsLooked P x None = (G : Facts) → try_block P G x ≡ none
 
-pub record Looked (bounds recs replay : List ℕ) (s : Sizes) (work32 : List ℕ) (x : ℕ) (r : MaybeLook) : Type 0 where
+pub record Looked (bounds recs replay : List ℕ) (s : Sizes) (work32 : List ℕ) (x : ℕ) (r : Option Look) : Type 0 where
   pub is : (P : Picture) → Sees P bounds recs replay s work32 → IsLooked P x r
 
 -- no block from a up to b has a move, whatever the facts are: if those before a have none, those before b have none
@@ -70,15 +69,15 @@ abbrev pub IsPassed : Picture → ℕ → ℕ → Type 0
 IsPassed P a b = (G : Facts) → first_plan P G (upto a) ≡ none → first_plan P G (upto b) ≡ none
 
 -- the first block from block `from` on
-abbrev pub IsSought : Picture → ℕ → MaybeLook → Type 0
-IsSought P from (Is k) = (from ≤ k.x.0) × IsPassed P from k.x.0 × Chosen P k.x.0 k.c
-IsSought P from Not = IsPassed P from (nblocks P)
+abbrev pub IsSought : Picture → ℕ → Option Look → Type 0
+IsSought P from (Some k) = (from ≤ k.x.0) × IsPassed P from k.x.0 × Chosen P k.x.0 k.c
+IsSought P from None = IsPassed P from (nblocks P)
 
-pub record Sought (bounds recs replay : List ℕ) (s : Sizes) (work32 : List ℕ) (from : ℕ) (r : MaybeLook) : Type 0 where
+pub record Sought (bounds recs replay : List ℕ) (s : Sizes) (work32 : List ℕ) (from : ℕ) (r : Option Look) : Type 0 where
   pub is : (P : Picture) → Sees P bounds recs replay s work32 → IsSought P from r
 
 -- a round's first, with live-in anew
-pub record Opened (bounds recs pairs targets replay : List ℕ) (s : Sizes) (work64 work32 work64' : List ℕ) (r : MaybeLook) : Type 0 where
+pub record Opened (bounds recs pairs targets replay : List ℕ) (s : Sizes) (work64 work32 work64' : List ℕ) (r : Option Look) : Type 0 where
   pub size64 : length work64' ≡ length work64
   pub held : (P : Picture) (G : Facts) → Shown P bounds recs P.ops pairs targets replay s (length work64) (length work32) → Begun P G work64 work32 → Held P G work64' work32
   pub is : (P : Picture) (G : Facts) → Shown P bounds recs P.ops pairs targets replay s (length work64) (length work32) → Begun P G work64 work32 → IsSought P 0 r

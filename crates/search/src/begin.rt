@@ -2,17 +2,17 @@
 // for the whole call: a new register has no facts, and a round changes no block's successors. The rows of what each block reads
 // first and writes stand until a round changes its code.
 ghost use Rattle.std.specs.Prelude.{◌≡◌};
-ghost use Rattle.inst.specs.Table.{rows};
 ghost use Rattle.search.specs.Search.{Beginning, Began};
 
 use cfg::graph::find_preds;
 use flow::rows::all_rows;
+use inst::table::Table;
 use regfacts::flags::find_facts;
 use sizes::{Sizes, at_preds, at_regs};
 use words::numbers::wide;
 
 pub fn begin<'a>(
-    t: &[u32; 202],
+    t: &Table,
     bounds: &[u32],
     recs: &'a [u32],
     ops: &[u32],
@@ -22,7 +22,7 @@ pub fn begin<'a>(
     work32: &mut [u32],
     s: Sizes,
 )
-    requires { (t.now ≡ rows) × Beginning bounds.now recs.now ops.now pairs.now targets.now work64.old work32.old s }
+    requires { Beginning bounds.now recs.now ops.now pairs.now targets.now work64.old work32.old s }
     ensures { Began bounds.now recs.now ops.now pairs.now targets.now work64.old work32.old s work64.new work32.new }
 {
     let b = bounds.len() / 2;

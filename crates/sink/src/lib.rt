@@ -5,7 +5,6 @@ pub mod here; // here.rt: the call with a list of facts of its own
 
 ghost use Rattle.std.specs.Prelude.{◌≡◌, ◌++◌, ◌*◌, ◌-◌, length, replicate};
 ghost use Rattle.words.specs.Lists.{concat};
-ghost use Rattle.inst.specs.Table.{rows};
 ghost use Rattle.model.specs.Refusal.{refusal};
 ghost use Rattle.model.specs.Pass.{sink, number, values, rounds};
 ghost use Rattle.checks.specs.Causes.{picture_of};
@@ -14,7 +13,7 @@ ghost use Rattle.rounds.specs.Ended.{Work};
 ghost use Rattle.oneround.specs.Kept.{Kept};
 
 use facts::Fact;
-use inst::table::table;
+use inst::table::Table;
 use oneround::round::round;
 use rounds::start::start;
 use rounds::state::{At, Ran, advance, given};
@@ -22,7 +21,7 @@ use sizes::InUse;
 
 // Round after round, until none is to be tried.
 fn run(
-    t: &[u32; 202],
+    t: &Table,
     bounds: &mut [u32],
     recs: &mut [u32],
     locs: &mut [u32],
@@ -38,7 +37,7 @@ fn run(
     m: At,
 ) -> Ran
     requires { let P = picture_of bounds.old recs.old locs.old vias.old types.old m.sizes.regs ops.old m.sizes.opers pairs.now targets.now replay.now in
-        (t.now ≡ rows) × Coming P m work64.old work32.old (length facts.old) }
+        Coming P m work64.old work32.old (length facts.old) }
     ensures { let P = picture_of bounds.old recs.old locs.old vias.old types.old m.sizes.regs ops.old m.sizes.opers pairs.now targets.now replay.now in
         Finished P m work64.old work32.old facts.old result.answer result.lines bounds.new recs.new locs.new vias.new types.new ops.new work64.new work32.new facts.new }
 {
@@ -91,7 +90,7 @@ pub fn sink_all(
         × Lent cause facts.old facts.new
         × (cause ≡ 0 → Kept P Q (rounds result.answer)) }
 {
-    let t = table();
+    let t = Table::new();
     let used = InUse {
         regs: regs,
         opers: opers,

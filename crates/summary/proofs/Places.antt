@@ -1,4 +1,5 @@
 -- What a record reads or writes, place by place. Assumes nothing.
+use Rattle.std.specs.Prelude.{Option}
 use mathlib.Core.Path.{◌≡◌, refl, sym, ap, ◌∙◌, subst}
 use mathlib.Core.Logic.{◌⊎◌, inl, inr, ⊎_elim}
 use mathlib.Core.Bool.{Bool, true, false, ◌||◌, cond}
@@ -14,7 +15,7 @@ use Rattle.words.proofs.Members.{in_left, in_right, in_split, in_concat, concat_
 use Rattle.model.specs.Kinds.{reading}
 use Rattle.model.specs.Picture.{inst, absent, roles, slots, chosen, reads, writes, list_of}
 use Rattle.inst.specs.Index.{reg_of, word_of, Among}
-use Rattle.inst.specs.declared.index.MaybeReg.{MaybeReg}
+use Rattle.inst.specs.declared.index.Reg.{Reg}
 use Rattle.inst.specs.Record.{Within, read_at, write_at, present}
 use Rattle.inst.proofs.Indices.{reg_made}
 use Rattle.inst.proofs.Rest.{reads_by_place, writes_by_place}
@@ -129,21 +130,21 @@ module _ (recs ops : List ℕ) (R g : ℕ) (h : Good recs ops R g) where
 -- ---- a place made a register
 
 -- m is the register n of count, or none
-pub record AsReg (count n : ℕ) (m : MaybeReg) : Type 0 where
+pub record AsReg (count n : ℕ) (m : Option Reg) : Type 0 where
   pub among : Among count m
   pub word : word_of m ≡ n
   pub low : (word_of m ≡ absent) ⊎ (word_of m < count)
 
 -- R registers, as many as the list at hand has
-as_reg : {R count n : ℕ} → R ≤ 65536 → count ≡ R → (n ≡ absent) ⊎ (n < R) → {m : MaybeReg} → m ≡ reg_of n count → AsReg count n m
+as_reg : {R count n : ℕ} → R ≤ 65536 → count ≡ R → (n ≡ absent) ⊎ (n < R) → {m : Option Reg} → m ≡ reg_of n count → AsReg count n m
 as_reg {R} {count} {n} few e l q =
     let low : (n ≡ absent) ⊎ (n < count) = subst (λ (x : ℕ). (n ≡ absent) ⊎ (n < x)) (sym e) l in
     let made = reg_made n count (omega (arith, few, e)) low q in
     record { among = made.0; word = made.1; low = subst (λ (x : ℕ). (x ≡ absent) ⊎ (x < count)) (sym made.1) low }
 
-pub slot_made : {recs : List ℕ} {R g s count : ℕ} → Fits recs R g → count ≡ R → s < 5 → {m : MaybeReg} → m ≡ reg_of (write_at (inst recs g) s) count → AsReg count (write_at (inst recs g) s) m
+pub slot_made : {recs : List ℕ} {R g s count : ℕ} → Fits recs R g → count ≡ R → s < 5 → {m : Option Reg} → m ≡ reg_of (write_at (inst recs g) s) count → AsReg count (write_at (inst recs g) s) m
 slot_made {s = s} f e h q = as_reg f.room e (f.slot s h) q
 
-pub place_made : {recs ops : List ℕ} {R g n k count : ℕ} → Good recs ops R g → count ≡ R → n ≡ 5 + length (list_of ops (inst recs g)) → k < n → {m : MaybeReg} → m ≡ reg_of (read_place ops (inst recs g) k) count
+pub place_made : {recs ops : List ℕ} {R g n k count : ℕ} → Good recs ops R g → count ≡ R → n ≡ 5 + length (list_of ops (inst recs g)) → k < n → {m : Option Reg} → m ≡ reg_of (read_place ops (inst recs g) k) count
     → AsReg count (read_place ops (inst recs g) k) m
 place_made {recs} {ops} {R} {g} {n} {k} f e m h q = as_reg f.fits.room e (read_low recs ops R g f k (subst (λ (x : ℕ). k < x) m h)) q

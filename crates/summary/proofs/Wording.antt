@@ -1,4 +1,5 @@
 -- A position's fact for what it writes and reads, where it has all, else its record. Assumes nothing.
+use Rattle.std.specs.Prelude.{Option, Some, None}
 use mathlib.Core.Path.{◌≡◌, refl, sym, ap, ap₂, ◌∙◌, subst}
 use mathlib.Core.Logic.{◌⊎◌, inl, inr, ⊎_elim}
 use mathlib.Core.Bool.{Bool, false, ◌&&◌, ◌||◌, cond, and-true}
@@ -12,8 +13,7 @@ use Rattle.words.proofs.Bools.{eq?}
 use Rattle.words.proofs.Members.{in_left, in_right}
 use Rattle.model.specs.Picture.{inst, absent, reads, writes}
 use Rattle.inst.specs.Index.{reg_of, word_of, Among}
-use Rattle.inst.specs.declared.index.MaybeReg.{MaybeReg}
-use Rattle.inst.specs.declared.index.MaybeReg.TheVariants as M
+use Rattle.inst.specs.declared.index.Reg.{Reg}
 use Rattle.inst.specs.Record.{Known, Used, uses_of, present}
 use Rattle.inst.proofs.Indices.{among_of, word_of_reg}
 use Rattle.facts.specs.declared.Fact.{Fact}
@@ -44,12 +44,12 @@ stamped_is {keep = keep} {lo = lo} {v = v} {st = st} {st' = st'} e k = subst (λ
 
 -- ---- what a fact itself has
 
-among_low : {R : ℕ} (m : MaybeReg) → Among R m → (word_of m ≡ absent) ⊎ (word_of m < R)
-among_low (M.Is r) a = inr a.0
-among_low M.Not a = inl refl
+among_low : {R : ℕ} (m : Option Reg) → Among R m → (word_of m ≡ absent) ⊎ (word_of m < R)
+among_low (Some r) a = inr a.0
+among_low None a = inl refl
 
 -- m is made of the word x, by as many registers as a list can have
-module _ (x : ℕ) {R : ℕ} (few : R ≤ 65536) {m : MaybeReg} (q : m ≡ reg_of x R) where
+module _ (x : ℕ) {R : ℕ} (few : R ≤ 65536) {m : Option Reg} (q : m ≡ reg_of x R) where
   pub own_among : Among R m
   own_among = subst (Among R) (sym q) (among_of x R (omega (arith, few)))
 
@@ -72,32 +72,32 @@ module _ (f : Fact) (R : ℕ) where
   uses_placed = subst (λ (l : List ℕ). Placed l two 2) (ap (λ (l : List ℕ). present (two 0) ++ l) (append-nil (present (two 1)))) (made two 2)
 
   module _ (h : ℕ → Bool) where
-    pub def_tested : {m : MaybeReg} → m ≡ reg_of f.def R → {b : Bool} → b ≡ (eqb (word_of m) absent || h (word_of m)) → b ≡ all h (own_def R f)
-    def_tested q k = k ∙ ap (λ (r : MaybeReg). eqb (word_of r) absent || h (word_of r)) q ∙ sym (and-true (eqb (one 0) absent || h (one 0))) ∙ sym (all_placed def_placed h)
+    pub def_tested : {m : Option Reg} → m ≡ reg_of f.def R → {b : Bool} → b ≡ (eqb (word_of m) absent || h (word_of m)) → b ≡ all h (own_def R f)
+    def_tested q k = k ∙ ap (λ (r : Option Reg). eqb (word_of r) absent || h (word_of r)) q ∙ sym (and-true (eqb (one 0) absent || h (one 0))) ∙ sym (all_placed def_placed h)
 
-    pub uses_tested : {x y : MaybeReg} → x ≡ reg_of f.use0 R → y ≡ reg_of f.use1 R → {b c : Bool}
+    pub uses_tested : {x y : Option Reg} → x ≡ reg_of f.use0 R → y ≡ reg_of f.use1 R → {b c : Bool}
         → b ≡ (eqb (word_of x) absent || h (word_of x)) → c ≡ (eqb (word_of y) absent || h (word_of y)) → (b && c) ≡ all h (own_uses R f)
     uses_tested q r k l =
-        ap₂ (λ (i j : Bool). i && j) (k ∙ ap (λ (z : MaybeReg). eqb (word_of z) absent || h (word_of z)) q)
-        (l ∙ ap (λ (z : MaybeReg). eqb (word_of z) absent || h (word_of z)) r ∙ sym (and-true (eqb (two 1) absent || h (two 1))))
+        ap₂ (λ (i j : Bool). i && j) (k ∙ ap (λ (z : Option Reg). eqb (word_of z) absent || h (word_of z)) q)
+        (l ∙ ap (λ (z : Option Reg). eqb (word_of z) absent || h (word_of z)) r ∙ sym (and-true (eqb (two 1) absent || h (two 1))))
         ∙ sym (all_placed uses_placed h)
 
 module _ (f : Fact) (st : List ℕ) (few : length st ≤ 65536) {keep lo v : ℕ} (b : Beside keep lo v) where
-  pub def_stamped : {m : MaybeReg} → m ≡ reg_of f.def (length st) → {st' : List ℕ} → st' ≡ put_in keep lo v (word_of m) st → Stamped (own_def (length st) f) keep lo v st st'
+  pub def_stamped : {m : Option Reg} → m ≡ reg_of f.def (length st) → {st' : List ℕ} → st' ≡ put_in keep lo v (word_of m) st → Stamped (own_def (length st) f) keep lo v st st'
   def_stamped q k =
       stamping_end (stamping_more (stamping_none (one f (length st)) keep lo v st) b few (ap word_of q) (own_low f.def few q) k) b few (def_placed f (length st)) (omega arith) (omega arith)
 
-  module _ {x : MaybeReg} (q : x ≡ reg_of f.use0 (length st)) {mid : List ℕ} (k : mid ≡ put_in keep lo v (word_of x) st) where
+  module _ {x : Option Reg} (q : x ≡ reg_of f.use0 (length st)) {mid : List ℕ} (k : mid ≡ put_in keep lo v (word_of x) st) where
     one_put : Stamping (two f (length st)) keep lo v 1 st mid
     one_put = stamping_more (stamping_none (two f (length st)) keep lo v st) b few (ap word_of q) (own_low f.use0 few q) k
 
     few_on : length mid ≤ 65536
     few_on = omega (arith, few, one_put.size)
 
-    pub own_among_on : {m : MaybeReg} → m ≡ reg_of f.use1 (length mid) → Among (length mid) m
+    pub own_among_on : {m : Option Reg} → m ≡ reg_of f.use1 (length mid) → Among (length mid) m
     own_among_on r = own_among f.use1 few_on r
 
-    pub uses_stamped : {m : MaybeReg} → m ≡ reg_of f.use1 (length mid) → {st' : List ℕ} → st' ≡ put_in keep lo v (word_of m) mid → Stamped (own_uses (length st) f) keep lo v st st'
+    pub uses_stamped : {m : Option Reg} → m ≡ reg_of f.use1 (length mid) → {st' : List ℕ} → st' ≡ put_in keep lo v (word_of m) mid → Stamped (own_uses (length st) f) keep lo v st st'
     uses_stamped r l =
         stamping_end (stamping_more one_put b few (ap word_of r ∙ ap (λ (n : ℕ). word_of (reg_of f.use1 n)) one_put.size) (own_low f.use1 few_on r) l) b few
         (uses_placed f (length st)) (omega arith) (omega arith)

@@ -5,7 +5,7 @@ ghost use Rattle.inst.specs.Index.{reg_of};
 ghost use Rattle.inst.specs.Record.{Used, Listed};
 ghost use Rattle.summary.specs.Passes.{read_place};
 
-use inst::index::{MaybeReg, Reg};
+use inst::index::Reg;
 
 // Read k of record g: slots 0 to 4, then the list. It is one of count registers, or none.
 pub fn read_place(
@@ -15,7 +15,7 @@ pub fn read_place(
     uses: u32,
     k: usize,
     count: usize,
-) -> MaybeReg
+) -> Option<Reg>
     requires { Used recs.now g uses × Listed recs.now ops.now g × (k < 5 + length (list_of ops.now (inst recs.now g))) }
     ensures { result ≡ reg_of (read_place ops.now (inst recs.now g) k) count }
 {

@@ -2,7 +2,6 @@
 // it has all, else its record does.
 ghost use Rattle.std.specs.Prelude.{◌≡◌, ◌+◌, ◌%◌, ◌<◌, ◌≤◌, length};
 ghost use Rattle.model.specs.Picture.{inst, reads, writes};
-ghost use Rattle.inst.specs.Table.{rows};
 ghost use Rattle.inst.specs.Index.{word_of, Among};
 ghost use Rattle.inst.specs.Record.{Used};
 ghost use Rattle.regfacts.specs.Written.{Fits, Good};
@@ -10,7 +9,8 @@ ghost use Rattle.summary.specs.Passes.{over, put_in, Stamped, Beside, Written, R
 
 use crate::reads::{places, read_place};
 use facts::Fact;
-use inst::index::{MaybeReg, Reg};
+use inst::index::Reg;
+use inst::table::Table;
 
 // While the set is found, a register's word has its last kept writer and 1, and AWAITED if it is awaited. Of its last writer so far it
 // has WRITER, MEMBER_AT beside it if that is in the set, and over both its origin.
@@ -43,11 +43,11 @@ fn over(x: u64, d: Stamp) -> u64
 }
 
 // Stamps register r, if it is one.
-fn put(st: &mut [u64], r: MaybeReg, d: Stamp)
+fn put(st: &mut [u64], r: Option<Reg>, d: Stamp)
     requires { Among (length st.old) r × Beside d.keep d.lo d.v }
     ensures { st.new ≡ put_in d.keep d.lo d.v (word_of r) st.old }
 {
-    let MaybeReg::Is(w) = r else {
+    let Some(w) = r else {
         return;
     };
     let k = w.at();
@@ -75,8 +75,8 @@ pub fn put_def(f: Fact, st: &mut [u64], d: Stamp)
 }
 
 // Stamps what the position of fact f writes.
-pub fn put_writes(t: &[u32; 202], recs: &[u32], f: Fact, st: &mut [u64], d: Stamp)
-    requires { (t.now ≡ rows) × Written recs.now (length st.old) f.rec f.def f.more × Beside d.keep d.lo d.v }
+pub fn put_writes(t: &Table, recs: &[u32], f: Fact, st: &mut [u64], d: Stamp)
+    requires { Written recs.now (length st.old) f.rec f.def f.more × Beside d.keep d.lo d.v }
     ensures { Stamped (writes (inst recs.now f.rec)) d.keep d.lo d.v st.old st.new }
 {
     if !f.more {
@@ -110,8 +110,8 @@ pub fn put_uses(f: Fact, st: &mut [u64], d: Stamp)
 }
 
 // Stamps what the position of fact f reads.
-pub fn put_reads(t: &[u32; 202], ops: &[u32], recs: &[u32], f: Fact, st: &mut [u64], d: Stamp)
-    requires { (t.now ≡ rows) × Readable recs.now ops.now (length st.old) f × Beside d.keep d.lo d.v }
+pub fn put_reads(t: &Table, ops: &[u32], recs: &[u32], f: Fact, st: &mut [u64], d: Stamp)
+    requires { Readable recs.now ops.now (length st.old) f × Beside d.keep d.lo d.v }
     ensures { Stamped (reads ops.now (inst recs.now f.rec)) d.keep d.lo d.v st.old st.new }
 {
     if !f.more {

@@ -46,14 +46,13 @@ module _ {bounds recs ops work64 work32 : List ℕ} {facts : List F.Fact} {s : S
     part_long : length (take (e - a) (drop a work64)) ≡ s.lent
     part_long = mid_len a e work64 inside ∙ omega arith
 
-    pub ready : (t : List ℕ) → t ≡ rows → Ready t recs ops (take (e - a) (drop a work64)) facts bounds c r
-    ready t et =
+    pub ready : Ready recs ops (take (e - a) (drop a work64)) facts bounds c r
+    ready =
         let l = g.lists in
         let P = g.P in
         let k : laws.Accepted P = ok l in
-        rw (et, l.recs_are, l.ops_are, l.bounds_are, er, l.regs_are)
+        rw (l.recs_are, l.ops_are, l.bounds_are, er, l.regs_are)
         (record {
-          table = refl;
           in_use = let z = fits.lent in omega (arith, part_long, l.regs_are);
           lent = let z = fits.few in omega (arith, part_long);
           room = g.room;

@@ -1,4 +1,5 @@
 -- The answers of `toward_f` and `found`; the first target that has a plan, or none. Assumes nothing.
+use Rattle.std.specs.Prelude.{Option, Some, None}
 use mathlib.Core.Path.{◌≡◌, refl, sym, ap, ◌∙◌, subst}
 use mathlib.Core.Logic.{⊎_elim}
 use mathlib.Core.Bool.{Bool, cond}
@@ -21,8 +22,6 @@ use Rattle.sizes.specs.declared.Sizes.{Sizes}
 use Rattle.inst.specs.declared.index.BlockId.{BlockId}
 use Rattle.apply.specs.declared.moves.Move.{Move}
 use Rattle.trial.specs.declared.target.Goal.{Goal}
-use Rattle.trial.specs.declared.block.MaybeMove.{MaybeMove}
-use Rattle.trial.specs.declared.block.MaybeMove.TheVariants.{Is, Not}
 use Rattle.chainwords.specs.Work.{chain_words, Lists, Tabled, Held}
 use Rattle.chainwords.specs.Along.{Along, FromX, Marked}
 use Rattle.chains.specs.Chain.{chain_in}
@@ -39,25 +38,25 @@ toward_none g k e = ap (λ (b : Bool). record { into = g.other; other = g.into; 
 -- ---- `found`
 
 module _ (x : BlockId) (g : Goal) (k l : ℕ) where
-  abbrev in_t : MaybeMove
-  in_t = Is (record { from = x; into = g.into; inside = g.inside; places = g.places; moved = k })
+  abbrev in_t : Option Move
+  in_t = Some (record { from = x; into = g.into; inside = g.inside; places = g.places; moved = k })
 
-  abbrev in_f : MaybeMove
-  in_f = Is (record { from = x; into = g.other; inside = g.inside; places = g.places; moved = l })
+  abbrev in_f : Option Move
+  in_f = Some (record { from = x; into = g.other; inside = g.inside; places = g.places; moved = l })
 
   pub found_t : 0 < k → in_t ≡ found x g k l
   unfolding found
-  found_t h = ap (λ (b : Bool). cond b in_t (cond (ltb 0 l) in_f Not)) (sym (lt-ltb 0 k h))
+  found_t h = ap (λ (b : Bool). cond b in_t (cond (ltb 0 l) in_f None)) (sym (lt-ltb 0 k h))
 
-  not_t : k ≤ 0 → cond (ltb 0 l) in_f Not ≡ found x g k l
+  not_t : k ≤ 0 → cond (ltb 0 l) in_f None ≡ found x g k l
   unfolding found
-  not_t h = ap (λ (b : Bool). cond b in_t (cond (ltb 0 l) in_f Not)) (sym (le-ltb 0 k h))
+  not_t h = ap (λ (b : Bool). cond b in_t (cond (ltb 0 l) in_f None)) (sym (le-ltb 0 k h))
 
   pub found_f : k ≤ 0 → 0 < l → in_f ≡ found x g k l
-  found_f h b = ap (λ (z : Bool). cond z in_f Not) (sym (lt-ltb 0 l b)) ∙ not_t h
+  found_f h b = ap (λ (z : Bool). cond z in_f None) (sym (lt-ltb 0 l b)) ∙ not_t h
 
-  pub found_none : k ≤ 0 → l ≤ 0 → Not ≡ found x g k l
-  found_none h b = ap (λ (z : Bool). cond z in_f Not) (sym (le-ltb 0 l b)) ∙ not_t h
+  pub found_none : k ≤ 0 → l ≤ 0 → None ≡ found x g k l
+  found_none h b = ap (λ (z : Bool). cond z in_f None) (sym (le-ltb 0 l b)) ∙ not_t h
 
 -- ---- the move along chain c, into t or else into f
 
@@ -81,9 +80,9 @@ pub record Moves (P : Picture) (G : Facts) (x : ℕ) (c : Chain) (g : Goal) (mv 
   pub marked : Marked P a g.inside g.places w
   pub numbers : (k : ℕ) → k < g.places → get_or w (10 * k) 0 ≡ get_or (chain_places P (blocks_of c)) k 0
 
-abbrev pub MovesBy : Picture → Facts → ℕ → Chain → Goal → MaybeMove → List ℕ → Type 0
-MovesBy P G x c g (Is mv) w = Moves P G x c g mv w
-MovesBy P G x c g Not w = plan_in P G x c g ≡ none
+abbrev pub MovesBy : Picture → Facts → ℕ → Chain → Goal → Option Move → List ℕ → Type 0
+MovesBy P G x c g (Some mv) w = Moves P G x c g mv w
+MovesBy P G x c g None w = plan_in P G x c g ≡ none
 
 first_some : {p : Option Plan} (q : Option Plan) {a : Plan} → p ≡ some a → first_of p q ≡ some a
 first_some q e = ap (λ (o : Option Plan). first_of o q) e
@@ -100,7 +99,7 @@ module _ {bounds recs ops pairs targets : List ℕ} {s : Sizes} {c : Chain} {w :
 
   module _ (some? : 0 < g.least) (P : Picture) (G : Facts) (x : ℕ) (r : Lists P bounds recs ops s (length work64) (length work32)) (u : Tabled P pairs targets) (d : Held P G work64 work32)
       (a : Along P G c w work32 g.places) (f : FromX P c x g.inside) (from : BlockId) (here : from.0 ≡ x) where
-    abbrev IsAnswer : MaybeMove → Type 0
+    abbrev IsAnswer : Option Move → Type 0
     IsAnswer v = MovesBy P G x c g v (chain_words work32'')
 
     -- the plan is for the target's block
@@ -112,7 +111,7 @@ module _ {bounds recs ops pairs targets : List ℕ} {s : Sizes} {c : Chain} {w :
     into_t h =
         let z = p.some_is P G x r u d a f (λ y. omega arith) in
         let same : chain_words work32'' ≡ chain_words work32' = ap chain_words (q.still (q.unwanted (ap (λ (i : Goal). i.least) (sym (toward_none g k (λ y. omega arith)))))) in
-        let it : IsAnswer (Is (record { from = from; into = g.into; inside = g.inside; places = g.places; moved = k })) =
+        let it : IsAnswer (Some (record { from = from; into = g.into; inside = g.inside; places = g.places; moved = k })) =
         record {
           a = z.0;
           is = first_some (plan_toward P G x c (toward_f g 0)) z.1;
@@ -134,7 +133,7 @@ module _ {bounds recs ops pairs targets : List ℕ} {s : Sizes} {c : Chain} {w :
       into_f : 0 < l → IsAnswer (found from g k l)
       into_f h =
           let z = q.some_is P G x (lists_of p.size64 p.size32 r) u (p.held P G r u d) (along_behind p.behind a) f (λ y. omega arith) in
-          let it : IsAnswer (Is (record { from = from; into = g.other; inside = g.inside; places = g.places; moved = l })) =
+          let it : IsAnswer (Some (record { from = from; into = g.other; inside = g.inside; places = g.places; moved = l })) =
           record {
             a = z.0;
             is = no_t ∙ z.1;

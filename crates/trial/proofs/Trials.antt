@@ -1,4 +1,5 @@
 -- `try_chain`: the chain from the block, which is worth a look, is tried, and the answer is `model`'s `try_block`. Assumes nothing.
+use Rattle.std.specs.Prelude.{Option, Some, None}
 use mathlib.Core.Path.{◌≡◌, refl, sym, ap, ap₂, ◌∙◌, subst}
 use mathlib.Core.Bool.{Bool, true, false}
 use mathlib.Core.List.{List, [], ◌∷◌}
@@ -23,8 +24,7 @@ use Rattle.apply.specs.Apply.{Stands}
 use Rattle.sizes.specs.declared.Sizes.{Sizes}
 use Rattle.search.specs.declared.find.Look.{Look}
 use Rattle.trial.specs.declared.target.Goal.{Goal}
-use Rattle.trial.specs.declared.block.MaybeMove.{MaybeMove}
-use Rattle.trial.specs.declared.block.MaybeMove.TheVariants.{Is, Not}
+use Rattle.apply.specs.declared.moves.Move.{Move}
 use Rattle.chainwords.specs.Work.{chain_words, Lists, Shown}
 use Rattle.chainwords.specs.Along.{Along, Chained, Learning, Learnt}
 use Rattle.chains.specs.Chain.{chain_in}
@@ -68,8 +68,8 @@ module _ (P : Picture) (k : Look) (e : chain P k.x.0 ≡ some (chain_in k.c)) wh
     look = ap (λ (o : Option M.Chain). elim o as (λ z. Option Plan) [ none ↦ none | some d ↦ plan_chain P G x d ]) e ∙ ap (λ (b : Bool). elim b as (λ z. Option Plan) [ false ↦ none | true ↦ plan_in P G x c aim ]) f
 
     -- the move
-    tried_is : (w : List ℕ) (r : MaybeMove) → MovesBy P G x c aim r w → IsTried P G x r w
-    tried_is w (Is mv) z = record {
+    tried_is : (w : List ℕ) (r : Option Move) → MovesBy P G x c aim r w → IsTried P G x r w
+    tried_is w (Some mv) z = record {
       a = z.a;
       c = chain_in c;
       is = look ∙ z.is;
@@ -83,7 +83,7 @@ module _ (P : Picture) (k : Look) (e : chain P k.x.0 ≡ some (chain_in k.c)) wh
       lasts = λ p l. z.marked.lasts p (subst (λ (y : ℕ). p < y) z.inside_is l);
       wrotes = λ p l. z.marked.wrotes p (subst (λ (y : ℕ). p < y) z.inside_is l);
     }
-    tried_is w Not z = look ∙ z
+    tried_is w None z = look ∙ z
 
 -- ---- sizes of x
 

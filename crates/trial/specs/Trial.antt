@@ -1,6 +1,6 @@
 -- 01, "A round": what the search for a move from a block answers, `model`'s `try_block`; the chain's words then stand for the plan, as
 -- `apply` takes it. Assumes nothing.
-use Rattle.std.specs.Prelude.{◌≡◌, ◌||◌, cond, List, ℕ, ◌+◌, ◌*◌, ◌-◌, ◌<◌, eqb, ltb, get_or, length}
+use Rattle.std.specs.Prelude.{◌≡◌, ◌||◌, cond, List, ℕ, ◌+◌, ◌*◌, ◌-◌, ◌<◌, eqb, ltb, get_or, length, Option, Some, None}
 use Rattle.std.proofs.Math.Option.{none, some}
 use Rattle.words.specs.Lists.{count, mem}
 use Rattle.model.specs.Picture.{Picture, absent, size}
@@ -12,8 +12,6 @@ use Rattle.apply.specs.Apply.{Stands}
 use Rattle.apply.specs.declared.moves.Move.{Move}
 use Rattle.search.specs.declared.find.Look.{Look}
 use Rattle.trial.specs.declared.target.Goal.{Goal}
-use Rattle.trial.specs.declared.block.MaybeMove.{MaybeMove}
-use Rattle.trial.specs.declared.block.MaybeMove.TheVariants.{Is, Not}
 use Rattle.chainwords.specs.Work.{Shown, Given, Held, chain_words}
 use Rattle.worth.specs.Worth.{Chosen}
 use Rattle.chains.specs.declared.chain.Chain as C
@@ -34,9 +32,9 @@ pub record Found (P : Picture) (G : Facts) (x : ℕ) (mv : Move) (w : List ℕ) 
   pub lasts : (p : ℕ) → p < mv.inside → last_at w p < 4096
   pub wrotes : (p : ℕ) → p < mv.inside → (wrote_at w p ≡ absent → ⊥) → wrote_at w p < P.regs
 
-abbrev pub IsTried : Picture → Facts → ℕ → MaybeMove → List ℕ → Type 0
-IsTried P G x (Is mv) w = Found P G x mv w
-IsTried P G x Not w = try_block P G x ≡ none
+abbrev pub IsTried : Picture → Facts → ℕ → Option Move → List ℕ → Type 0
+IsTried P G x (Some mv) w = Found P G x mv w
+IsTried P G x None w = try_block P G x ≡ none
 
 -- ---- what the targets are tried with, and the answer of `found`
 
@@ -55,9 +53,9 @@ abbrev pub toward_f : Goal → ℕ → Goal
 toward_f g moved = record { into = g.other; other = g.into; least = cond (eqb moved 0) g.least 0; inside = g.inside; places = g.places }
 
 -- k members move from block x into t, or else l into f
-unfoldable pub found : BlockId → Goal → ℕ → ℕ → MaybeMove
+unfoldable pub found : BlockId → Goal → ℕ → ℕ → Option Move
 found x g k l =
-    cond (ltb 0 k) (Is (record { from = x; into = g.into; inside = g.inside; places = g.places; moved = k })) (cond (ltb 0 l) (Is (record { from = x; into = g.other; inside = g.inside; places = g.places; moved = l })) Not)
+    cond (ltb 0 k) (Some (record { from = x; into = g.into; inside = g.inside; places = g.places; moved = k })) (cond (ltb 0 l) (Some (record { from = x; into = g.other; inside = g.inside; places = g.places; moved = l })) None)
 
 -- ---- `try_chain`
 
@@ -66,7 +64,7 @@ pub record Following (bounds recs ops pairs targets replay : List ℕ) (s : Size
   pub chosen : Chosen given.P x c
 
 -- the work slices after: of every picture and facts that they were for
-pub record Followed (bounds recs ops pairs targets replay : List ℕ) (s : Sizes) (x : ℕ) (c : C.Chain) (work64 work32 work64' work32' : List ℕ) (r : MaybeMove) : Type 0 where
+pub record Followed (bounds recs ops pairs targets replay : List ℕ) (s : Sizes) (x : ℕ) (c : C.Chain) (work64 work32 work64' work32' : List ℕ) (r : Option Move) : Type 0 where
   pub size64 : length work64' ≡ length work64
   pub size32 : length work32' ≡ length work32
   pub held : (P : Picture) (G : Facts) → Shown P bounds recs ops pairs targets replay s (length work64) (length work32) → Held P G work64 work32 → Held P G work64' work32'

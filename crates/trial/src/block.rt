@@ -1,6 +1,5 @@
 // The move from a block along its chain (01, "A round"; 000's `try_block`): the facts, then the targets t, then f.
 ghost use Rattle.std.specs.Prelude.{◌≡◌, ◌+◌, ◌*◌, ◌<◌, ◌≤◌, length, get_or};
-ghost use Rattle.inst.specs.Table.{rows};
 ghost use Rattle.trial.specs.Trial.{toward_t, toward_f, found, Following, Followed};
 
 use crate::learn::learn;
@@ -9,16 +8,11 @@ use apply::moves::Move;
 use chains::pass::Sink;
 use facts::Fact;
 use inst::index::BlockId;
+use inst::table::Table;
 use search::find::Look;
 use sizes::Sizes;
 use words::numbers::wide;
 use worth::look::replays;
-
-#[derive(Clone, Copy)]
-pub enum MaybeMove {
-    Is(Move),
-    Not,
-}
 
 // What t is tried with, of n positions along the chain of k.
 fn toward_t(bounds: &[u32], replay: &[u32], k: Look, n: usize) -> Goal
@@ -56,7 +50,7 @@ fn toward_f(g: Goal, moved: u32) -> Goal
 }
 
 // k members move from block x into t, or else l into f.
-fn found(x: BlockId, g: Goal, k: u32, l: u32) -> MaybeMove
+fn found(x: BlockId, g: Goal, k: u32, l: u32) -> Option<Move>
     ensures { result ≡ found x g k l }
 {
     let t = g.into;
@@ -69,7 +63,7 @@ fn found(x: BlockId, g: Goal, k: u32, l: u32) -> MaybeMove
             places: g.places,
             moved: k,
         };
-        return MaybeMove::Is(mv);
+        return Some(mv);
     }
     if 0 < l {
         let mv = Move {
@@ -79,14 +73,14 @@ fn found(x: BlockId, g: Goal, k: u32, l: u32) -> MaybeMove
             places: g.places,
             moved: l,
         };
-        return MaybeMove::Is(mv);
+        return Some(mv);
     }
-    MaybeMove::Not
+    None
 }
 
 // The move from block k.x along its chain, which is worth a look. The facts along it are left in the list, marked for the target tried last.
 pub fn try_chain<'a>(
-    t: &[u32; 202],
+    t: &Table,
     bounds: &[u32],
     recs: &'a [u32],
     ops: &[u32],
@@ -98,8 +92,8 @@ pub fn try_chain<'a>(
     facts: &mut [Fact],
     s: Sizes,
     k: Look,
-) -> MaybeMove
-    requires { (t.now ≡ rows) × Following bounds.now recs.now ops.now pairs.now targets.now replay.now s k.x.0 k.c work64.old work32.old × (800 ≤ length facts.old) }
+) -> Option<Move>
+    requires { Following bounds.now recs.now ops.now pairs.now targets.now replay.now s k.x.0 k.c work64.old work32.old × (800 ≤ length facts.old) }
     ensures { Followed bounds.now recs.now ops.now pairs.now targets.now replay.now s k.x.0 k.c work64.old work32.old work64.new work32.new result }
 {
     let n = learn(t, bounds, recs, ops, work64, work32, facts, s, k.c);

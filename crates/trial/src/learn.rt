@@ -1,7 +1,6 @@
 // The facts along the chain (01, "The legal set"), a record a position in the lent list, and a copy of the words of the registers in
 // use, last writers and flags, which the set is found by while the 64-bit slice takes its stamps.
 ghost use Rattle.std.specs.Prelude.{◌≡◌};
-ghost use Rattle.inst.specs.Table.{rows};
 ghost use Rattle.chainwords.specs.Puts.{Copying, Copied};
 ghost use Rattle.chainwords.specs.Along.{Learning, Learnt};
 
@@ -9,6 +8,7 @@ use analyse::along::analyse;
 use analyse::look::LEFT;
 use chains::chain::Chain;
 use facts::Fact;
+use inst::table::Table;
 use sizes::{COPIED, Sizes, at_regs};
 
 // The last writers and flags of the first r words from word a on, from word 8,000 on.
@@ -25,7 +25,7 @@ fn copy_regs(work64: &[u64], work32: &mut [u32], a: usize, r: usize)
 
 // The facts of chain c. The answer is the number of its positions.
 pub fn learn(
-    t: &[u32; 202],
+    t: &Table,
     bounds: &[u32],
     recs: &[u32],
     ops: &[u32],
@@ -35,7 +35,7 @@ pub fn learn(
     s: Sizes,
     c: Chain,
 ) -> usize
-    requires { (t.now ≡ rows) × Learning bounds.now recs.now ops.now s c work64.old work32.old facts.old }
+    requires { Learning bounds.now recs.now ops.now s c work64.old work32.old facts.old }
     ensures { Learnt bounds.now recs.now ops.now s c work64.old work32.old work64.new work32.new facts.new result }
 {
     let r = s.regs as usize;

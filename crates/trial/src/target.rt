@@ -1,6 +1,5 @@
 // One target tried (01, "A round" and "The legal set"; 000's `plan`): is it a target, and has the greatest legal set enough members?
 ghost use Rattle.std.specs.Prelude.{◌≡◌, ◌≤◌, length};
-ghost use Rattle.inst.specs.Table.{rows};
 ghost use Rattle.facts.specs.Marks.{bare};
 ghost use Rattle.trial.specs.Target.{from_start, taken, Aiming, Aimed, Trying, TargetTried};
 
@@ -9,6 +8,7 @@ use chainwords::marks::{put_facts, put_uses};
 use facts::Fact;
 use flow::needed::put_needed;
 use inst::index::BlockId;
+use inst::table::Table;
 use plan::set::legal_set;
 use plan::settle::Cycle;
 use sizes::{COPIED, Sizes, at_needed, at_preds, at_stamps};
@@ -64,7 +64,7 @@ fn from_start(o: usize, s: usize, m: usize, n: usize, least: u32) -> Cycle
 // Is g.into a target, and is a move wanted? Then the row of the registers needed elsewhere is put; else the sweeps are over no positions
 // and no registers.
 fn take_aim<'a>(
-    t: &[u32; 202],
+    t: &Table,
     bounds: &[u32],
     recs: &'a [u32],
     pairs: &[u32],
@@ -75,7 +75,7 @@ fn take_aim<'a>(
     c: Chain,
     g: Goal,
 ) -> Aim
-    requires { (t.now ≡ rows) × Aiming bounds.now recs.now pairs.now targets.now s c work64.old work32.now g }
+    requires { Aiming bounds.now recs.now pairs.now targets.now s c work64.old work32.now g }
     ensures { Aimed bounds.now recs.now pairs.now targets.now s c work64.old work32.now g work64.new result }
 {
     let o = at_needed(s);
@@ -129,7 +129,7 @@ fn taken(k: u32, least: u32, n: usize) -> Sunk
 // How many members move into g.into: 0 where that is no target, none is wanted or there are too few. The chain's words then say which,
 // with their last uses and the registers they write.
 pub fn try_target<'a>(
-    t: &[u32; 202],
+    t: &Table,
     bounds: &[u32],
     recs: &'a [u32],
     ops: &[u32],
@@ -142,7 +142,7 @@ pub fn try_target<'a>(
     c: Chain,
     g: Goal,
 ) -> u32
-    requires { (t.now ≡ rows) × Trying bounds.now recs.now ops.now pairs.now targets.now s c (bare facts.old) work64.old work32.old g × (g.places ≤ length facts.old) }
+    requires { Trying bounds.now recs.now ops.now pairs.now targets.now s c (bare facts.old) work64.old work32.old g × (g.places ≤ length facts.old) }
     ensures { TargetTried bounds.now recs.now ops.now pairs.now targets.now s c (bare facts.old) work64.old work32.old g work64.new work32.new result × (bare facts.new ≡ bare facts.old) }
 {
     let a = take_aim(t, bounds, recs, pairs, targets, work64, work32, s, c, g);

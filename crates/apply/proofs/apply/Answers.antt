@@ -6,44 +6,44 @@ use Rattle.apply.proofs.Done.{ask_at, room_at, apply_law}
 use Rattle.apply.proofs.apply.Goals as goal
 
 pub start-requires : goal.start-requires
-start-requires c = x_words c.requires.t_value.1
+start-requires c = x_words c.requires.t_value
 
 pub start-requires-2 : goal.start-requires-2
-start-requires-2 c = t_words c.requires.t_value.1
+start-requires-2 c = t_words c.requires.t_value
 
 pub past-requires : goal.past-requires
-past-requires c = t_words c.requires.t_value.1
+past-requires c = t_words c.requires.t_value
 
 pub add_types-requires : goal.add_types-requires
-add_types-requires c = types_fit c.requires.t_value.1 c.requires.fits.0
+add_types-requires c = types_fit c.requires.t_value c.requires.fits.0
 
 pub rename_all-requires : goal.rename_all-requires
 rename_all-requires c =
     let at_past = c.before.before.before.before.before.before.before in
     let g = c.args in
     let m = g.m in
-    let k = c.requires.t_value.1 in
+    let k = c.requires.t_value in
     let el = c.start.ensures in
     let ea = c.start-2.ensures in
     let ee = c.past.ensures in
     let room = room_at m.from.0 m.into.0 m.inside m.places g.c.opers g.bounds.now g.recs.now g.ops.now g.w.now el ea ee c.requires.fits.0.opers in
     record {
-      t_value = (c.requires.t_value.0, ask_at k el ea ee);
+      t_value = (ask_at k el ea ee);
       past_in_bounds = room;
     }
 
 pub move_all-requires : goal.move_all-requires
 move_all-requires c =
     let at_rename_all = c.before.before.before.before.before.before.before.before.before in
-    move_at c.requires.t_value.1 _ _ _ refl c.requires.fits.1 c.rename_all.ensures.size c.start.ensures c.start-2.ensures
+    move_at c.requires.t_value _ _ _ refl c.requires.fits.1 c.rename_all.ensures.size c.start.ensures c.start-2.ensures
 
 pub count-requires : goal.count-requires
 count-requires c =
-    let k = c.requires.t_value.1 in
+    let k = c.requires.t_value in
     (omega (arith, k.words, k.chain), k.few)
 
 pub move_bounds-requires : goal.move_bounds-requires
-move_bounds-requires c = bounds_at c.requires.t_value.1 c.count.ensures
+move_bounds-requires c = bounds_at c.requires.t_value c.count.ensures
 
 pub returns : goal.returns
 returns c =
@@ -53,5 +53,5 @@ returns c =
     let at_rename_all = at_move_all.before.before.before.before.before.before.before.before.before.before in
     let at_add_types = at_rename_all.before.before.before.before.before.before in
     let at_past = at_add_types.before.before in
-    apply_law c.requires.t_value.1 c.start.ensures c.start-2.ensures c.past.ensures c.count.ensures c.add_types.ensures.0
+    apply_law c.requires.t_value c.start.ensures c.start-2.ensures c.past.ensures c.count.ensures c.add_types.ensures.0
     c.rename_all.ensures c.move_all.ensures c.requires.fits.1.each_or_none c.move_bounds.ensures

@@ -4,7 +4,7 @@ use Rattle.find.proofs.Onward.{following, running_more, running_end}
 use Rattle.find.proofs.find_move.Goals as goal
 
 pub try_chain-r-requires : goal.try_chain-r-requires
-try_chain-r-requires c = (c.requires.0, following c.loop-at.invariant c.in-Looks.is c.requires.1, omega (arith, c.loop-at.auto.facts, c.requires.2))
+try_chain-r-requires c = (following c.loop-at.invariant c.in-Looks.is c.requires.0, omega (arith, c.loop-at.auto.facts, c.requires.1))
 
 pub loop-at-preserved : goal.loop-at-preserved
 loop-at-preserved c = running_more c.loop-at.invariant c.in-Looks.is c.try_chain-r.ensures c.go_on-next.ensures

@@ -5,13 +5,13 @@ use Rattle.sink.proofs.run.Goals as goal
 
 pub round-r-requires : goal.round-r-requires
 round-r-requires c =
-    (c.requires.0, opening (running_next c.loop-m.invariant c.requires.1 c.loop-m-test.true), running_many c.loop-m.invariant c.requires.1 c.loop-m-test.true)
+    (opening (running_next c.loop-m.invariant c.requires c.loop-m-test.true), running_many c.loop-m.invariant c.requires c.loop-m-test.true)
 
 pub advance-next-requires : goal.advance-next-requires
-advance-next-requires c = advancing (running_next c.loop-m.invariant c.requires.1 c.loop-m-test.true)
+advance-next-requires c = advancing (running_next c.loop-m.invariant c.requires c.loop-m-test.true)
 
 pub loop-m-smaller : goal.loop-m-smaller
-loop-m-smaller c = fewer c.loop-m.m c.advance-next.result c.round-r.result c.loop-m-test.true (running_next c.loop-m.invariant c.requires.1 c.loop-m-test.true).few c.advance-next.ensures
+loop-m-smaller c = fewer c.loop-m.m c.advance-next.result c.round-r.result c.loop-m-test.true (running_next c.loop-m.invariant c.requires c.loop-m-test.true).few c.advance-next.ensures
 
 pub loop-m-preserved : goal.loop-m-preserved
 loop-m-preserved c =

@@ -7,26 +7,26 @@ use Rattle.analyse.proofs.Learned.{fits_more, learned}
 use Rattle.analyse.proofs.learn.learn_one.Goals as goal
 
 pub ask-y-requires : goal.ask-y-requires
-ask-y-requires c = (c.requires.1, c.requires.2.good.known.within, reads_below c.requires.2.good c.scan-x.ensures)
+ask-y-requires c = (c.requires.0, c.requires.1.good.known.within, reads_below c.requires.1.good c.scan-x.ensures)
 
 pub mark_record-requires : goal.mark_record-requires
 mark_record-requires c = (
-  record { within = c.requires.2.good.known.within; uses = c.uses-u.ensures },
+  record { within = c.requires.1.good.known.within; uses = c.uses-u.ensures },
   c.stamp-d.ensures.1,
-  fits_more c.requires.1.in_use c.requires.1.lent c.requires.2.good.fits,
+  fits_more c.requires.0.in_use c.requires.0.lent c.requires.1.good.fits,
   c.scan-x.ensures.d0,
   c.scan-x.ensures.d1,
 )
 
 pub may_suspend-requires : goal.may_suspend-requires
-may_suspend-requires c = c.requires.2.good.known.within
+may_suspend-requires c = c.requires.1.good.known.within
 
 pub fact_of-requires : goal.fact_of-requires
-fact_of-requires c = c.requires.2.small
+fact_of-requires c = c.requires.1.small
 
 pub returns : goal.returns
 returns c = rw c.fact_of.ensures
-    (learned _ _ c.judge-e.result c.may_suspend.result c.ask-y.result c.requires.1 c.requires.3 c.requires.2 (c.arm.ensures ∙ ap T.arm c.row_at-m.ensures)
+    (learned _ _ c.judge-e.result c.may_suspend.result c.ask-y.result c.requires.0 c.requires.2 c.requires.1 (c.arm.ensures ∙ ap T.arm c.row_at-m.ensures)
     (rw c.ask-y.ensures.1 at c.judge-e.ensures.0) c.scan-x.ensures (rw (c.stamp-d.ensures.0, c.leads.ensures) at c.mark_record.ensures) c.may_suspend.ensures
     (λ G past el s. c.ask-y.ensures.2 _ G past c.scan-x.ensures el s)
-    (λ G past z. c.judge-e.ensures.1 _ G past _ (omega (arith, c.requires.1.in_use, c.requires.1.lent)) c.requires.2.good z))
+    (λ G past z. c.judge-e.ensures.1 _ G past _ (omega (arith, c.requires.0.in_use, c.requires.0.lent)) c.requires.1.good z))

@@ -13,12 +13,12 @@ returns-in_default c = λ G count a few s. divisor_none s few _ (ap word_of c.in
 
 pub bounds-regs-at : goal.bounds-regs-at
 bounds-regs-at c =
-    let is = c.in-Is.is in
+    let is = c.in-Some.is in
     let h = a_reg is c.requires in
     omega (arith, h.0, ap word_of is, c.at.ensures)
 
 pub returns : goal.returns
 returns c =
-    let is = c.in-Is.is in
+    let is = c.in-Some.is in
     let v = ap (λ (k : ℕ). get_or c.args.regs.now k 0) (c.at.ensures ∙ sym (ap word_of is)) in
     λ G count a few s. divisor_some s _ _ (a_reg is a).0 v

@@ -13,20 +13,20 @@ returns-in_default c = λ count n a g. (omega arith, λ G past e s. valued_none 
 
 pub bounds-regs-at : goal.bounds-regs-at
 bounds-regs-at c =
-    let is = c.in-Is.is in
+    let is = c.in-Some.is in
     let h = a_reg is c.requires in
     omega (arith, h.0, ap word_of is, c.at.ensures)
 
 pub returns-then-v-lt-FLAGS : goal.returns-then-v-lt-FLAGS
 returns-then-v-lt-FLAGS c =
-    let is = c.in-Is.is in
+    let is = c.in-Some.is in
     let v = ap (λ (k : ℕ). get_or c.args.regs.now k 0) (c.at.ensures ∙ sym (ap word_of is)) in
     let org = c.flags_org.ensures in
     λ count n a g. (omega (arith, org.0), λ G past e s. let h = a_reg is a in valued_flags s _ h.1 h.0 _ v _ org.0 c.if-v-lt-FLAGS.true org.1)
 
 pub returns : goal.returns
 returns c =
-    let is = c.in-Is.is in
+    let is = c.in-Some.is in
     let v = ap (λ (k : ℕ). get_or c.args.regs.now k 0) (c.at.ensures ∙ sym (ap word_of is)) in
     λ count n a g.
     let h = a_reg is a in

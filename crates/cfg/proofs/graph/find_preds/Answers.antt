@@ -14,7 +14,7 @@ use Rattle.cfg.proofs.Noted.{all_preds, noted_none, noted_more, noted_end}
 use Rattle.cfg.proofs.graph.find_preds.Goals as goal
 
 pub overflow_cast-n : goal.overflow_cast-n
-overflow_cast-n c = omega (arith, c.requires.1.blocks.few)
+overflow_cast-n c = omega (arith, c.requires.0.blocks.few)
 
 pub loop-k-init : goal.loop-k-init
 loop-k-init c = let s = c.args in (refl, omega arith, refl, noted_none (succs (drawn s.bounds.now s.recs.now [] s.pairs.now s.targets.now)) _)
@@ -27,19 +27,19 @@ returns-in_default c = absurd (omega (arith, c.loop-k-test.true, not_block _ _ (
 
 pub succs-list-requires : goal.succs-list-requires
 succs-list-requires c =
-    let h = is_block _ _ _ (sym c.in-Is.ensures) in
-    (c.requires.0, c.requires.1, omega (arith, h.0, h.1, c.loop-k.invariant.0))
+    let h = is_block _ _ _ (sym c.in-Some.ensures) in
+    (c.requires.0, omega (arith, h.0, h.1, c.loop-k.invariant.0))
 
 pub note_all-requires : goal.note_all-requires
 note_all-requires c =
     let i = c.loop-k in
     let f = c.fill.auto.xs in
-    let h = is_block _ _ _ (sym c.in-Is.ensures) in
-    let low = next_block c.succs-list.result.now c.succs-list.ensures c.requires.1 (omega (arith, h.0, h.1, i.invariant.0)) in
-    (omega (arith, c.requires.2, i.invariant.0, i.invariant.2), λ j l. omega (arith, low j l, i.invariant.0))
+    let h = is_block _ _ _ (sym c.in-Some.ensures) in
+    let low = next_block c.succs-list.result.now c.succs-list.ensures c.requires.0 (omega (arith, h.0, h.1, i.invariant.0)) in
+    (omega (arith, c.requires.1, i.invariant.0, i.invariant.2), λ j l. omega (arith, low j l, i.invariant.0))
 
 pub overflow_add-k : goal.overflow_add-k
-overflow_add-k c = omega (arith, c.loop-k-test.true, c.loop-k.invariant.0, c.requires.1.blocks.few)
+overflow_add-k c = omega (arith, c.loop-k-test.true, c.loop-k.invariant.0, c.requires.0.blocks.few)
 
 pub loop-k-smaller : goal.loop-k-smaller
 loop-k-smaller c = omega (arith, c.loop-k-test.true)
@@ -49,7 +49,7 @@ loop-k-preserved c =
     let s = c.args in
     let i = c.loop-k in
     let next = succs (drawn s.bounds.now s.recs.now [] s.pairs.now s.targets.now) in
-    let h = is_block _ _ _ (sym c.in-Is.ensures) in
+    let h = is_block _ _ _ (sym c.in-Some.ensures) in
     let e = c.succs-list.ensures ∙ ap next (sym h.0) in
     let m = c.note_all.ensures ∙ ap (λ (x : ℕ). steps (noted x) i.words c.succs-list.result.now) (sym h.0) in
     (i.invariant.0, omega (arith, c.loop-k-test.true), c.note_all.auto.words ∙ i.invariant.2, noted_more next _ i.k _ e i.invariant.3 m)
@@ -61,4 +61,4 @@ pub returns : goal.returns
 returns c =
     let f = c.fill.auto.xs in
     let i = c.loop-k.invariant in
-    all_preds (drawn c.args.bounds.now c.args.recs.now [] c.args.pairs.now c.args.targets.now) (length c.args.words.now) _ _ c.fill.ensures (omega (arith, c.requires.2)) (noted_end _ _ _ _ (omega (arith, i.0, i.1)) (omega (arith, c.loop-k-test.false, i.0)) i.3)
+    all_preds (drawn c.args.bounds.now c.args.recs.now [] c.args.pairs.now c.args.targets.now) (length c.args.words.now) _ _ c.fill.ensures (omega (arith, c.requires.1)) (noted_end _ _ _ _ (omega (arith, i.0, i.1)) (omega (arith, c.loop-k-test.false, i.0)) i.3)

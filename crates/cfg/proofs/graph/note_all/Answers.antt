@@ -21,14 +21,14 @@ returns-in_default c =
 
 pub note-requires : goal.note-requires
 note-requires c =
-    let h = is_block _ _ _ (sym c.in-Is.ensures) in
+    let h = is_block _ _ _ (sym c.in-Some.ensures) in
     omega (arith, h.0, h.1, c.requires.0, c.loop-j.invariant.1)
 
 pub loop-j-preserved : goal.loop-j-preserved
 loop-j-preserved c =
     let s = c.args in
     let i = c.loop-j in
-    let h = is_block _ _ _ (sym c.in-Is.ensures) in
+    let h = is_block _ _ _ (sym c.in-Some.ensures) in
     (omega arith, c.note.auto.words ∙ i.invariant.1, steps_next (noted s.c.0) s.list.now i.j c.loop-j-test.true (c.note.ensures ∙ ap (noted s.c.0 i.words) (sym h.0)) i.invariant.2)
 
 pub shape_of-words : goal.shape_of-words

@@ -17,7 +17,7 @@ targets_of-requires c =
     let a = c.args in
     let lo = c.wide-start.ensures ∙ ap (λ (x : ℕ). get_or a.bounds.now (2 * x) 0) c.at-k.ensures in
     let hi = c.wide-end.ensures ∙ ap (λ (x : ℕ). get_or a.bounds.now (2 * x + 1) 0) c.at-k.ensures in
-    (c.requires.0, last_known _ _ _ _ _ _ _ lo hi c.requires.1 c.requires.2 c.if-end-start.false, c.requires.1.tables)
+    (last_known _ _ _ _ _ _ _ lo hi c.requires.0 c.requires.1 c.if-end-start.false, c.requires.0.tables)
 
 pub returns : goal.returns
 returns c =

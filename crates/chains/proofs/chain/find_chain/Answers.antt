@@ -20,10 +20,10 @@ pub returns-in_default : goal.returns-in_default
 returns-in_default c = going_not c.requires.0 c.loop-c.invariant (c.at.ensures ∙ c.last.ensures) (sym c.in-Goes.is ∙ c.end_of.ensures) c.next.ensures (from_start _ c.start-c.ensures.0 c.start-c.ensures.1) c.in_default.is
 
 pub loop-c-smaller : goal.loop-c-smaller
-loop-c-smaller c = omega (arith, more_blocks c.requires.0 c.loop-c.invariant (c.at.ensures ∙ c.last.ensures) (sym c.in-Goes.is ∙ c.end_of.ensures) c.next.ensures _ c.in-Is.is, c.loop-c.invariant.sound.few.most)
+loop-c-smaller c = omega (arith, more_blocks c.requires.0 c.loop-c.invariant (c.at.ensures ∙ c.last.ensures) (sym c.in-Goes.is ∙ c.end_of.ensures) c.next.ensures _ c.in-Some.is, c.loop-c.invariant.sound.few.most)
 
 pub loop-c-preserved : goal.loop-c-preserved
-loop-c-preserved c = going_more c.requires.0 c.loop-c.invariant (c.at.ensures ∙ c.last.ensures) (sym c.in-Goes.is ∙ c.end_of.ensures) c.next.ensures _ c.in-Is.is
+loop-c-preserved c = going_more c.requires.0 c.loop-c.invariant (c.at.ensures ∙ c.last.ensures) (sym c.in-Goes.is ∙ c.end_of.ensures) c.next.ensures _ c.in-Some.is
 
 pub ends-requires : goal.ends-requires
 ends-requires c = let h = parts_below c.requires.0 c.loop-c.invariant (c.at.ensures ∙ c.last.ensures) (sym c.in-Parts.is ∙ c.end_of.ensures) in (c.loop-c.invariant.sound, h.0, h.1)

@@ -7,4 +7,4 @@ pub last_readers-requires : goal.last_readers-requires
 last_readers-requires c = let p = c.requires in let a = c.args in (p.0, legible_on p.1 (part_long a.st a.r a.work64.now p.2), c.own_places.ensures.size, c.own_places.ensures.each)
 
 pub returns : goal.returns
-returns c = let a = c.args in (c.last_readers.ensures.0, around_part a.st a.r a.work64.now c.last_readers.new.st c.requires.2 c.last_readers.ensures.1)
+returns c = let a = c.args in (c.last_readers.ensures.0, around_part a.st a.r a.work64.now c.last_readers.new.st c.requires.1 c.last_readers.ensures.1)

@@ -4,13 +4,13 @@ use Rattle.chainwords.proofs.Putting.{part_long, use_part, known_use, fits_use}
 use Rattle.chainwords.proofs.marks.find_use.Goals as goal
 
 pub overflow_mul-p : goal.overflow_mul-p
-overflow_mul-p c = omega (arith, c.requires.1.few, c.requires.2)
+overflow_mul-p c = omega (arith, c.requires.0.few, c.requires.1)
 
 pub offset_bounds-work32-p : goal.offset_bounds-work32-p
-offset_bounds-work32-p c = omega (arith, c.requires.1.few, c.requires.2)
+offset_bounds-work32-p c = omega (arith, c.requires.0.few, c.requires.1)
 
 pub bounds-work32-p : goal.bounds-work32-p
-bounds-work32-p c = omega (arith, c.requires.1.few, c.requires.1.room, c.requires.2)
+bounds-work32-p c = omega (arith, c.requires.0.few, c.requires.0.room, c.requires.1)
 
 pub last_use-requires : goal.last_use-requires
 last_use-requires c = let p = c.requires in let a = c.args in (p.0, known_use p.1 p.2 c.wide-g.ensures, fits_use p.1 p.2 c.wide-g.ensures (part_long 8000 a.r a.work32.now p.1.room), p.2, p.1.few, p.1.row)

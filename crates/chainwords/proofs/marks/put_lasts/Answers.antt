@@ -13,13 +13,13 @@ pub find_use-requires : goal.find_use-requires
 find_use-requires c = let p = c.requires in (p.0, use_now c.loop-p.invariant.1 (omega (arith, p.1.few, p.2, c.loop-p.invariant.0)) p.1, omega (arith, p.2, c.loop-p-test.true))
 
 pub overflow_mul-work32 : goal.overflow_mul-work32
-overflow_mul-work32 c = omega (arith, c.requires.1.few, c.requires.2, c.loop-p-test.true)
+overflow_mul-work32 c = omega (arith, c.requires.0.few, c.requires.1, c.loop-p-test.true)
 
 pub overflow_add-work32 : goal.overflow_add-work32
-overflow_add-work32 c = omega (arith, c.requires.1.few, c.requires.2, c.loop-p-test.true)
+overflow_add-work32 c = omega (arith, c.requires.0.few, c.requires.1, c.loop-p-test.true)
 
 pub offset_bounds-work32-p : goal.offset_bounds-work32-p
-offset_bounds-work32-p c = omega (arith, c.requires.1.few, c.requires.2, c.loop-p-test.true)
+offset_bounds-work32-p c = omega (arith, c.requires.0.few, c.requires.1, c.loop-p-test.true)
 
 pub bounds-work32-p : goal.bounds-work32-p
 bounds-work32-p c = let p = c.requires in omega (arith, p.1.few, p.1.room, p.2, c.loop-p-test.true, c.loop-p.invariant.1.size)

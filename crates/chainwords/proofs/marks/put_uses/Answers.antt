@@ -8,7 +8,7 @@ pub returns-then-moved-eq0 : goal.returns-then-moved-eq0
 returns-then-moved-eq0 c = used_none c.if-moved-eq0.true
 
 pub at_stamps-st-requires : goal.at_stamps-st-requires
-at_stamps-st-requires c = let f = plan_room c.requires.1.planning in (f.blocks, f.few)
+at_stamps-st-requires c = let f = plan_room c.requires.planning in (f.blocks, f.few)
 
 pub find_readers-requires : goal.find_readers-requires
 find_readers-requires c =
@@ -18,12 +18,12 @@ find_readers-requires c =
     (p.0, legible p.1.planning st r, readers_room p.1.planning st r, refl)
 
 pub width-requires : goal.width-requires
-width-requires c = let f = plan_room c.requires.1.planning in omega (arith, f.few, f.lent, c.wide-r.ensures)
+width-requires c = let f = plan_room c.requires.planning in omega (arith, f.few, f.lent, c.wide-r.ensures)
 
 pub overflow_mul-o : goal.overflow_mul-o
 overflow_mul-o c =
     let st = c.at_stamps-st.ensures in
-    omega (arith, row_inside c.requires.1.planning st.0 c.wide-r.ensures c.at.ensures c.width.ensures, st.0, st.1)
+    omega (arith, row_inside c.requires.planning st.0 c.wide-r.ensures c.at.ensures c.width.ensures, st.0, st.1)
 
 pub put_lasts-requires : goal.put_lasts-requires
 put_lasts-requires c =

@@ -6,10 +6,10 @@ use mathlib.Core.Bool.{not}
 use Rattle.checks.proofs.plain.skip.Goals as goal
 
 pub loop-q-init : goal.loop-q-init
-loop-q-init c = skip_none _ _ _ _ c.requires.2
+loop-q-init c = skip_none _ _ _ _ c.requires.1
 
 pub plain-requires : goal.plain-requires
-plain-requires c = (c.requires.0, within _ _ _ c.requires.1 c.loop-q-test.true)
+plain-requires c = (within _ _ _ c.requires.0 c.loop-q-test.true)
 
 pub returns-then-not-plain : goal.returns-then-not-plain
 returns-then-not-plain c = skip_stop _ _ _ _ _ c.loop-q.invariant c.plain.ensures (ap not c.if-not-plain.true)

@@ -12,12 +12,12 @@ use Rattle.defuse.proofs.sets.add_front.Goals as goal
 pub read_slots-requires : goal.read_slots-requires
 read_slots-requires c =
     let a = c.args in
-    (omega (arith, c.requires.1, c.write_slots.auto.bits), record { within = c.requires.3.within; uses = c.uses-does.ensures }, slots_low a.ops.now (inst a.recs.now a.p) c.requires.5)
+    (omega (arith, c.requires.0, c.write_slots.auto.bits), record { within = c.requires.2.within; uses = c.uses-does.ensures }, slots_low a.ops.now (inst a.recs.now a.p) c.requires.4)
 
 pub read_list-requires : goal.read_list-requires
 read_list-requires c =
     let a = c.args in
-    (omega (arith, c.requires.1, c.write_slots.auto.bits, c.read_slots.auto.bits), subst (Low a.at.regs) (sym c.list.ensures) (list_low a.ops.now (inst a.recs.now a.p) c.requires.5))
+    (omega (arith, c.requires.0, c.write_slots.auto.bits, c.read_slots.auto.bits), subst (Low a.at.regs) (sym c.list.ensures) (list_low a.ops.now (inst a.recs.now a.p) c.requires.4))
 
 pub returns : goal.returns
 returns c =

@@ -6,7 +6,7 @@ use Rattle.defuse.proofs.Runs.{read_low, written_low, run_none, run_more, run_al
 use Rattle.defuse.proofs.sets.block_sets.Goals as goal
 
 pub loop-p-init : goal.loop-p-init
-loop-p-init c = let a = c.args in (c.requires.3, omega arith, refl, run_none a.recs.now a.ops.now a.at.u a.at.d a.bits.now a.hi)
+loop-p-init c = let a = c.args in (c.requires.2, omega arith, refl, run_none a.recs.now a.ops.now a.at.u a.at.d a.bits.now a.hi)
 
 pub add_front-requires : goal.add_front-requires
 add_front-requires c =

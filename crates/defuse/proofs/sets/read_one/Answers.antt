@@ -6,4 +6,4 @@ pub returns-in_default : goal.returns-in_default
 returns-in_default c = none_held _ _ c.in_default.is
 
 pub returns : goal.returns
-returns c = one_read _ _ _ c.in-Is.is c.at.ensures c.set_in.ensures
+returns c = one_read _ _ _ c.in-Some.is c.at.ensures c.set_in.ensures

@@ -2,10 +2,10 @@
 use Rattle.find.proofs.Onward.{gone_move, gone_none}
 use Rattle.find.proofs.stand.go_on.Goals as goal
 
-pub returns-in-Is : goal.returns-in-Is
-returns-in-Is c =
+pub returns-in-Some : goal.returns-in-Some
+returns-in-Some c =
     let asked = c.requires in
-    gone_move asked.0 _ asked.1 c.in-Is.is
+    gone_move asked.0 _ asked.1 c.in-Some.is
 
 pub returns : goal.returns
 returns c =

@@ -16,7 +16,7 @@ returns-in_default c =
 
 pub overflow_mul-x : goal.overflow_mul-x
 overflow_mul-x c =
-    let h = is_block _ _ _ (sym c.in-Is.ensures) in
+    let h = is_block _ _ _ (sym c.in-Some.ensures) in
     let low = c.requires.2 c.loop-j.j c.loop-j-test.true in
     let z = row_of c.args.w c.args.bits.now (c.at.ensures ∙ sym h.0) (omega (arith, row_fits c.args.w low, c.requires.1)) in
     let g = c.well_formed in
@@ -25,7 +25,7 @@ overflow_mul-x c =
 
 pub overflow_add-x : goal.overflow_add-x
 overflow_add-x c =
-    let h = is_block _ _ _ (sym c.in-Is.ensures) in
+    let h = is_block _ _ _ (sym c.in-Some.ensures) in
     let low = c.requires.2 c.loop-j.j c.loop-j-test.true in
     let z = row_of c.args.w c.args.bits.now (c.at.ensures ∙ sym h.0) (omega (arith, row_fits c.args.w low, c.requires.1)) in
     let g = c.well_formed in
@@ -34,7 +34,7 @@ overflow_add-x c =
 
 pub offset_bounds-bits-at : goal.offset_bounds-bits-at
 offset_bounds-bits-at c =
-    let h = is_block _ _ _ (sym c.in-Is.ensures) in
+    let h = is_block _ _ _ (sym c.in-Some.ensures) in
     let low = c.requires.2 c.loop-j.j c.loop-j-test.true in
     let z = row_of c.args.w c.args.bits.now (c.at.ensures ∙ sym h.0) (omega (arith, row_fits c.args.w low, c.requires.1)) in
     let g = c.well_formed in
@@ -43,7 +43,7 @@ offset_bounds-bits-at c =
 
 pub bounds-bits-at : goal.bounds-bits-at
 bounds-bits-at c =
-    let h = is_block _ _ _ (sym c.in-Is.ensures) in
+    let h = is_block _ _ _ (sym c.in-Some.ensures) in
     let low = c.requires.2 c.loop-j.j c.loop-j-test.true in
     let z = row_of c.args.w c.args.bits.now (c.at.ensures ∙ sym h.0) (omega (arith, row_fits c.args.w low, c.requires.1)) in
     let i = c.requires.0 in
@@ -53,7 +53,7 @@ pub loop-j-preserved : goal.loop-j-preserved
 loop-j-preserved c =
     let s = c.args in
     let i = c.loop-j in
-    let h = is_block _ _ _ (sym c.in-Is.ensures) in
+    let h = is_block _ _ _ (sym c.in-Some.ensures) in
     (omega arith, gathered_more s.bits.now s.w s.i i.x s.list.now i.j _ (c.at.ensures ∙ sym h.0) c.loop-j-test.true ∙ i.invariant.1)
 
 pub returns : goal.returns

@@ -22,13 +22,13 @@ returns-in_default c =
 pub join-more-requires : goal.join-more-requires
 join-more-requires c =
     let i = c.loop-j in
-    let h = is_block _ _ _ (sym c.in-Is.ensures) in
+    let h = is_block _ _ _ (sym c.in-Some.ensures) in
     (room_kept i.bits i.invariant.1.size c.requires.0, c.requires.1, omega (arith, h.0, h.1))
 
 pub loop-j-preserved : goal.loop-j-preserved
 loop-j-preserved c =
     let i = c.loop-j in
-    let h = is_block _ _ _ (sym c.in-Is.ensures) in
+    let h = is_block _ _ _ (sym c.in-Some.ensures) in
     (omega arith, edge_more c.args.list.now (sym h.0) i.invariant.1 (onto i.invariant.1.rest c.join-more.ensures))
 
 pub shape_of-bits : goal.shape_of-bits

@@ -8,10 +8,10 @@ pub loop-again-init : goal.loop-again-init
 loop-again-init c = at_first _
 
 pub sweep-requires : goal.sweep-requires
-sweep-requires c = (c.requires.0, c.requires.1, room_kept c.loop-again.bits c.loop-again.invariant.size c.requires.2)
+sweep-requires c = (c.requires.0, room_kept c.loop-again.bits c.loop-again.invariant.size c.requires.1)
 
 pub sweep_up-again-requires : goal.sweep_up-again-requires
-sweep_up-again-requires c = (c.requires.0, c.requires.1, room_kept _ (c.sweep.ensures.size ∙ c.loop-again.invariant.size) c.requires.2)
+sweep_up-again-requires c = (c.requires.0, room_kept _ (c.sweep.ensures.size ∙ c.loop-again.invariant.size) c.requires.1)
 
 pub loop-again-smaller : goal.loop-again-smaller
 loop-again-smaller c = rw c.loop-again-test.true (turn_less c.sweep.ensures c.sweep_up-again.ensures)

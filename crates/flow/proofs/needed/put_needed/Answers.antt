@@ -5,7 +5,7 @@ use Rattle.flow.proofs.Elsewhere.{needed_is}
 use Rattle.flow.proofs.needed.put_needed.Goals as goal
 
 pub overflow_cast-n : goal.overflow_cast-n
-overflow_cast-n c = omega (arith, c.requires.1.blocks.few)
+overflow_cast-n c = omega (arith, c.requires.0.blocks.few)
 
 pub put_row-requires : goal.put_row-requires
 put_row-requires c =

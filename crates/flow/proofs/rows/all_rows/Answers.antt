@@ -6,7 +6,7 @@ use Rattle.flow.proofs.Renewed.{made_none, made_more, room_made}
 use Rattle.flow.proofs.rows.all_rows.Goals as goal
 
 pub overflow_cast-n : goal.overflow_cast-n
-overflow_cast-n c = omega (arith, c.requires.1.few)
+overflow_cast-n c = omega (arith, c.requires.0.few)
 
 pub loop-k-init : goal.loop-k-init
 loop-k-init c = (refl, omega arith, made_none)
@@ -21,11 +21,11 @@ pub block_rows-requires : goal.block_rows-requires
 block_rows-requires c =
     let p = c.requires in
     let i = c.loop-k.invariant in
-    let h = is_block _ _ _ (sym c.in-Is.ensures) in
+    let h = is_block _ _ _ (sym c.in-Some.ensures) in
     (p.0, p.1, p.2, room_made i.2 p.3, omega (arith, h.0, h.1, i.0))
 
 pub overflow_add-k : goal.overflow_add-k
-overflow_add-k c = omega (arith, c.loop-k-test.true, c.loop-k.invariant.0, c.requires.1.few)
+overflow_add-k c = omega (arith, c.loop-k-test.true, c.loop-k.invariant.0, c.requires.0.few)
 
 pub loop-k-smaller : goal.loop-k-smaller
 loop-k-smaller c = omega (arith, c.loop-k-test.true)
@@ -33,7 +33,7 @@ loop-k-smaller c = omega (arith, c.loop-k-test.true)
 pub loop-k-preserved : goal.loop-k-preserved
 loop-k-preserved c =
     let i = c.loop-k.invariant in
-    let h = is_block _ _ _ (sym c.in-Is.ensures) in
+    let h = is_block _ _ _ (sym c.in-Some.ensures) in
     (i.0, omega (arith, c.loop-k-test.true), made_more h.0 (omega (arith, h.1, i.0)) i.2 c.block_rows.ensures.rows c.block_rows.ensures.only_rows)
 
 pub shape_of-bits : goal.shape_of-bits

@@ -1,4 +1,5 @@
 -- `inst::constant::decode` meets its contract. Assumes nothing.
+use Rattle.std.specs.Prelude.{Some}
 use mathlib.Core.Bool.{true, false}
 use mathlib.Core.Path.{refl, sym, ap, ◌∙◌}
 use Prim.Native.Nat.{ℕ}
@@ -14,7 +15,7 @@ use Rattle.inst.proofs.constant.decode.Goals as goal
 pub returns-then-k-eq-CONST : goal.returns-then-k-eq-CONST
 returns-then-k-eq-CONST c = let a = c.args in
     let i = inst a.recs.now a.p in
-    ap Whole (search rules ∙ c.signed.ensures ∙ ap signed c.bits-n.ensures ∙ whole_is i)
+    ap (λ z. Some (Whole z)) (search rules ∙ c.signed.ensures ∙ ap signed c.bits-n.ensures ∙ whole_is i)
     ∙ sym (whole_constant i (eq-eqb _ _ (sym c.kind-k.ensures ∙ c.if-k-eq-CONST.true)))
 
 pub returns-then-k-ne-CONST_F : goal.returns-then-k-ne-CONST_F
@@ -25,7 +26,7 @@ returns-then-k-ne-CONST_F c = let a = c.args in
 pub returns-then-is_nan : goal.returns-then-is_nan
 returns-then-is_nan c = let a = c.args in
     let i = inst a.recs.now a.p in
-    ap Nan c.bits-n.ensures
+    ap (λ (n : ℕ). Some (Nan n)) c.bits-n.ensures
     ∙ sym (constant_by i false true true (ne_eqb _ _ (λ e. c.if-k-eq-CONST.false (c.kind-k.ensures ∙ e))) (eq-eqb _ _ (sym c.kind-k.ensures ∙ c.if-k-ne-CONST_F.false)) (ap (nan_bits binary64) (sym c.bits-n.ensures) ∙ sym c.is_nan.ensures ∙ c.if-is_nan.true))
 
 pub float_from_bits-result : goal.float_from_bits-result
@@ -34,5 +35,5 @@ float_from_bits-result c = rw (← c.is_nan.ensures, c.if-is_nan.false) tt
 pub returns : goal.returns
 returns c = let a = c.args in
     let i = inst a.recs.now a.p in
-    ap (λ (n : ℕ). Float (of_bits binary64 n)) c.bits-n.ensures
+    ap (λ (n : ℕ). Some (Float (of_bits binary64 n))) c.bits-n.ensures
     ∙ sym (constant_by i false true false (ne_eqb _ _ (λ e. c.if-k-eq-CONST.false (c.kind-k.ensures ∙ e))) (eq-eqb _ _ (sym c.kind-k.ensures ∙ c.if-k-ne-CONST_F.false)) (ap (nan_bits binary64) (sym c.bits-n.ensures) ∙ sym c.is_nan.ensures ∙ c.if-is_nan.false))

@@ -11,27 +11,27 @@ returns-in_default c = note_none _ _ _ _ (ap word_of c.in_default.is)
 
 pub bounds-st-at : goal.bounds-st-at
 bounds-st-at c =
-    let is = c.in-Is.is in
+    let is = c.in-Some.is in
     omega (arith, (a_reg is c.requires.0).0, ap word_of is, c.at.ensures)
 
 pub returns-then-d-eq0 : goal.returns-then-d-eq0
 returns-then-d-eq0 c =
-    let is = c.in-Is.is in
+    let is = c.in-Some.is in
     note_zero _ _ _ _ (a_reg is c.requires.0).1 (c.at.ensures ∙ sym (ap word_of is)) c.if-d-eq0.true
 
 pub offset_bounds-lasts-i : goal.offset_bounds-lasts-i
 offset_bounds-lasts-i c =
-    let is = c.in-Is.is in
+    let is = c.in-Some.is in
     let low = note_low c.args.st.now (omega (arith, (a_reg is c.requires.0).0, ap word_of is, c.at.ensures)) c.requires.1 c.if-d-eq0.false in
     omega (arith, low)
 
 pub bounds-lasts-i : goal.bounds-lasts-i
 bounds-lasts-i c =
-    let is = c.in-Is.is in
+    let is = c.in-Some.is in
     let low = note_low c.args.st.now (omega (arith, (a_reg is c.requires.0).0, ap word_of is, c.at.ensures)) c.requires.1 c.if-d-eq0.false in
     omega (arith, low)
 
 pub returns : goal.returns
 returns c =
-    let is = c.in-Is.is in
+    let is = c.in-Some.is in
     note_set _ _ _ _ (a_reg is c.requires.0).1 (c.at.ensures ∙ sym (ap word_of is)) c.if-d-eq0.false

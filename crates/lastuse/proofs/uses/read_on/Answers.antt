@@ -5,7 +5,7 @@ use Rattle.summary.proofs.Summing.{used_at}
 use Rattle.lastuse.proofs.uses.read_on.Goals as goal
 
 pub uses-u-requires : goal.uses-u-requires
-uses-u-requires c = (c.requires.0, c.requires.1.known)
+uses-u-requires c = (c.requires.0.known)
 
 pub note_places-requires : goal.note_places-requires
 note_places-requires c = let p = c.requires in (used_at p.1 c.uses-u.ensures, p.1, p.2, p.3)

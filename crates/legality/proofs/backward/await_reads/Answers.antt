@@ -7,7 +7,7 @@ pub returns-then-member : goal.returns-then-member
 returns-then-member c = awaited_none _ _ c.if-member.true
 
 pub put_reads-requires : goal.put_reads-requires
-put_reads-requires c = (c.requires.0, c.requires.1, awaited_stamp)
+put_reads-requires c = (c.requires, awaited_stamp)
 
 pub returns : goal.returns
 returns c = awaited_one _ c.if-member.false c.put_reads.ensures

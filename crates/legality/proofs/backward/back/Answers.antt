@@ -2,9 +2,9 @@
 use Rattle.legality.proofs.backward.back.Goals as goal
 
 pub back_known-requires : goal.back_known-requires
-back_known-requires c = (c.requires.1.fits.room, c.requires.3, c.requires.4)
+back_known-requires c = (c.requires.0.fits.room, c.requires.2, c.requires.3)
 
 pub returns : goal.returns
 returns c =
     let a = c.args in
-    c.back_known.ensures a.recs.now a.ops.now c.requires.1 c.requires.2 c.if-f.false
+    c.back_known.ensures a.recs.now a.ops.now c.requires.0 c.requires.1 c.if-f.false

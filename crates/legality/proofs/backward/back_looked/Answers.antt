@@ -8,12 +8,12 @@ use Rattle.legality.proofs.backward.back_looked.Goals as goal
 
 pub put_writes-requires : goal.put_writes-requires
 put_writes-requires c =
-    (c.requires.0, c.requires.1, kept_stamp _ (kept_few _ _ c.requires.4 c.kept_at.ensures))
+    (c.requires.0, kept_stamp _ (kept_few _ _ c.requires.3 c.kept_at.ensures))
 
 pub await_reads-requires : goal.await_reads-requires
 await_reads-requires c =
     let a = c.args in
-    (c.requires.0, subst (λ (m : ℕ). Readable a.recs.now a.ops.now m a.f) (sym c.put_writes.ensures.size) c.requires.2)
+    (subst (λ (m : ℕ). Readable a.recs.now a.ops.now m a.f) (sym c.put_writes.ensures.size) c.requires.1)
 
 pub returns : goal.returns
 returns c =

@@ -21,19 +21,19 @@ returns-in_default c =
 
 pub piece_ok-requires : goal.piece_ok-requires
 piece_ok-requires c =
-    let r = is_reg _ _ _ (sym c.new.ensures ∙ c.in-Is.is) in
+    let r = is_reg _ _ _ (sym c.new.ensures ∙ c.in-Some.is) in
     (c.requires.0, omega (arith, r.0, r.1), c.requires.2, c.requires.3)
 
 pub returns-then-not-piece_ok : goal.returns-then-not-piece_ok
 returns-then-not-piece_ok c =
     let a = c.args in
-    let r = is_reg _ _ _ (sym c.new.ensures ∙ c.in-Is.is) in
+    let r = is_reg _ _ _ (sym c.new.ensures ∙ c.in-Some.is) in
     pick_no _ a.xs.now c.loop-k.k c.loop-k.sc c.loop-k-test.true c.if-xs-k-lt2.false c.loop-k.invariant.1 r.0 c.piece_ok.ensures (ap not c.if-not-piece_ok.true)
 
 pub loop-k-preserved : goal.loop-k-preserved
 loop-k-preserved c =
     let a = c.args in
-    let r = is_reg _ _ _ (sym c.new.ensures ∙ c.in-Is.is) in
+    let r = is_reg _ _ _ (sym c.new.ensures ∙ c.in-Some.is) in
     (omega arith, pick_on _ a.xs.now c.loop-k.k c.loop-k.sc c.loop-k-test.true c.if-xs-k-lt2.false c.loop-k.invariant.1 r.0 c.piece_ok.ensures (ap not c.if-not-piece_ok.false))
 
 pub returns : goal.returns

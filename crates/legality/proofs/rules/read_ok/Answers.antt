@@ -11,10 +11,10 @@ returns-in_default c = place_absent _ _ _ (ap word_of c.in_default.is)
 
 pub bounds-st-at : goal.bounds-st-at
 bounds-st-at c =
-    let is = c.in-Is.is in
+    let is = c.in-Some.is in
     omega (arith, (a_reg is c.requires.0).0, ap word_of is, c.at.ensures)
 
 pub returns : goal.returns
 returns c =
-    let is = c.in-Is.is in
+    let is = c.in-Some.is in
     place_there _ _ _ (a_reg is c.requires.0).1 (c.at.ensures ∙ sym (ap word_of is))

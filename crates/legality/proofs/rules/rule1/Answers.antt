@@ -9,19 +9,19 @@ use borrow.Author.Tests.{not-true}
 use Rattle.legality.proofs.rules.rule1.Goals as goal
 
 pub def_free-requires : goal.def_free-requires
-def_free-requires c = c.requires.1.fits.room
+def_free-requires c = c.requires.fits.room
 
 pub returns-then-not-f : goal.returns-then-not-f
 returns-then-not-f c =
     let a = c.args in
-    c.def_free.ensures ∙ ap (all (λ (x : ℕ). leb (get_or a.st.now x 0) 1023)) (def_all a.f c.requires.1 (not-true _ c.if-not-f.true))
+    c.def_free.ensures ∙ ap (all (λ (x : ℕ). leb (get_or a.st.now x 0) 1023)) (def_all a.f c.requires (not-true _ c.if-not-f.true))
 
 pub uses-requires : goal.uses-requires
-uses-requires c = (c.requires.0, known_at c.requires.1 c.wide-g.ensures)
+uses-requires c = (known_at c.requires c.wide-g.ensures)
 
 pub free_slots-requires : goal.free_slots-requires
-free_slots-requires c = slots_at c.requires.1 c.wide-g.ensures c.uses.ensures
+free_slots-requires c = slots_at c.requires c.wide-g.ensures c.uses.ensures
 
 pub returns : goal.returns
 returns c =
-    slots_tested c.requires.1 (λ (x : ℕ). leb (get_or c.args.st.now x 0) 1023) c.wide-g.ensures c.free_slots.ensures
+    slots_tested c.requires (λ (x : ℕ). leb (get_or c.args.st.now x 0) 1023) c.wide-g.ensures c.free_slots.ensures

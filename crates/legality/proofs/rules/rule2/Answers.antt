@@ -9,21 +9,21 @@ use Rattle.legality.proofs.rules.rule2.Goals as goal
 
 pub unneeded-requires : goal.unneeded-requires
 unneeded-requires c =
-    (own_among c.args.f.def c.requires.1.fits.room c.new.ensures, c.requires.2, c.requires.3)
+    (own_among c.args.f.def c.requires.0.fits.room c.new.ensures, c.requires.1, c.requires.2)
 
 pub returns-then-not-f : goal.returns-then-not-f
 returns-then-not-f c =
     let a = c.args in
     let test = result_test a.regs.now a.bits.now a.o a.p in
-    def_tested a.f (length a.regs.now) test c.new.ensures c.unneeded.ensures ∙ ap (all test) (def_all a.f c.requires.1 (not-true _ c.if-not-f.true))
+    def_tested a.f (length a.regs.now) test c.new.ensures c.unneeded.ensures ∙ ap (all test) (def_all a.f c.requires.0 (not-true _ c.if-not-f.true))
 
 pub uses-requires : goal.uses-requires
-uses-requires c = (c.requires.0, known_at c.requires.1 c.wide-g.ensures)
+uses-requires c = (known_at c.requires.0 c.wide-g.ensures)
 
 pub unneeded_slots-requires : goal.unneeded_slots-requires
 unneeded_slots-requires c =
-    let k = slots_at c.requires.1 c.wide-g.ensures c.uses.ensures in (k.0, k.1, c.requires.2, c.requires.3)
+    let k = slots_at c.requires.0 c.wide-g.ensures c.uses.ensures in (k.0, k.1, c.requires.1, c.requires.2)
 
 pub returns : goal.returns
 returns c =
-    let a = c.args in slots_tested c.requires.1 (result_test a.regs.now a.bits.now a.o a.p) c.wide-g.ensures c.unneeded_slots.ensures
+    let a = c.args in slots_tested c.requires.0 (result_test a.regs.now a.bits.now a.o a.p) c.wide-g.ensures c.unneeded_slots.ensures

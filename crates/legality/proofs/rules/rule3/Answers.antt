@@ -10,11 +10,11 @@ use Rattle.legality.proofs.rules.rule3.Goals as goal
 
 pub read_ok-requires : goal.read_ok-requires
 read_ok-requires c =
-    (own_among c.args.f.use0 c.requires.1.good.fits.room c.new.ensures, c.requires.2)
+    (own_among c.args.f.use0 c.requires.0.good.fits.room c.new.ensures, c.requires.1)
 
 pub read_ok-requires-then-not-f : goal.read_ok-requires-then-not-f
 read_ok-requires-then-not-f c =
-    (own_among c.args.f.use1 c.requires.1.good.fits.room c.new-then-not-f.ensures, c.requires.2)
+    (own_among c.args.f.use1 c.requires.0.good.fits.room c.new-then-not-f.ensures, c.requires.1)
 
 pub returns-then-not-f : goal.returns-then-not-f
 returns-then-not-f c =
@@ -22,15 +22,15 @@ returns-then-not-f c =
     let test = read_test a.st.now a.p in
     uses_tested a.f (length a.st.now) test c.new.ensures c.new-then-not-f.ensures
     (place_is _ _ _ c.read_ok.ensures) (place_is _ _ _ c.read_ok-then-not-f.ensures)
-    ∙ ap (all test) (uses_all a.f c.requires.1 (not-true _ c.if-not-f.true))
+    ∙ ap (all test) (uses_all a.f c.requires.0 (not-true _ c.if-not-f.true))
 
 pub uses-requires : goal.uses-requires
-uses-requires c = (c.requires.0, (good_at c.requires.1 c.wide-g.ensures).known)
+uses-requires c = ((good_at c.requires.0 c.wide-g.ensures).known)
 
 pub places_ok-requires : goal.places_ok-requires
 places_ok-requires c =
-    let k = places_at c.requires.1 c.wide-g.ensures c.uses.ensures in (k.0, k.1, c.requires.2)
+    let k = places_at c.requires.0 c.wide-g.ensures c.uses.ensures in (k.0, k.1, c.requires.1)
 
 pub returns : goal.returns
 returns c =
-    let a = c.args in places_tested c.requires.1 (read_test a.st.now a.p) c.wide-g.ensures c.places_ok.ensures
+    let a = c.args in places_tested c.requires.0 (read_test a.st.now a.p) c.wide-g.ensures c.places_ok.ensures

@@ -11,10 +11,10 @@ returns-in_default c = result_absent _ _ _ _ _ (ap word_of c.in_default.is)
 
 pub bounds-regs-k : goal.bounds-regs-k
 bounds-regs-k c =
-    let is = c.in-Is.is in
+    let is = c.in-Some.is in
     omega (arith, (a_reg is c.requires.0).0, ap word_of is, c.at-k.ensures)
 
 pub returns : goal.returns
 returns c =
-    let is = c.in-Is.is in
+    let is = c.in-Some.is in
     result_there _ _ _ _ _ (a_reg is c.requires.0).1 (c.at-k.ensures ∙ sym (ap word_of is)) c.bit_in.ensures

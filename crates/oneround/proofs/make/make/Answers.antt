@@ -3,13 +3,13 @@ use Rattle.oneround.proofs.Making.{blocks_few, lent_few, chain_long, names_fit, 
 use Rattle.oneround.proofs.make.make.Goals as goal
 
 pub at_stamps-a-requires : goal.at_stamps-a-requires
-at_stamps-a-requires c = let h = c.requires.1 in (blocks_few h, lent_few h)
+at_stamps-a-requires c = let h = c.requires in (blocks_few h, lent_few h)
 
 pub slice_bounds-apply-end : goal.slice_bounds-apply-end
-slice_bounds-apply-end c = names_fit c.requires.1 _ c.at_stamps-a.ensures.0
+slice_bounds-apply-end c = names_fit c.requires _ c.at_stamps-a.ensures.0
 
 pub slice_bounds-apply-end-2 : goal.slice_bounds-apply-end-2
-slice_bounds-apply-end-2 c = chain_long c.requires.1
+slice_bounds-apply-end-2 c = chain_long c.requires
 
 pub apply-requires : goal.apply-requires
 apply-requires c =
@@ -27,4 +27,4 @@ renew-requires c =
 
 pub returns : goal.returns
 returns c =
-    made c.requires.1 c.in-Goes.is c.at_stamps-a.ensures.0 c.wide.ensures c.apply.new.names c.apply.auto.names c.apply.ensures c.renew.ensures
+    made c.requires c.in-Goes.is c.at_stamps-a.ensures.0 c.wide.ensures c.apply.new.names c.apply.auto.names c.apply.ensures c.renew.ensures

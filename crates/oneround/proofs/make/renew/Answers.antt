@@ -25,6 +25,6 @@ block_rows-requires-2 c =
 
 pub returns : goal.returns
 returns c =
-    let k = c.requires.1 in
+    let k = c.requires in
     let same = sym c.width.ensures ∙ c.if-width.false ∙ c.width-2.ensures in
     renewed_at (ap width c.wide.ensures) (ap width c.wide-k.ensures) (renewed_two same k.from_block k.into_block c.block_rows.ensures.rows c.block_rows.ensures.only_rows c.block_rows-2.ensures.rows c.block_rows-2.ensures.only_rows)

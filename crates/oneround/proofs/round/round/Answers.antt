@@ -4,13 +4,13 @@ use Rattle.oneround.proofs.Kept.{step_kept}
 use Rattle.oneround.proofs.round.round.Goals as goal
 
 pub find_move-found-requires : goal.find_move-found-requires
-find_move-found-requires c = (c.requires.0, finding c.requires.1, c.requires.2)
+find_move-found-requires c = (finding c.requires.0, c.requires.1)
 
 pub weigh-r-requires : goal.weigh-r-requires
-weigh-r-requires c = (c.requires.0, ready c.requires.1 c.find_move-found.ensures)
+weigh-r-requires c = ready c.requires.0 c.find_move-found.ensures
 
 pub make-requires : goal.make-requires
-make-requires c = (c.requires.0, making c.requires.1 c.find_move-found.ensures c.weigh-r.ensures)
+make-requires c = making c.requires.0 c.find_move-found.ensures c.weigh-r.ensures
 
 pub returns : goal.returns
-returns c = let s = stepped c.requires.1 c.find_move-found.ensures c.weigh-r.ensures c.make.ensures in (s, step_kept s)
+returns c = let s = stepped c.requires.0 c.find_move-found.ensures c.weigh-r.ensures c.make.ensures in (s, step_kept s)

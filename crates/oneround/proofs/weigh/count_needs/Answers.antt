@@ -4,9 +4,9 @@ use Rattle.oneround.proofs.weigh.count_needs.Goals as goal
 
 pub needs-requires : goal.needs-requires
 needs-requires c =
-    let k = c.requires.1 in
-    (c.requires.0, record { u = k.u; is = ask_names k.is _ _ c.at_stamps-a.ensures.0 c.wide.ensures })
+    let k = c.requires in
+    (record { u = k.u; is = ask_names k.is _ _ c.at_stamps-a.ensures.0 c.wide.ensures })
 
 pub returns : goal.returns
 returns c =
-    needed c.requires.1.is _ _ c.needs.new.names _ c.at_stamps-a.ensures.0 c.wide.ensures c.needs.auto.names c.needs.ensures
+    needed c.requires.is _ _ c.needs.new.names _ c.at_stamps-a.ensures.0 c.wide.ensures c.needs.auto.names c.needs.ensures

@@ -5,9 +5,9 @@ use Rattle.oneround.proofs.weigh.weigh.Goals as goal
 
 pub count_needs-c-requires : goal.count_needs-c-requires
 count_needs-c-requires c =
-    let k = c.requires.1 in
-    (c.requires.0, record { u = length k.e.locs; is = needing k c.in-Is.is })
+    let k = c.requires in
+    (record { u = length k.e.locs; is = needing k c.in-Some.is })
 
 pub returns : goal.returns
 returns c =
-    weighed c.requires.1 c.in-Is.is c.count_needs-c.ensures c.step_of.ensures
+    weighed c.requires c.in-Some.is c.count_needs-c.ensures c.step_of.ensures

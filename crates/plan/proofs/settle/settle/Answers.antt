@@ -14,27 +14,26 @@ swept : {recs ops regs work ls work' ls' : List ℕ} {fs fs' : List Fact} {g h :
 swept {recs} {ops} {regs} {work} {ls} {work'} {ls'} {fs} {fs'} {a = a} {b = b} e s = subst (λ (x : Sweep). Swept recs ops regs x work ls fs a x.k work' ls' fs' b) e s
 
 pub loop-c-init : goal.loop-c-init
-loop-c-init c = looping_none c.requires.1
+loop-c-init c = looping_none c.requires
 
 pub ready-g-requires : goal.ready-g-requires
-ready-g-requires c = ready_may c.requires.1 c.loop-c.invariant
+ready-g-requires c = ready_may c.requires c.loop-c.invariant
 
 pub run-b-requires : goal.run-b-requires
 run-b-requires c =
     let a = c.args in (
-      c.requires.0,
       subst (λ (x : Sweep). Sweepable a.recs.now a.ops.now a.regs.now c.ready-g.new.work c.loop-c.facts x c.zero-a.result x.k) (sym c.ready-g.ensures.0)
-          (sweep_may c.requires.1 c.loop-c.invariant c.ready-g.ensures.1 c.zero-a.ensures.1),
+          (sweep_may c.requires c.loop-c.invariant c.ready-g.ensures.1 c.zero-a.ensures.1),
     )
 
 pub next-d-requires : goal.next-d-requires
-next-d-requires c = next_may c.requires.1 c.loop-c.invariant c.ready-g.ensures.1 c.zero-a.ensures.1 (swept c.ready-g.ensures.0 c.run-b.ensures)
+next-d-requires c = next_may c.requires c.loop-c.invariant c.ready-g.ensures.1 c.zero-a.ensures.1 (swept c.ready-g.ensures.0 c.run-b.ensures)
 
 pub loop-c-smaller : goal.loop-c-smaller
-loop-c-smaller c = looping_less c.requires.1 c.loop-c.invariant c.ready-g.ensures.1 c.zero-a.ensures.1 (swept c.ready-g.ensures.0 c.run-b.ensures) c.loop-c-test.true c.next-d.ensures
+loop-c-smaller c = looping_less c.requires c.loop-c.invariant c.ready-g.ensures.1 c.zero-a.ensures.1 (swept c.ready-g.ensures.0 c.run-b.ensures) c.loop-c-test.true c.next-d.ensures
 
 pub loop-c-preserved : goal.loop-c-preserved
-loop-c-preserved c = looping_more c.requires.1 c.loop-c.invariant c.ready-g.ensures.1 c.zero-a.ensures.1 (swept c.ready-g.ensures.0 c.run-b.ensures) c.next-d.ensures
+loop-c-preserved c = looping_more c.requires c.loop-c.invariant c.ready-g.ensures.1 c.zero-a.ensures.1 (swept c.ready-g.ensures.0 c.run-b.ensures) c.next-d.ensures
 
 pub returns : goal.returns
-returns c = looping_end c.requires.1 c.loop-c.invariant c.loop-c-test.false
+returns c = looping_end c.requires c.loop-c.invariant c.loop-c-test.false

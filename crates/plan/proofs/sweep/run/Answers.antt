@@ -26,25 +26,24 @@ pub loop-i-init : goal.loop-i-init
 loop-i-init c = record { order = omega arith; ran = Swept.none }
 
 pub place-p-requires : goal.place-p-requires
-place-p-requires c = (within c.requires.1 c.loop-i-test.true c.loop-i.invariant.ran).1
+place-p-requires c = (within c.requires c.loop-i-test.true c.loop-i.invariant.ran).1
 
 pub fact_at-f-requires : goal.fact_at-f-requires
 fact_at-f-requires c =
-    subst (λ (j : ℕ). j < length c.loop-i.facts) (sym c.place-p.ensures) (within c.requires.1 c.loop-i-test.true c.loop-i.invariant.ran).0
+    subst (λ (j : ℕ). j < length c.loop-i.facts) (sym c.place-p.ensures) (within c.requires c.loop-i-test.true c.loop-i.invariant.ran).0
 
 pub visit-b-requires : goal.visit-b-requires
 visit-b-requires c =
     let a = c.args in
     let i = c.loop-i in (
-      c.requires.0,
       subst (λ (f : Fact). Visitable a.recs.now a.ops.now a.regs.now i.work a.g f i.b c.place-p.result) (sym c.fact_at-f.ensures)
           (subst (λ (p : ℕ). Visitable a.recs.now a.ops.now a.regs.now i.work a.g (get_or i.facts p no_fact) i.b p) (sym c.place-p.ensures)
-          (visitable c.requires.1 c.loop-i-test.true i.invariant.ran)),
+          (visitable c.requires c.loop-i-test.true i.invariant.ran)),
     )
 
 pub set_member-requires : goal.set_member-requires
 set_member-requires c =
-    subst (λ (j : ℕ). j < length c.loop-i.facts) (sym c.place-p.ensures) (within c.requires.1 c.loop-i-test.true c.loop-i.invariant.ran).0
+    subst (λ (j : ℕ). j < length c.loop-i.facts) (sym c.place-p.ensures) (within c.requires c.loop-i-test.true c.loop-i.invariant.ran).0
 
 pub loop-i-preserved : goal.loop-i-preserved
 loop-i-preserved c = record { order = omega arith; ran = turned c.loop-i.invariant.ran c.place-p.ensures c.fact_at-f.ensures c.visit-b.ensures c.set_member.ensures }

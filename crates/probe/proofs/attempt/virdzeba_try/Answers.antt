@@ -21,11 +21,11 @@ try_chain-r-requires c =
     let a = c.args in
     let P = picture_of a.bounds.now a.recs.now a.locs.now a.vias.now a.types.now a.registers a.ops.now a.operands a.pairs.now a.targets.now a.replay.now in
     let so = out_set P a.x (length a.facts.now) a.work64.now a.work32.now (c.judge-j.ensures a.replay.now) c.set_out-k.ensures in
-    (c.table-t.ensures, asked P a.x a.work64.now a.work32.now a.facts.now so c.in-Is.is, many P a.x a.work64.now a.work32.now a.facts.now so c.in-Is.is)
+    (c.table-t.ensures, asked P a.x a.work64.now a.work32.now a.facts.now so c.in-Some.is, many P a.x a.work64.now a.work32.now a.facts.now so c.in-Some.is)
 
 pub returns : goal.returns
 returns c =
     let a = c.args in
     let P = picture_of a.bounds.now a.recs.now a.locs.now a.vias.now a.types.now a.registers a.ops.now a.operands a.pairs.now a.targets.now a.replay.now in
     let so = out_set P a.x (length a.facts.now) a.work64.now a.work32.now (c.judge-j.ensures a.replay.now) c.set_out-k.ensures in
-    settled P a.x a.work64.now a.work32.now a.facts.now so c.in-Is.is a.out.now c.try_chain-r.result c.try_chain-r.ensures c.try_chain-r.auto.facts c.put_move.ensures
+    settled P a.x a.work64.now a.work32.now a.facts.now so c.in-Some.is a.out.now c.try_chain-r.result c.try_chain-r.ensures c.try_chain-r.auto.facts c.put_move.ensures

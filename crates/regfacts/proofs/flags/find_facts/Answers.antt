@@ -11,13 +11,13 @@ pub loop-r-init : goal.loop-r-init
 loop-r-init c = turning_none (rw (sym c.find_soles.ensures.size) at c.find_soles.ensures)
 
 pub flags-requires : goal.flags-requires
-flags-requires c = turning_fits c.requires.1 (rw c.find_soles.ensures.size c.requires.2) c.loop-r.invariant c.loop-r-test.true
+flags-requires c = turning_fits c.requires.0 (rw c.find_soles.ensures.size c.requires.1) c.loop-r.invariant c.loop-r-test.true
 
 pub loop-r-smaller : goal.loop-r-smaller
 loop-r-smaller c = omega (arith, c.loop-r.invariant.size, c.loop-r-test.true)
 
 pub loop-r-preserved : goal.loop-r-preserved
-loop-r-preserved c = turning_more c.requires.1 c.loop-r.invariant c.loop-r-test.true c.flags.ensures
+loop-r-preserved c = turning_more c.requires.0 c.loop-r.invariant c.loop-r-test.true c.flags.ensures
 
 pub shape_of-regs : goal.shape_of-regs
 shape_of-regs c = c.loop-r.invariant.size ∙ c.find_soles.ensures.size

@@ -9,7 +9,7 @@ pub loop-p-init : goal.loop-p-init
 loop-p-init c = (search rules, soles_none _ _ (λ r h. c.clear.ensures.1 r (rw c.clear.ensures.0 at h)))
 
 pub note_record-requires : goal.note_record-requires
-note_record-requires c = (c.requires.0, omega (arith, c.requires.1, c.loop-p-test.true), rw (c.loop-p.invariant.1.size, c.clear.ensures.0) (c.requires.2 _ c.loop-p-test.true))
+note_record-requires c = (omega (arith, c.requires.0, c.loop-p-test.true), rw (c.loop-p.invariant.1.size, c.clear.ensures.0) (c.requires.1 _ c.loop-p-test.true))
 
 pub loop-p-preserved : goal.loop-p-preserved
 loop-p-preserved c = (search rules, soles_more c.loop-p.invariant.1 c.note_record.ensures)

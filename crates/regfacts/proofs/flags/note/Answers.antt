@@ -10,15 +10,15 @@ returns-in_default c = put_none _ _ (ap word_of c.in_default.is)
 
 pub bounds-regs-k : goal.bounds-regs-k
 bounds-regs-k c =
-    let m = subst (Among _) c.in-Is.is c.requires.1 in omega (arith, c.at-k.ensures, m.0)
+    let m = subst (Among _) c.in-Some.is c.requires.1 in omega (arith, c.at-k.ensures, m.0)
 
 pub bounds-regs-k-2 : goal.bounds-regs-k-2
 bounds-regs-k-2 c =
-    let m = subst (Among _) c.in-Is.is c.requires.1 in
+    let m = subst (Among _) c.in-Some.is c.requires.1 in
     omega (arith, c.at-k.ensures, m.0)
 
 pub returns : goal.returns
 returns c =
-    let is = c.in-Is.is in
+    let is = c.in-Some.is in
     let m = subst (Among _) is c.requires.1 in
     put_at _ _ (ap word_of is) m.1 c.at-k.ensures c.next.ensures

@@ -6,14 +6,14 @@ use Rattle.rename.proofs.Counting.{counted_kept, counted_moved}
 use Rattle.rename.proofs.count.count_pass.Goals as goal
 
 pub forget-requires : goal.forget-requires
-forget-requires c = let l = c.requires.1.is.line in
+forget-requires c = let l = c.requires.0.is.line in
     record {
       used = (used_is l c.uses-does.ensures, l.few_regs);
       by_index = written_ok l;
     }
 
 pub returns-then-k-eq0 : goal.returns-then-k-eq0
-returns-then-k-eq0 c = counted_kept c.requires.1.is c.if-k-eq0.true c.forget.ensures
+returns-then-k-eq0 c = counted_kept c.requires.0.is c.if-k-eq0.true c.forget.ensures
 
 pub returns : goal.returns
-returns c = counted_moved c.if-k-eq0.false c.count_list-r.ensures (among_ok _ c.args.k.def c.requires.2) (omega arith) c.put.ensures
+returns c = counted_moved c.if-k-eq0.false c.count_list-r.ensures (among_ok _ c.args.k.def c.requires.1) (omega arith) c.put.ensures

@@ -4,21 +4,21 @@ use Rattle.rename.proofs.Counting.{own_none, own_more, own_end, ask_at}
 use Rattle.rename.proofs.count.count_target.Goals as goal
 
 pub loop-q-init : goal.loop-q-init
-loop-q-init c = own_none _ _ _ _ _ _ c.requires.1.is.order c.requires.2
+loop-q-init c = own_none _ _ _ _ _ _ c.requires.0.is.order c.requires.1
 
 pub count_own-k-requires : goal.count_own-k-requires
 count_own-k-requires c =
     let a = c.args in
-    let k = c.requires.1 in
+    let k = c.requires.0 in
     let i = c.loop-q in
     let asked = ask_at a.names.now i.names i.invariant.names_size (k.is.lines _ i.invariant.low c.loop-q-test.true) k.is.operands in
-    (c.requires.0, record { u = k.u; is = asked })
+    (record { u = k.u; is = asked })
 
 pub overflow_add-k : goal.overflow_add-k
-overflow_add-k c = omega (arith, c.loop-q.invariant.small, c.count_own-k.ensures.small, c.loop-q-test.true, c.requires.1.is.few)
+overflow_add-k c = omega (arith, c.loop-q.invariant.small, c.count_own-k.ensures.small, c.loop-q-test.true, c.requires.0.is.few)
 
 pub overflow_add-q : goal.overflow_add-q
-overflow_add-q c = omega (arith, c.loop-q-test.true, c.requires.1.is.few)
+overflow_add-q c = omega (arith, c.loop-q-test.true, c.requires.0.is.few)
 
 pub loop-q-smaller : goal.loop-q-smaller
 loop-q-smaller c = omega (arith, c.loop-q-test.true)
@@ -30,4 +30,4 @@ pub shape_of-names : goal.shape_of-names
 shape_of-names c = c.loop-q.invariant.names_size
 
 pub returns : goal.returns
-returns c = let i = c.loop-q.invariant in (own_end i c.loop-q-test.false, omega (arith, i.small, i.high, c.requires.1.is.few))
+returns c = let i = c.loop-q.invariant in (own_end i c.loop-q-test.false, omega (arith, i.small, i.high, c.requires.0.is.few))

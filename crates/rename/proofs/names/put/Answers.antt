@@ -16,12 +16,12 @@ returns-in_default c =
     sym (ap (λ (t : Bool). cond t a.names.now (set a.names.now (word_of a.r) a.nw)) none)
 
 pub bounds-names-at : goal.bounds-names-at
-bounds-names-at c = omega (arith, c.at.ensures, below c.in-Is.is c.requires)
+bounds-names-at c = omega (arith, c.at.ensures, below c.in-Some.is c.requires)
 
 pub returns : goal.returns
 returns c =
     let a = c.args in
-    let is = c.in-Is.is in
+    let is = c.in-Some.is in
     let some = ne_eqb _ _ (a_reg is c.requires).1 in
     ap₂ (λ (k v : ℕ). set a.names.now k v) (c.at.ensures ∙ sym (ap word_of is)) c.long.ensures
     ∙ sym (ap (λ (t : Bool). cond t a.names.now (set a.names.now (word_of a.r) a.nw)) some)

@@ -10,23 +10,23 @@ pub returns-in_default : goal.returns-in_default
 returns-in_default c = let e = ap word_of c.in_default.is in sym e ∙ slot_absent _ _ _ _ e
 
 pub name-requires : goal.name-requires
-name-requires c = below c.in-Is.is c.requires
+name-requires c = below c.in-Some.is c.requires
 
 pub returns-then-does-eq1 : goal.returns-then-does-eq1
 returns-then-does-eq1 c =
-    let is = c.in-Is.is in
+    let is = c.in-Some.is in
     let f = (a_reg is c.requires).1 in
     c.name.ensures ∙ ap (named c.args.names.now) (sym (ap word_of is)) ∙ sym (slot_read _ _ _ _ f c.if-does-eq1.true)
 
 pub returns-then-does-eq2 : goal.returns-then-does-eq2
 returns-then-does-eq2 c =
-    let is = c.in-Is.is in
+    let is = c.in-Some.is in
     let f = (a_reg is c.requires).1 in
     let same = ap (reg_or c.args.nw) (c.number.ensures ∙ sym (ap word_of is)) in
     c.or.ensures ∙ same ∙ sym (slot_write _ _ _ _ f c.if-does-eq1.false c.if-does-eq2.true)
 
 pub returns : goal.returns
 returns c =
-    let is = c.in-Is.is in
+    let is = c.in-Some.is in
     let f = (a_reg is c.requires).1 in
     c.number-2.ensures ∙ sym (ap word_of is) ∙ sym (slot_other _ _ _ _ f c.if-does-eq1.false c.if-does-eq2.false)

@@ -4,11 +4,11 @@ use Rattle.rename.proofs.Lines.{line_fit, used_after, written_after, own_law}
 use Rattle.rename.proofs.walk.own.Goals as goal
 
 pub remake-r-requires : goal.remake-r-requires
-remake-r-requires c = let p = c.requires.1 in record { u = p.u; is = line_fit p.is (λ z. omega arith) c.uses-does.ensures }
+remake-r-requires c = let p = c.requires in record { u = p.u; is = line_fit p.is (λ z. omega arith) c.uses-does.ensures }
 
 pub forget-requires : goal.forget-requires
 forget-requires c =
-    let l = c.requires.1.is.line in
+    let l = c.requires.is.line in
     let e = c.uses-does.ensures in
     let m = c.remake-r.ensures in
     record {
@@ -17,4 +17,4 @@ forget-requires c =
     }
 
 pub returns : goal.returns
-returns c = own_law c.requires.1.is.line c.uses-does.ensures c.remake-r.ensures c.forget.ensures
+returns c = own_law c.requires.is.line c.uses-does.ensures c.remake-r.ensures c.forget.ensures

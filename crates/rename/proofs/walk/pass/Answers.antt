@@ -4,17 +4,17 @@ use Rattle.rename.proofs.Lines.{used_is, line_fit, written_ok, pass_kept, pass_m
 use Rattle.rename.proofs.walk.pass.Goals as goal
 
 pub forget-requires : goal.forget-requires
-forget-requires c = let l = c.requires.1.is.line in
+forget-requires c = let l = c.requires.0.is.line in
     record {
       used = (used_is l c.uses-does.ensures, l.few_regs);
       by_index = written_ok l;
     }
 
 pub returns-then-k-eq0 : goal.returns-then-k-eq0
-returns-then-k-eq0 c = pass_kept c.requires.1.is.line c.if-k-eq0.true c.forget.ensures
+returns-then-k-eq0 c = pass_kept c.requires.0.is.line c.if-k-eq0.true c.forget.ensures
 
 pub remake-r-requires : goal.remake-r-requires
-remake-r-requires c = let p = c.requires.1 in record { u = p.u; is = line_fit p.is c.if-k-eq0.false c.uses-does.ensures }
+remake-r-requires c = let p = c.requires.0 in record { u = p.u; is = line_fit p.is c.if-k-eq0.false c.uses-does.ensures }
 
 pub returns : goal.returns
-returns c = pass_moved c.if-k-eq0.false c.remake-r.ensures c.requires.1.is.wrote_ok (omega arith) c.put.ensures
+returns c = pass_moved c.if-k-eq0.false c.remake-r.ensures c.requires.0.is.wrote_ok (omega arith) c.put.ensures

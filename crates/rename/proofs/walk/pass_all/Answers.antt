@@ -8,26 +8,26 @@ pub loop-p-init : goal.loop-p-init
 loop-p-init c = passing_none _ _ _ _ _ _ _
 
 pub part_at-k-requires : goal.part_at-k-requires
-part_at-k-requires c = omega (arith, c.requires.1.words, c.loop-p-test.true)
+part_at-k-requires c = omega (arith, c.requires.words, c.loop-p-test.true)
 
 pub overflow_add-x : goal.overflow_add-x
-overflow_add-x c = omega (arith, c.requires.1.fits, c.loop-p-test.true, c.loop-p.invariant.run.size)
+overflow_add-x c = omega (arith, c.requires.fits, c.loop-p-test.true, c.loop-p.invariant.run.size)
 
 pub pass-n-requires : goal.pass-n-requires
 pass-n-requires c =
-    let k = passing_ask c.requires.1 c.loop-p.invariant c.loop-p-test.true in
+    let k = passing_ask c.requires c.loop-p.invariant c.loop-p-test.true in
     let v = c.part_at-k.ensures in
-    (c.requires.0, record { u = c.args.u; is = pass_part v k.wrote_ok k }, part_among v k.line.few_regs)
+    (record { u = c.args.u; is = pass_part v k.wrote_ok k }, part_among v k.line.few_regs)
 
 pub overflow_add-p : goal.overflow_add-p
-overflow_add-p c = omega (arith, c.loop-p-test.true, c.requires.1.words)
+overflow_add-p c = omega (arith, c.loop-p-test.true, c.requires.words)
 
 pub loop-p-smaller : goal.loop-p-smaller
 loop-p-smaller c = omega (arith, c.loop-p-test.true)
 
 pub loop-p-preserved : goal.loop-p-preserved
 loop-p-preserved c =
-    let q = c.requires.1 in
+    let q = c.requires in
     let i = c.loop-p.invariant in
     let lt = c.loop-p-test.true in
     passing_more q i lt (passed_part c.part_at-k.ensures (passing_ask q i lt).wrote_ok c.pass-n.ensures)

@@ -5,11 +5,11 @@ use Rattle.search.proofs.find.first_look.Goals as goal
 
 pub live_in-requires : goal.live_in-requires
 live_in-requires c =
-    let z = live_ask c.requires.1 _ c.wide.ensures in
-    (c.requires.0, z.0, z.1, z.2)
+    let z = live_ask c.requires _ c.wide.ensures in
+    (z.0, z.1, z.2)
 
 pub seek-requires : goal.seek-requires
-seek-requires c = (seeking c.requires.1, omega arith)
+seek-requires c = (seeking c.requires, omega arith)
 
 pub shape_of-work64 : goal.shape_of-work64
 shape_of-work64 c = c.work64-1.given

@@ -35,13 +35,13 @@ pub returns-in_default : goal.returns-in_default
 returns-in_default c = looked_none _ _ c.at-k.ensures (chains_at c.args.s c.args.work32.now c.at_preds-p.ensures c.find_chain.ensures) c.in_default.is
 
 pub worth_a_look-requires : goal.worth_a_look-requires
-worth_a_look-requires c = let p = c.requires in worth_asks p.0 _ p.1 c.find_chain.ensures.sound c.in-Is.is
+worth_a_look-requires c = let p = c.requires in worth_asks p.0 _ p.1 c.find_chain.ensures.sound c.in-Some.is
 
 pub returns-then-not-worth_a_look : goal.returns-then-not-worth_a_look
-returns-then-not-worth_a_look c = looked_low _ _ c.at-k.ensures (chains_at c.args.s c.args.work32.now c.at_preds-p.ensures c.find_chain.ensures) c.in-Is.is c.worth_a_look.ensures (not-true _ (ap not c.if-not-worth_a_look.true))
+returns-then-not-worth_a_look c = looked_low _ _ c.at-k.ensures (chains_at c.args.s c.args.work32.now c.at_preds-p.ensures c.find_chain.ensures) c.in-Some.is c.worth_a_look.ensures (not-true _ (ap not c.if-not-worth_a_look.true))
 
 pub returns : goal.returns
-returns c = looked_here _ _ c.at-k.ensures refl c.requires.1 (chains_at c.args.s c.args.work32.now c.at_preds-p.ensures c.find_chain.ensures) c.in-Is.is c.worth_a_look.ensures (not-false _ (ap not c.if-not-worth_a_look.false))
+returns c = looked_here _ _ c.at-k.ensures refl c.requires.1 (chains_at c.args.s c.args.work32.now c.at_preds-p.ensures c.find_chain.ensures) c.in-Some.is c.worth_a_look.ensures (not-false _ (ap not c.if-not-worth_a_look.false))
 
 pub slice_bounds-find_chain-start : goal.slice_bounds-find_chain-start
 slice_bounds-find_chain-start c = omega (arith, (rooms c.requires.0).words32, c.at_preds-p.ensures)

@@ -4,13 +4,13 @@ use Rattle.trial.proofs.Learning as law
 use Rattle.trial.proofs.learn.learn.Goals as goal
 
 pub slice_bounds-analyse-end : goal.slice_bounds-analyse-end
-slice_bounds-analyse-end c = law.inside c.requires.1 {r = c.args.s.regs} c.at_regs-a.ensures.0 refl refl
+slice_bounds-analyse-end c = law.inside c.requires {r = c.args.s.regs} c.at_regs-a.ensures.0 refl refl
 
 pub analyse-n-requires : goal.analyse-n-requires
-analyse-n-requires c = law.ready c.requires.1 c.at_regs-a.ensures.0 refl refl c.args.t.now c.requires.0
+analyse-n-requires c = law.ready c.requires c.at_regs-a.ensures.0 refl refl
 
 pub copy_regs-requires : goal.copy_regs-requires
-copy_regs-requires c = law.copying c.requires.1 c.at_regs-a.ensures.0 refl refl c.analyse-n.new.facts c.analyse-n.ensures
+copy_regs-requires c = law.copying c.requires c.at_regs-a.ensures.0 refl refl c.analyse-n.new.facts c.analyse-n.ensures
 
 pub returns : goal.returns
-returns c = law.learnt c.requires.1 c.at_regs-a.ensures.0 refl refl c.analyse-n.new.facts c.analyse-n.ensures c.copy_regs.ensures
+returns c = law.learnt c.requires c.at_regs-a.ensures.0 refl refl c.analyse-n.new.facts c.analyse-n.ensures c.copy_regs.ensures

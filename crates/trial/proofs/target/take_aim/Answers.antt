@@ -11,25 +11,25 @@ use mathlib.Core.Bool.{not}
 use Rattle.trial.proofs.target.take_aim.Goals as goal
 
 pub at_needed-o-requires : goal.at_needed-o-requires
-at_needed-o-requires c = let r = room c.requires.1.lists in (r.blocks, omega (arith, r.lent, r.few))
+at_needed-o-requires c = let r = room c.requires.lists in (r.blocks, omega (arith, r.lent, r.few))
 
 pub at_stamps-st-requires : goal.at_stamps-st-requires
-at_stamps-st-requires c = let r = room c.requires.1.lists in (r.blocks, r.few)
+at_stamps-st-requires c = let r = room c.requires.lists in (r.blocks, r.few)
 
 pub at_preds-k-requires : goal.at_preds-k-requires
-at_preds-k-requires c = (room c.requires.1.lists).few
+at_preds-k-requires c = (room c.requires.lists).few
 
 pub offset_bounds-work32-k : goal.offset_bounds-work32-k
-offset_bounds-work32-k c = let r = room c.requires.1.lists in omega (arith, r.few, c.at_preds-k.ensures)
+offset_bounds-work32-k c = let r = room c.requires.lists in omega (arith, r.few, c.at_preds-k.ensures)
 
 pub slice_bounds-is_target-count : goal.slice_bounds-is_target-count
-slice_bounds-is_target-count c = let r = room c.requires.1.lists in omega (arith, r.words32, c.at_preds-k.ensures)
+slice_bounds-is_target-count c = let r = room c.requires.lists in omega (arith, r.words32, c.at_preds-k.ensures)
 
 pub is_target-requires : goal.is_target-requires
 is_target-requires c =
     let at_preds = c.before.before in
     let a = c.args in
-    let p = c.requires.1 in
+    let p = c.requires in
     let low = block_in p.lists p.into_block in
     let ws = a.work32.now in
     let long = subst (λ (i : ℕ). 2 * a.s.blocks ≤ length (take (length ws - i) (drop i ws))) (sym c.at_preds-k.ensures) (preds_room ws p.lists) in
@@ -42,19 +42,19 @@ returns-then-not-wanted c =
     let at_stamps = at_preds.before.before in
     let at_needed = at_stamps.before in
     let a = c.args in
-    aim_off (record { is = λ P h. c.is_target.ensures P a.s.blocks (block_in c.requires.1.lists c.requires.1.into_block) (preds_from a.s a.work32.now P c.at_preds-k.ensures h) }) (not-true _ (ap not c.if-not-wanted.true)) c.at_needed-o.ensures.0 c.at_stamps-st.ensures.0 c.from_start-none.ensures
+    aim_off (record { is = λ P h. c.is_target.ensures P a.s.blocks (block_in c.requires.lists c.requires.into_block) (preds_from a.s a.work32.now P c.at_preds-k.ensures h) }) (not-true _ (ap not c.if-not-wanted.true)) c.at_needed-o.ensures.0 c.at_stamps-st.ensures.0 c.from_start-none.ensures
 
 pub width-requires : goal.width-requires
-width-requires c = let r = room c.requires.1.lists in omega (arith, r.lent, r.few, c.wide.ensures)
+width-requires c = let r = room c.requires.lists in omega (arith, r.lent, r.few, c.wide.ensures)
 
 pub put_needed-requires : goal.put_needed-requires
 put_needed-requires c =
-    let t = c.requires.1 in
+    let t = c.requires in
     let l = t.lists in
     let low = block_lent l t.into_block in
     let other = block_lent l t.other_block in
     let ew = c.width.ensures ∙ ap width c.wide.ensures in
-    (c.requires.0, graph_lent l t.tabled, omega (arith, low, other), omega (arith, low, other), row_lent l t.into_block ew)
+    (graph_lent l t.tabled, omega (arith, low, other), omega (arith, low, other), row_lent l t.into_block ew)
 
 pub returns : goal.returns
 returns c =
@@ -66,8 +66,8 @@ returns c =
     let at_stamps = at_Regs.before in
     let at_needed = at_stamps.before in
     let a = c.args in
-    aim_on c.requires.1 (record { is = λ P h. c.is_target.ensures P a.s.blocks (block_in c.requires.1.lists c.requires.1.into_block) (preds_from a.s a.work32.now P c.at_preds-k.ensures h) }) (not-false _ (ap not c.if-not-wanted.false)) (c.width.ensures ∙ ap width c.wide.ensures) c.at_needed-o.ensures.0 c.at_stamps-st.ensures.0
+    aim_on c.requires (record { is = λ P h. c.is_target.ensures P a.s.blocks (block_in c.requires.lists c.requires.into_block) (preds_from a.s a.work32.now P c.at_preds-k.ensures h) }) (not-false _ (ap not c.if-not-wanted.false)) (c.width.ensures ∙ ap width c.wide.ensures) c.at_needed-o.ensures.0 c.at_stamps-st.ensures.0
     (ap (λ (x : ℕ). 8000 + x) c.wide-end.ensures) c.put_needed.ensures c.from_start-all.ensures
 
 pub slice_bounds-is_target-start : goal.slice_bounds-is_target-start
-slice_bounds-is_target-start c = let r = room c.requires.1.lists in omega (arith, r.words32, c.at_preds-k.ensures)
+slice_bounds-is_target-start c = let r = room c.requires.lists in omega (arith, r.words32, c.at_preds-k.ensures)

@@ -3,19 +3,19 @@ use Rattle.trial.proofs.Planned as law
 use Rattle.trial.proofs.target.try_target.Goals as goal
 
 pub take_aim-a-requires : goal.take_aim-a-requires
-take_aim-a-requires c = (c.requires.0, law.aiming c.requires.1)
+take_aim-a-requires c = (law.aiming c.requires.0)
 
 pub slice_bounds-legal_set-end : goal.slice_bounds-legal_set-end
-slice_bounds-legal_set-end c = (law.end_fits c.requires.1 c.take_aim-a.ensures).1
+slice_bounds-legal_set-end c = (law.end_fits c.requires.0 c.take_aim-a.ensures).1
 
 pub legal_set-k-requires : goal.legal_set-k-requires
-legal_set-k-requires c = (c.requires.0, law.choosable c.requires.1 c.requires.2 c.take_aim-a.ensures)
+legal_set-k-requires c = (law.choosable c.requires.0 c.requires.1 c.take_aim-a.ensures)
 
 pub put_facts-requires : goal.put_facts-requires
-put_facts-requires c = law.putting c.requires.1 c.requires.2 c.take_aim-a.ensures c.legal_set-k.ensures c.taken-b.ensures
+put_facts-requires c = law.putting c.requires.0 c.requires.1 c.take_aim-a.ensures c.legal_set-k.ensures c.taken-b.ensures
 
 pub put_uses-requires : goal.put_uses-requires
-put_uses-requires c = (c.requires.0, law.uses_asked c.requires.1 c.requires.2 c.take_aim-a.ensures c.legal_set-k.ensures c.taken-b.ensures c.put_facts.ensures)
+put_uses-requires c = (law.uses_asked c.requires.0 c.requires.1 c.take_aim-a.ensures c.legal_set-k.ensures c.taken-b.ensures c.put_facts.ensures)
 
 pub returns : goal.returns
-returns c = law.planned c.requires.1 c.requires.2 c.take_aim-a.ensures c.legal_set-k.ensures c.taken-b.ensures c.put_facts.ensures c.put_uses.ensures
+returns c = law.planned c.requires.0 c.requires.1 c.take_aim-a.ensures c.legal_set-k.ensures c.taken-b.ensures c.put_facts.ensures c.put_uses.ensures

@@ -14,4 +14,4 @@ returns-in_default-new c = let a = c.args in let h = not_block a.f a.blocks (sym
 
 pub returns : goal.returns
 unfolding chain_of ended blocks_of last_of
-returns c = let a = c.args in let h = is_block a.t a.blocks _ (sym c.new.ensures ∙ c.in-Is.is) in let g = is_block a.f a.blocks _ (sym c.new-2.ensures ∙ c.in-Is-new.is) in (sound_ends _ _ c.requires.0, rw (h.0, g.0))
+returns c = let a = c.args in let h = is_block a.t a.blocks _ (sym c.new.ensures ∙ c.in-Some.is) in let g = is_block a.f a.blocks _ (sym c.new-2.ensures ∙ c.in-Some-new.is) in (sound_ends _ _ c.requires.0, rw (h.0, g.0))

@@ -12,13 +12,13 @@ pub returns-then-self-eq6 : goal.returns-then-self-eq6
 returns-then-self-eq6 c = next_full c.requires.0 c.requires.1 c.if-self-eq6.true
 
 pub bounds-preds-at : goal.bounds-preds-at
-bounds-preds-at c = let a = c.args in let h = is_block a.to a.blocks _ (sym c.new.ensures ∙ c.in-Is.is) in omega (arith, h.0, c.at-at.ensures, c.requires.1, c.requires.2)
+bounds-preds-at c = let a = c.args in let h = is_block a.to a.blocks _ (sym c.new.ensures ∙ c.in-Some.is) in omega (arith, h.0, c.at-at.ensures, c.requires.1, c.requires.2)
 
 pub returns-then-preds-at-ne1 : goal.returns-then-preds-at-ne1
-returns-then-preds-at-ne1 c = let a = c.args in let h = is_block a.to a.blocks _ (sym c.new.ensures ∙ c.in-Is.is) in next_many c.requires.0 c.requires.1 c.if-self-eq6.false (c.at-at.ensures ∙ sym h.0) c.if-preds-at-ne1.true
+returns-then-preds-at-ne1 c = let a = c.args in let h = is_block a.to a.blocks _ (sym c.new.ensures ∙ c.in-Some.is) in next_many c.requires.0 c.requires.1 c.if-self-eq6.false (c.at-at.ensures ∙ sym h.0) c.if-preds-at-ne1.true
 
 pub returns-then-has : goal.returns-then-has
-returns-then-has c = let a = c.args in let h = is_block a.to a.blocks _ (sym c.new.ensures ∙ c.in-Is.is) in next_twice c.requires.0 c.requires.1 c.if-self-eq6.false (sym h.0) c.has.ensures c.if-has.true
+returns-then-has c = let a = c.args in let h = is_block a.to a.blocks _ (sym c.new.ensures ∙ c.in-Some.is) in next_twice c.requires.0 c.requires.1 c.if-self-eq6.false (sym h.0) c.has.ensures c.if-has.true
 
 pub returns : goal.returns
-returns c = let a = c.args in let h = is_block a.to a.blocks _ (sym c.new.ensures ∙ c.in-Is.is) in next_on c.requires.0 c.requires.1 c.if-self-eq6.false _ (c.at-at.ensures ∙ sym h.0) c.if-preds-at-ne1.false (sym h.0) c.has.ensures c.if-has.false c.with.ensures.0 c.with.ensures.1
+returns c = let a = c.args in let h = is_block a.to a.blocks _ (sym c.new.ensures ∙ c.in-Some.is) in next_on c.requires.0 c.requires.1 c.if-self-eq6.false _ (c.at-at.ensures ∙ sym h.0) c.if-preds-at-ne1.false (sym h.0) c.has.ensures c.if-has.false c.with.ensures.0 c.with.ensures.1
