@@ -1,7 +1,7 @@
 -- Whether the value of an instruction points to a layout, arm by arm. Assumes nothing.
+use Rattle.std.specs.Prelude.{None, Some}
 use mathlib.Core.Bool.{Bool, true, false, cond, ◌&&◌, ◌||◌}
 use mathlib.Core.List.{List, [], ◌∷◌}
-use mathlib.Core.Option.{none, some}
 use mathlib.Core.Path.{◌≡◌, refl, ◌∙◌}
 use Prim.Native.Nat.{ℕ}
 use lib.Dec.{eqb, leb, ltb}
@@ -18,14 +18,14 @@ use Rattle.analyse.proofs.Layouts.{After}
 
 module _ (i : Inst) (p : ℕ) (list : List Org) (k : Bool) (o : ℕ → Org) (l : ℕ → Bool) (y y' : ℕ → Bool) (x : Input) (e : Effect) (e0 : sized (λ j. x.layout) (o 0) ≡ sized y (o 0)) (e1 : sized (λ j. x.layout1) (o 1) ≡ sized y (o 1)) where
   abbrev plain : M.Effect
-  plain = eff No [] false none false Unknown false false
+  plain = eff No [] false None false Unknown false false
 
   abbrev Leads : Bool → M.Effect → Type 0
   Leads b E = sized (λ j. b) E.org ≡ sized y' E.org
 
   -- of a native call
   abbrev told : Bool → Bool → M.Effect
-  told a b = cond a (eff Movable [] true none false (Img p) false false) (cond b (eff No [] false none false (Temp p) false false) (eff No [] false none true Unknown false false))
+  told a b = cond a (eff Movable [] true None false (Img p) false false) (cond b (eff No [] false None false (Temp p) false false) (eff No [] false None true Unknown false false))
 
   either : (b c : Bool) (E F : M.Effect) → Leads b E → Leads b F → Leads b (cond c E F)
   either b true E F u v = u
@@ -56,21 +56,21 @@ module _ (i : Inst) (p : ℕ) (list : List Org) (k : Bool) (o : ℕ → Org) (l 
       go true = e1 ∙ t.others refl (o 1)
       go false = refl
   leads_right truth h t = refl
-  leads_right bin h t = either e.layout (l 0 && (ltb 0 (form i) && leb (form i) 3 && l 1 || eqb (form i) 4 && k)) (eff Movable [] false none false Unknown true false) plain refl refl
+  leads_right bin h t = either e.layout (l 0 && (ltb 0 (form i) && leb (form i) 3 && l 1 || eqb (form i) 4 && k)) (eff Movable [] false None false Unknown true false) plain refl refl
   leads_right index h t = e0 ∙ t.others refl (o 0)
-  leads_right check h t = either e.layout (eqb (form i) 3 && l 0) (eff Movable [] false none false Unknown false false) plain refl refl
+  leads_right check h t = either e.layout (eqb (form i) 3 && l 0) (eff Movable [] false None false Unknown false false) plain refl refl
   leads_right dopeLen h t = refl
-  leads_right load h t = either e.layout (eqb (form i) 4) plain (eff Movable (o 0 ∷ []) false none false (inside (o 0)) (sized y (o 0)) false) refl (no_block e.layout (o 0))
+  leads_right load h t = either e.layout (eqb (form i) 4) plain (eff Movable (o 0 ∷ []) false None false (inside (o 0)) (sized y (o 0)) false) refl (no_block e.layout (o 0))
   leads_right alloc h t = h ∙ t.own
   leads_right layout_of h t = go (eqb (form i) 0) h t.own
     where
-      go : (a : Bool) → e.layout ≡ (cond a (eff Movable (o 0 ∷ []) true none false (Temp p) false true) plain).layout → (cond a (eff Movable (o 0 ∷ []) true none false (Temp p) false true) plain).layout ≡ y' p
-          → Leads e.layout (cond a (eff Movable (o 0 ∷ []) true none false (Temp p) false true) plain)
+      go : (a : Bool) → e.layout ≡ (cond a (eff Movable (o 0 ∷ []) true None false (Temp p) false true) plain).layout → (cond a (eff Movable (o 0 ∷ []) true None false (Temp p) false true) plain).layout ≡ y' p
+          → Leads e.layout (cond a (eff Movable (o 0 ∷ []) true None false (Temp p) false true) plain)
       go true u v = u ∙ v
       go false u v = refl
   leads_right signal h t = refl
   leads_right fills h t = refl
-  leads_right store h t = either e.layout (eqb (form i) 4) plain (eff Movable [] false (some (o 0)) false Unknown false false) refl refl
+  leads_right store h t = either e.layout (eqb (form i) 4) plain (eff Movable [] false (Some (o 0)) false Unknown false false) refl refl
   leads_right cat h t = refl
   leads_right native h t = go (eqb (form i) 1 && eqb (get_or i 8 0) 1) (eqb (form i) 2) h t.own
     where

@@ -1,8 +1,8 @@
 -- The fact of one position, and the words of registers after it. Assumes nothing.
+use Rattle.std.specs.Prelude.{Option, Some}
 use mathlib.Core.Bool.{Bool, true, false, cond, not, ◌||◌}
 use mathlib.Core.List.{List, [], ◌∷◌, ◌++◌}
 use mathlib.Core.Logic.{inl, inr, ⊎_elim}
-use mathlib.Core.Option.{Option, some}
 use mathlib.Core.Path.{◌≡◌, refl, sym, ap, ◌∙◌, subst}
 use Prim.Native.Nat.{ℕ, suc, ◌+◌, ◌/◌, ◌%◌, ◌≤◌, ◌<◌}
 use native.Mathlib.Nat.{zero-add}
@@ -120,8 +120,8 @@ module _ (recs ops : List ℕ) (e : Effect) (b : Bool) (y : Input) {regs regs' :
       seen = seen_kept (flags_kept_by d i m) s.seen;
       writer = λ r h.
           ap (λ (n : ℕ). place_at (n / 16 % 1024)) (word r h) ∙ opt_settle p e.org e.len (leads a y e) few low.org (mem r (writes i)) (get_or regs r 0)
-          ∙ ap (λ (o : Option ℕ). cond (mem r (writes i)) (some p) o) (s.writer r h)
-          ∙ ap (λ (n : ℕ). cond (mem r (writes i)) (some n) (last_writer 0 past r)) (sym el ∙ sym (zero-add (length past)))
+          ∙ ap (λ (o : Option ℕ). cond (mem r (writes i)) (Some p) o) (s.writer r h)
+          ∙ ap (λ (n : ℕ). cond (mem r (writes i)) (Some n) (last_writer 0 past r)) (sym el ∙ sym (zero-add (length past)))
           ∙ sym (last_more 0 past f r);
       left = λ r h k ek.
           subst (λ (n : ℕ). Left after (left_in n) (get_or after k no_fact)) (sym (word r h))

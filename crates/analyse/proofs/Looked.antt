@@ -1,8 +1,7 @@
 -- What is looked up of a register. Assumes nothing.
-use Rattle.std.specs.Prelude.{Option}
+use Rattle.std.specs.Prelude.{Option, None, Some}
 use mathlib.Core.Bool.{Bool, true, false, cond}
 use mathlib.Core.List.{List}
-use mathlib.Core.Option.{Option, none, some}
 use mathlib.Core.Path.{◌≡◌, refl, sym, ap, ◌∙◌, subst}
 use Prim.Native.Nat.{ℕ, zero, suc, ◌+◌, ◌*◌, ◌-◌, ◌/◌, ◌%◌, ◌≤◌, ◌<◌}
 use native.Mathlib.Omega.{arith}
@@ -105,15 +104,15 @@ module _ {G : Facts} {past : List Fact} {R : ℕ} {regs : List ℕ} (s : Marked 
   writer_at : place_at (v / 16 % 1024) ≡ last_writer 0 past r
   writer_at = ap (λ (x : ℕ). place_at (x / 16 % 1024)) ev ∙ s.writer r h
 
-  nobody : v < 16 → last_writer 0 past r ≡ none
+  nobody : v < 16 → last_writer 0 past r ≡ None
   unfolding place_at
   nobody l = let z : v / 16 % 1024 ≡ 0 = omega arith in sym writer_at ∙ ap place_at z
 
   -- by the flags
   pub valued_flags : (o : ℕ) → o < 4 → v < 16 → ((k : Known) → v % 16 ≡ flags_of k → org_at o ≡ cond k.ro Ro (cond k.frame Frame Unknown)) → Valued G past r (record { org = o; len = eqb (v / 4 % 2) 1; layout = false })
   valued_flags o b l f = record {
-    org = f (known_of G r) flags_at ∙ sym (org_by G past r n none (nobody l));
-    len = small_bit (known_of G r) v flags_at ∙ sym (len_by G past r n none (nobody l));
+    org = f (known_of G r) flags_at ∙ sym (org_by G past r n None (nobody l));
+    len = small_bit (known_of G r) v flags_at ∙ sym (len_by G past r n None (nobody l));
     layout = lay_low past o b;
   }
 
@@ -122,8 +121,8 @@ module _ {G : Facts} {past : List Fact} {R : ℕ} {regs : List ℕ} (s : Marked 
   unfolding place_at
   valued_left {x} e d ed =
       let l : Left past x (get_or past d no_fact) = subst (λ (z : Value). Left past z (get_or past d no_fact)) (sym (e ∙ ap left_in ev)) (s.left r h d (sym (ap (λ (z : ℕ). z / 16 % 1024) ev) ∙ ed)) in
-      let w : last_writer 0 past r ≡ some d = sym writer_at ∙ ap place_at ed in
-      record { org = l.org ∙ sym (org_by G past r n (some d) w); len = l.len ∙ sym (len_by G past r n (some d) w); layout = l.layout }
+      let w : last_writer 0 past r ≡ Some d = sym writer_at ∙ ap place_at ed in
+      record { org = l.org ∙ sym (org_by G past r n (Some d) w); len = l.len ∙ sym (len_by G past r n (Some d) w); layout = l.layout }
 
 pub valued_none : (G : Facts) (past : List Fact) (r : ℕ) → r ≡ absent → Valued G past r (record { org = 0; len = false; layout = false })
 valued_none G past r e = record { org = org_none G past r e; len = len_none G past r e; layout = lay_low past 0 (omega arith) }

@@ -1,7 +1,7 @@
 -- The last writers in the words of registers, and what they left: marked and forgotten. Assumes nothing.
+use Rattle.std.specs.Prelude.{Option, None, Some}
 use mathlib.Core.Bool.{Bool, true, false, cond}
 use mathlib.Core.List.{List, [], ◌∷◌, ◌++◌}
-use mathlib.Core.Option.{Option, none, some}
 use mathlib.Core.Path.{◌≡◌, refl, sym, ap, ◌∙◌}
 use Prim.Native.Nat.{ℕ, suc, ◌+◌, ◌*◌, ◌/◌, ◌%◌, ◌≤◌, ◌<◌}
 use native.Mathlib.Decide.{ℕ_discrete}
@@ -25,17 +25,17 @@ marked_twice p v = omega arith
 
 -- ---- one more position
 
-pub last_more : (k : ℕ) (past : List Fact) (f : Fact) (r : ℕ) → last_writer k (past ++ (f ∷ [])) r ≡ cond (mem r f.defs) (some (k + length past)) (last_writer k past r)
-last_more k [] f r = ap (λ (n : ℕ). cond (mem r f.defs) (some n) none) (sym (add-zero k))
+pub last_more : (k : ℕ) (past : List Fact) (f : Fact) (r : ℕ) → last_writer k (past ++ (f ∷ [])) r ≡ cond (mem r f.defs) (Some (k + length past)) (last_writer k past r)
+last_more k [] f r = ap (λ (n : ℕ). cond (mem r f.defs) (Some n) None) (sym (add-zero k))
 last_more k (g ∷ past) f r =
-    ap (λ (o : Option ℕ). first o (cond (mem r g.defs) (some k) none)) (last_more (suc k) past f r)
+    ap (λ (o : Option ℕ). first o (cond (mem r g.defs) (Some k) None)) (last_more (suc k) past f r)
     ∙ go (mem r f.defs) (last_writer (suc k) past r)
   where
     first : Option ℕ → Option ℕ → Option ℕ
-    first o d = elim o [ some q ↦ some q | none ↦ d ]
+    first o d = elim o [ Some q ↦ Some q | None ↦ d ]
 
-    go : (b : Bool) (o : Option ℕ) → first (cond b (some (suc k + length past)) o) (cond (mem r g.defs) (some k) none) ≡ cond b (some (k + suc (length past))) (first o (cond (mem r g.defs) (some k) none))
-    go true o = ap some (suc-add k (length past) ∙ sym (add-suc k (length past)))
+    go : (b : Bool) (o : Option ℕ) → first (cond b (Some (suc k + length past)) o) (cond (mem r g.defs) (Some k) None) ≡ cond b (Some (k + suc (length past))) (first o (cond (mem r g.defs) (Some k) None))
+    go true o = ap Some (suc-add k (length past) ∙ sym (add-suc k (length past)))
     go false o = refl
 
 pub settle_flags : (d : ℕ) (b : Bool) (v : ℕ) → settle (marked d) b v % 16 ≡ v % 16
@@ -45,7 +45,7 @@ settle_flags d false v = refl
 
 -- a word with no writer
 pub ranges_none : (n v : ℕ) → v < 16 → Ranges n v
-ranges_none n v h = record { writer = let z : v / 16 % 1024 ≡ 0 = omega arith in omega (arith, z); org = let z : v / 16384 % 2048 ≡ 0 = omega arith in omega (arith, z); none = λ e. h }
+ranges_none n v h = record { writer = let z : v / 16 % 1024 ≡ 0 = omega arith in omega (arith, z); org = let z : v / 16384 % 2048 ≡ 0 = omega arith in omega (arith, z); None = λ e. h }
 
 -- one that position p has written
 module _ (p o : ℕ) (l y : Bool) (few : p + 1 < 1000) (low : o < 6 + 2 * p) where
@@ -78,11 +78,11 @@ module _ (p o : ℕ) (l y : Bool) (few : p + 1 < 1000) (low : o < 6 + 2 * p) whe
   ranges_settle true v g = record {
     writer = let e = writer_new v in omega (arith, e);
     org = let e = org_new v in omega (arith, e, low);
-    none = λ z. let e = writer_new v in absurd (omega (arith, e, z));
+    None = λ z. let e = writer_new v in absurd (omega (arith, e, z));
   }
-  ranges_settle false v g = record { writer = omega (arith, g.writer); org = omega (arith, g.org); none = g.none }
+  ranges_settle false v g = record { writer = omega (arith, g.writer); org = omega (arith, g.org); None = g.none }
 
-  pub opt_settle : (b : Bool) (v : ℕ) → place_at (settle (marked d) b v / 16 % 1024) ≡ cond b (some p) (place_at (v / 16 % 1024))
+  pub opt_settle : (b : Bool) (v : ℕ) → place_at (settle (marked d) b v / 16 % 1024) ≡ cond b (Some p) (place_at (v / 16 % 1024))
   unfolding settle place_at
   opt_settle true v = ap place_at (writer_new v)
   opt_settle false v = refl

@@ -1,8 +1,8 @@
 -- The numbers of one position stand for its fact. Assumes nothing.
+use Rattle.std.specs.Prelude.{None}
 use mathlib.Core.Bool.{Bool, true, false, cond, ◌||◌}
 use mathlib.Core.List.{List, [], ◌∷◌, ◌++◌, map}
 use mathlib.Core.Logic.{inl, inr, ⊎_elim}
-use mathlib.Core.Option.{none}
 use mathlib.Core.Path.{◌≡◌, refl, sym, ap, ◌∙◌, subst}
 use Prim.Native.Nat.{ℕ, zero, suc, ◌≤◌, ◌<◌}
 use native.Mathlib.Nat.{le_of_suc-le-suc, lt_of_not-le}
@@ -60,11 +60,11 @@ module _ (e : Effect) (q n : Bool) where
 
   pub placed_none : e.wrote ≡ 0 → (eqb e.class 1 || e.barrier || q || n) ≡ true → wrote_at 0 ≡ fill_in (wrote_at e.wrote) (movable (class_at e.class) || e.barrier || q || n)
   unfolding wrote_at fill_in
-  placed_none z t = sym (ap (λ (k : ℕ). fill_in (wrote_at k) (movable (class_at e.class) || e.barrier || q || n)) z ∙ ap (fill_in none) (tested true t))
+  placed_none z t = sym (ap (λ (k : ℕ). fill_in (wrote_at k) (movable (class_at e.class) || e.barrier || q || n)) z ∙ ap (fill_in None) (tested true t))
 
   pub placed_unknown : e.wrote ≡ 0 → (eqb e.class 1 || e.barrier || q || n) ≡ false → wrote_at 1 ≡ fill_in (wrote_at e.wrote) (movable (class_at e.class) || e.barrier || q || n)
   unfolding wrote_at fill_in org_at
-  placed_unknown z t = sym (ap (λ (k : ℕ). fill_in (wrote_at k) (movable (class_at e.class) || e.barrier || q || n)) z ∙ ap (fill_in none) (tested false t))
+  placed_unknown z t = sym (ap (λ (k : ℕ). fill_in (wrote_at k) (movable (class_at e.class) || e.barrier || q || n)) z ∙ ap (fill_in None) (tested false t))
 
 -- ---- small numbers
 

@@ -1,7 +1,6 @@
 -- What the words and the structs stand for at a position of a chain: the facts of before round 1, the last writers, and the facts of
 -- the positions so far. Assumes nothing.
-use Rattle.std.specs.Prelude.{◌≡◌, ◌⊎◌, Bool, false, cond, List, ℕ, suc, ◌+◌, ◌*◌, ◌/◌, ◌%◌, ◌≤◌, ◌<◌, eqb, get_or, length}
-use Rattle.std.proofs.Math.Option.{Option, none, some}
+use Rattle.std.specs.Prelude.{◌≡◌, ◌⊎◌, Bool, false, cond, List, ℕ, suc, ◌+◌, ◌*◌, ◌/◌, ◌%◌, ◌≤◌, ◌<◌, eqb, get_or, length, Option, None, Some}
 use Rattle.model.specs.Kinds.{row, cat}
 use Rattle.model.specs.Picture.{Inst, absent, kind, reads}
 use Rattle.model.specs.Analyse.{Facts, Fact, Org, Unknown, no_fact, last_writer, org_of, len_of, is_layout, when_some, known_of, positive, sized}
@@ -62,7 +61,7 @@ pub record State (G : Facts) (past : List Fact) (R : ℕ) (regs : List ℕ) (w :
 pub record Ranges (n v : ℕ) : Type 0 where
   pub writer : v / 16 % 1024 ≤ n
   pub org : v / 16384 % 2048 < 4 + 2 * n
-  pub none : v / 16 % 1024 ≡ 0 → v < 16
+  pub None : v / 16 % 1024 ≡ 0 → v < 16
 
 -- so do those of the first R registers; the sizes that the code needs
 pub record Ranged (R n : ℕ) (regs : List ℕ) : Type 0 where
@@ -127,7 +126,7 @@ pub record Asked (G : Facts) (past : List Fact) (ops : List ℕ) (i : Inst) (x :
 
 -- what is not named writes memory nobody can place
 unfoldable pub fill_in : Option Org → Bool → Option Org
-fill_in o b = elim o [ some w ↦ some w | none ↦ cond b none (some Unknown) ]
+fill_in o b = elim o [ Some w ↦ Some w | None ↦ cond b None (Some Unknown) ]
 
 -- the numbers of e are small, at position p; the memory read is the code only for a Cat
 pub record Low (p : ℕ) (i : Inst) (e : Effect) : Type 0 where

@@ -1,9 +1,9 @@
 -- The names along the chain are `model`'s: the new register of the last writer, if that is a member. So the jobs are its jobs.
 -- Assumes nothing.
+use Rattle.std.specs.Prelude.{Some}
 use mathlib.Core.Path.{◌≡◌, refl, sym, ap, ap₂, ◌∙◌}
 use mathlib.Core.Bool.{Bool, true, false, not, ◌&&◌, cond, or-false, not-not}
 use mathlib.Core.List.{List, [], ◌∷◌, ◌++◌, map}
-use mathlib.Core.Option.{some}
 use Prim.Native.Nat.{ℕ, zero, suc, ◌+◌, ◌-◌, ◌*◌, ◌≤◌, ◌<◌}
 use native.Mathlib.Nat.{add-zero, zero-add, add-suc}
 use native.Mathlib.Omega.{arith}
@@ -36,17 +36,17 @@ module _ (P : Picture) (a : Plan) (m n : ℕ) (w : List ℕ) (s : Stands P a m n
   abbrev rd_at : ℕ → ℕ → ℕ
   rd_at p r = new_name P a given r (last_writer 0 (take p a.run) r)
 
-  writer_at : (p r : ℕ) → p < n → last_writer 0 (take (suc p) a.run) r ≡ cond (mem r (writes (inst P.recs (get_or w (10 * p) 0)))) (some p) (last_writer 0 (take p a.run) r)
+  writer_at : (p r : ℕ) → p < n → last_writer 0 (take (suc p) a.run) r ≡ cond (mem r (writes (inst P.recs (get_or w (10 * p) 0)))) (Some p) (last_writer 0 (take p a.run) r)
   writer_at p r h =
       let l = s.long in
       ap (λ (fs : List Fact). last_writer 0 fs r) (take-suc a.run p no_fact (omega arith)) ∙ writer_snoc 0 (take p a.run) (fact_at a.run p) r
-      ∙ ap₂ (λ (ds : List ℕ) (i : ℕ). cond (mem r ds) (some i) (last_writer 0 (take p a.run) r)) (s.defs p h) (zero-add (length (take p a.run)) ∙ length-take-le p a.run (omega arith))
+      ∙ ap₂ (λ (ds : List ℕ) (i : ℕ). cond (mem r ds) (Some i) (last_writer 0 (take p a.run) r)) (s.defs p h) (zero-add (length (take p a.run)) ∙ length-take-le p a.run (omega arith))
 
   -- a kept position: what it writes keeps its name
   kept_name : (p r : ℕ) → p < n → member a.set p ≡ false → pick (mem r (writes (inst P.recs (get_or w (10 * p) 0)))) r (rd_at p r) ≡ rd_at (suc p) r
   kept_name p r h out = go (mem r (writes (inst P.recs (get_or w (10 * p) 0)))) ∙ sym (ap (new_name P a given r) (writer_at p r h))
     where
-      go : (b : Bool) → pick b r (rd_at p r) ≡ new_name P a given r (cond b (some p) (last_writer 0 (take p a.run) r))
+      go : (b : Bool) → pick b r (rd_at p r) ≡ new_name P a given r (cond b (Some p) (last_writer 0 (take p a.run) r))
       go true = sym (ap (λ (c : Bool). elim c as (λ z. ℕ) [ true ↦ lookup given p r | false ↦ r ]) out)
       go false = refl
 
@@ -62,7 +62,7 @@ module _ (P : Picture) (a : Plan) (m n : ℕ) (w : List ℕ) (s : Stands P a m n
       test : (not (eqb (wrote_at w p) absent) && eqb r (wrote_at w p)) ≡ mem r (writes (inst P.recs (get_or w (10 * p) 0)))
       test = one (eqb (wrote_at w p) absent) ∙ ap (mem r) (s.marked.wrotes p h is ∙ s.defs p (omega arith))
 
-      go : (b : Bool) → cond b (reg_or (new_at w p) r) (rd_at p r) ≡ new_name P a given r (cond b (some p) (last_writer 0 (take p a.run) r))
+      go : (b : Bool) → cond b (reg_or (new_at w p) r) (rd_at p r) ≡ new_name P a given r (cond b (Some p) (last_writer 0 (take p a.run) r))
       go true = sym (ap (λ (c : Bool). elim c as (λ z. ℕ) [ true ↦ lookup given p r | false ↦ r ]) is ∙ g.regs_are p r h)
       go false = refl
 

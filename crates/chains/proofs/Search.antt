@@ -2,7 +2,6 @@
 use Rattle.std.specs.Prelude.{Option, Some, None}
 use mathlib.Core.Bool.{Bool, true, false, not, ◌&&◌, and-true, and-false}
 use mathlib.Core.List.{List, [], ◌∷◌, ◌++◌}
-use mathlib.Core.Option.{Option, none, some}
 use mathlib.Core.Path.{◌≡◌, refl, sym, ap, ◌∙◌, subst}
 use Prim.Native.Nat.{ℕ, zero, suc, ◌+◌, ◌*◌, ◌-◌, ◌≤◌, ◌<◌}
 use native.Mathlib.Omega.{arith}
@@ -98,44 +97,44 @@ module _ {E : End} where
 
 module _ (P : Picture) (bs : List ℕ) (cur : ℕ) where
   abbrev none_left : End → Option M.Chain
-  none_left x = elim x [ goes to ↦ none | parts t f ↦ some (record { blocks = bs; last = cur; t = t; f = f }) | cases c ↦ none | stops ↦ none ]
+  none_left x = elim x [ goes to ↦ None | parts t f ↦ Some (record { blocks = bs; last = cur; t = t; f = f }) | cases c ↦ None | stops ↦ None ]
 
   abbrev some_left : ℕ → End → Option M.Chain
   some_left k x =
       elim x [
-        | goes to ↦ elim (eqb (length (preds P to)) 1 && not (mem to bs)) [ true ↦ chain_from P k (bs ++ to ∷ []) to | false ↦ none ]
-        | parts t f ↦ some (record { blocks = bs; last = cur; t = t; f = f })
-        | cases c ↦ none
-        | stops ↦ none
+        | goes to ↦ elim (eqb (length (preds P to)) 1 && not (mem to bs)) [ true ↦ chain_from P k (bs ++ to ∷ []) to | false ↦ None ]
+        | parts t f ↦ Some (record { blocks = bs; last = cur; t = t; f = f })
+        | cases c ↦ None
+        | stops ↦ None
       ]
 
-  from_parts : (k : ℕ) {t f : ℕ} → ending P cur ≡ parts t f → chain_from P k bs cur ≡ some (record { blocks = bs; last = cur; t = t; f = f })
+  from_parts : (k : ℕ) {t f : ℕ} → ending P cur ≡ parts t f → chain_from P k bs cur ≡ Some (record { blocks = bs; last = cur; t = t; f = f })
   from_parts zero e = ap none_left e
   from_parts (suc k) e = ap (some_left k) e
 
-  from_stops : (k : ℕ) → Stops ≡ ending_of (ending P cur) → chain_from P k bs cur ≡ none
+  from_stops : (k : ℕ) → Stops ≡ ending_of (ending P cur) → chain_from P k bs cur ≡ None
   unfolding ending_of
   from_stops zero = go (ending P cur)
     where
-      go : (x : End) → Stops ≡ ending_of x → none_left x ≡ none
+      go : (x : End) → Stops ≡ ending_of x → none_left x ≡ None
       go (goes u) q = refl
       go (parts u v) q = let z : ◌≡◌ {A = ℕ} 0 1 = cc in absurd (omega arith)
       go (cases u) q = refl
       go stops q = refl
   from_stops (suc k) = go (ending P cur)
     where
-      go : (x : End) → Stops ≡ ending_of x → some_left k x ≡ none
+      go : (x : End) → Stops ≡ ending_of x → some_left k x ≡ None
       go (goes u) q = let z : ◌≡◌ {A = ℕ} 0 1 = cc in absurd (omega arith)
       go (parts u v) q = let z : ◌≡◌ {A = ℕ} 0 1 = cc in absurd (omega arith)
       go (cases u) q = refl
       go stops q = refl
 
   module _ {to : ℕ} (e : ending P cur ≡ goes to) where
-    from_full : chain_from P 0 bs cur ≡ none
+    from_full : chain_from P 0 bs cur ≡ None
     from_full = ap none_left e
 
-    from_on : (k : ℕ) (b : Bool) → (eqb (length (preds P to)) 1 && not (mem to bs)) ≡ b → chain_from P (suc k) bs cur ≡ (elim b [ true ↦ chain_from P k (bs ++ to ∷ []) to | false ↦ none ])
-    from_on k b q = ap (some_left k) e ∙ ap (λ (b : Bool). elim b [ true ↦ chain_from P k (bs ++ to ∷ []) to | false ↦ none ]) q
+    from_on : (k : ℕ) (b : Bool) → (eqb (length (preds P to)) 1 && not (mem to bs)) ≡ b → chain_from P (suc k) bs cur ≡ (elim b [ true ↦ chain_from P k (bs ++ to ∷ []) to | false ↦ None ])
+    from_on k b q = ap (some_left k) e ∙ ap (λ (b : Bool). elim b [ true ↦ chain_from P k (bs ++ to ∷ []) to | false ↦ None ]) q
 
 -- ---- over the struct
 
@@ -152,7 +151,7 @@ module _ (P : Picture) {c : Chain} (few : Few c) where
   unfolding rest ended
   rest_parts e = from_parts P (blocks_of c) (last_of c) (6 - c.count) e
 
-  pub rest_stops : Stops ≡ ending_of (ending P (last_of c)) → rest P (Some c) ≡ none
+  pub rest_stops : Stops ≡ ending_of (ending P (last_of c)) → rest P (Some c) ≡ None
   unfolding rest
   rest_stops e = from_stops P (blocks_of c) (last_of c) (6 - c.count) e
 
@@ -162,7 +161,7 @@ module _ (P : Picture) {c : Chain} (few : Few c) where
     rest_full h = let n : 6 - c.count ≡ 0 = omega arith in sym (ap (λ (k : ℕ). chain_from P k (blocks_of c) (last_of c)) n ∙ from_full P (blocks_of c) (last_of c) e)
 
     step : c.count < 6 → (b : Bool) → (eqb (length (preds P to)) 1 && not (mem to (blocks_of c))) ≡ b
-        → rest P (Some c) ≡ (elim b [ true ↦ chain_from P (5 - c.count) (blocks_of c ++ to ∷ []) to | false ↦ none ])
+        → rest P (Some c) ≡ (elim b [ true ↦ chain_from P (5 - c.count) (blocks_of c ++ to ∷ []) to | false ↦ None ])
     unfolding rest
     step h b q =
         let n : 6 - c.count ≡ suc (5 - c.count) = omega arith in

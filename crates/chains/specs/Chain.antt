@@ -1,7 +1,6 @@
 -- 01, "A round": a chain as a struct of six block numbers and a count, and what the words of blocks and predecessors stand
 -- for. Assumes nothing.
 use Rattle.std.specs.Prelude.{◌≡◌, List, [], ◌∷◌, ℕ, ◌+◌, ◌*◌, ◌-◌, ◌≤◌, ◌<◌, true, false, eqb, get_or, length, take, Option, Some, None}
-use Rattle.std.proofs.Math.Option.{Option, none, some}
 use Rattle.model.specs.Picture.{Picture, inst, End, goes, parts, cases, stops, end_of, ending, preds}
 use Rattle.model.specs.Move as M
 use Rattle.model.specs.Move.{chain, chain_from}
@@ -40,16 +39,16 @@ chain_in c = record { blocks = blocks_of c; last = last_of c; t = c.t.0; f = c.f
 
 -- a chain of these blocks that goes to t or f
 unfoldable pub ended : Chain → ℕ → ℕ → Option M.Chain
-ended c t f = some (record { blocks = blocks_of c; last = last_of c; t = t; f = f })
+ended c t f = Some (record { blocks = blocks_of c; last = last_of c; t = t; f = f })
 
 unfoldable pub chain_of : Option Chain → Option M.Chain
 chain_of (Some c) = ended c c.t.0 c.f.0
-chain_of None = none
+chain_of None = None
 
 -- what the search finds from there on
 unfoldable pub rest : Picture → Option Chain → Option M.Chain
 rest P (Some c) = chain_from P (6 - c.count) (blocks_of c) (last_of c)
-rest P None = none
+rest P None = None
 
 -- ---- a block's end
 

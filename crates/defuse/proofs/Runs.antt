@@ -16,7 +16,7 @@ use Rattle.words.proofs.Bools.{eq?}
 use Rattle.words.proofs.Members.{in_left, in_right, in_concat, map_in, in_range}
 use Rattle.model.specs.Picture.{Inst, inst, absent, reads, writes, list_of}
 use Rattle.inst.specs.Record.{Within, Used, present, read_at, write_at, rest_reads, rest_writes}
-use Rattle.inst.specs.Index.{reg_of, pick_reg}
+use Rattle.inst.specs.Index.{reg_of, pick}
 use Rattle.inst.specs.declared.index.Reg.{Reg}
 use Rattle.inst.proofs.Firsts.{three_reads}
 use Rattle.inst.proofs.Rest.{reads_step, writes_step, reads_all, reads_by_place, writes_by_place}
@@ -48,7 +48,7 @@ pub one_of : (n c : ℕ) {r : Option Reg} → c ≤ absent → ((n ≡ absent �
 unfolding reg_of present
 one_of n c {r} few low e = ap one e ∙ go (ltb n c) refl
   where
-    go : (b : Bool) → ltb n c ≡ b → one (pick_reg b (Some (record { 0 = n })) None) ≡ cond (eqb n absent) [] (n ∷ [])
+    go : (b : Bool) → ltb n c ≡ b → one (pick b (record { 0 = n })) ≡ cond (eqb n absent) [] (n ∷ [])
     go true q =
         let l = ltb-true n c q in
         sym (ap (λ (b : Bool). cond b [] (n ∷ [])) (ne_eqb n absent (λ z. absurd (omega arith))))
@@ -60,7 +60,7 @@ one_of n c {r} few low e = ap one e ∙ go (ltb n c) refl
 pub step_here : (f : List ℕ → ℕ → List ℕ) (n c : ℕ) {r : Option Reg} {l m : List ℕ} → n < c → r ≡ reg_of n c → m ≡ steps f l (one r) → m ≡ f l n
 unfolding reg_of steps
 step_here f n c {r} {l} h e q =
-    q ∙ ap (λ (x : Option Reg). steps f l (one x)) (e ∙ ap (λ (b : Bool). pick_reg b (Some (record { 0 = n })) None) (lt-ltb n c h))
+    q ∙ ap (λ (x : Option Reg). steps f l (one x)) (e ∙ ap (λ (b : Bool). pick b (record { 0 = n })) (lt-ltb n c h))
 
 present_in : (r : ℕ) → (r ≡ absent → ⊥) → In r (present r)
 unfolding present

@@ -1,8 +1,8 @@
 -- Each arm, by its number: the struct that the code gives is what `analyse` says. Assumes nothing.
+use Rattle.std.specs.Prelude.{Some}
 use mathlib.Core.Bool.{Bool, true, false, cond, ◌&&◌, ◌||◌}
 use mathlib.Core.List.{List, [], ◌∷◌}
 use mathlib.Core.Logic.{◌⊎◌, inl, inr}
-use mathlib.Core.Option.{some}
 use mathlib.Core.Path.{◌≡◌, refl, sym, ap, ◌∙◌, subst}
 use Prim.Native.Nat.{ℕ, suc, ◌+◌, ◌*◌, ◌≤◌, ◌<◌}
 use native.Mathlib.Nat.{eq-or-lt_of_le}
@@ -21,7 +21,7 @@ use Rattle.effects.specs.declared.arms.Effect.{Effect}
 use Rattle.effects.specs.declared.arms.Input.{Input}
 use Rattle.effects.proofs.Origins.{temp_at, img_at}
 
-pub wrote_one : (n : ℕ) → wrote_at (n + 1) ≡ some (org_at n)
+pub wrote_one : (n : ℕ) → wrote_at (n + 1) ≡ Some (org_at n)
 unfolding wrote_at
 wrote_one n = ap wrote_at (add-one n)
 

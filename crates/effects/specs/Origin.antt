@@ -1,6 +1,5 @@
 -- Origins, classes, memory, flags and positions as numbers: what each number stands for. Assumes nothing.
-use Rattle.std.specs.Prelude.{Bool, cond, List, [], ◌∷◌, ℕ, zero, suc, ◌/◌, ◌%◌, eqb}
-use Rattle.std.proofs.Math.Option.{Option, none, some}
+use Rattle.std.specs.Prelude.{Bool, cond, List, [], ◌∷◌, ℕ, zero, suc, ◌/◌, ◌%◌, eqb, Option, None, Some}
 use Rattle.words.specs.Lists.{hit}
 use Rattle.model.specs.Analyse.{Org, Unknown, Ro, Heap, Frame, Temp, Img, Class, No, Movable, Free}
 
@@ -19,8 +18,8 @@ class_at (suc (suc n)) = Free
 
 -- memory written: 0 none, or an origin's number and 1
 unfoldable pub wrote_at : ℕ → Option Org
-wrote_at zero = none
-wrote_at (suc n) = some (org_at n)
+wrote_at zero = None
+wrote_at (suc n) = Some (org_at n)
 
 -- memory read: 0 none, or an origin's number and 1, or 4294967295, the pieces of a Cat, which are looked up again
 unfoldable pub from_at : ℕ → List Org → List Org
@@ -33,5 +32,5 @@ num b = hit b
 
 -- a position and 1, or 0 for none
 unfoldable pub place_at : ℕ → Option ℕ
-place_at zero = none
-place_at (suc d) = some d
+place_at zero = None
+place_at (suc d) = Some d

@@ -3,7 +3,6 @@
 use Rattle.std.specs.Prelude.{Option, Some, None}
 use mathlib.Core.Path.{◌≡◌, refl, sym, ◌∙◌, subst}
 use mathlib.Core.List.{List}
-use mathlib.Core.Option.{none}
 use Prim.Native.Nat.{ℕ, ◌+◌, ◌<◌}
 use native.Mathlib.Omega.{arith}
 use lib.ListN.{length}
@@ -29,7 +28,7 @@ use Rattle.find.specs.Find.{Sure, Next, StandsAs, IsAnswered, Finding, Searched,
 
 -- ---- a chain is found, or none
 
-taken : {P : Picture} {G : Facts} {work64 work32 : List ℕ} → Held P G work64 work32 → (o : Option Look) (from : ℕ) → first_plan P G (upto from) ≡ none → IsSought P from o → StandsAs P G work64 work32 (stand_of o)
+taken : {P : Picture} {G : Facts} {work64 work32 : List ℕ} → Held P G work64 work32 → (o : Option Look) (from : ℕ) → first_plan P G (upto from) ≡ None → IsSought P from o → StandsAs P G work64 work32 (stand_of o)
 taken {G = G} h (Some k) from z s = record { held = h; none_yet = s.1 G z; chosen = s.2 }
 taken {G = G} h None from z s = record { begun = h.begun; none_is = s G z }
 

@@ -1,6 +1,5 @@
 -- 01, "A round": the move of a round, `model`'s `round`: where the search for it stands, and what it answers. Assumes nothing.
 use Rattle.std.specs.Prelude.{◌≡◌, List, ℕ, ◌-◌, ◌<◌, length, Option, Some, None}
-use Rattle.std.proofs.Math.Option.{none, some}
 use Rattle.words.specs.Lists.{upto}
 use Rattle.model.specs.Picture.{Picture}
 use Rattle.model.specs.Analyse.{Facts}
@@ -20,17 +19,17 @@ pub record Sure (P : Picture) (G : Facts) (work64 work32 : List ℕ) (mv : Move)
   pub begun : Begun P G work64 work32
   pub x : ℕ
   pub found : Found P G x mv (chain_words work32)
-  pub first : round P G ≡ some found.a
+  pub first : round P G ≡ Some found.a
 
 -- the round has no move
 pub record Over (P : Picture) (G : Facts) (work64 work32 : List ℕ) : Type 0 where
   pub begun : Begun P G work64 work32
-  pub none_is : round P G ≡ none
+  pub none_is : round P G ≡ None
 
 -- chain k is to be tried: live-in is there as well, no block before has a move, and it is its block's chain, and worth a look
 pub record Next (P : Picture) (G : Facts) (work64 work32 : List ℕ) (k : Look) : Type 0 where
   pub held : Held P G work64 work32
-  pub none_yet : first_plan P G (upto k.x.0) ≡ none
+  pub none_yet : first_plan P G (upto k.x.0) ≡ None
   pub chosen : Chosen P k.x.0 k.c
 
 -- where the search stands

@@ -1,10 +1,10 @@
 -- The test of specs/Shown asks no more than the statement: where `Follows` holds the test does too, so a test that fails refutes it.
 -- Assumes nothing.
+use Rattle.std.specs.Prelude.{Option, None, Some}
 use mathlib.Core.Path.{◌≡◌, sym, ap, subst}
 use mathlib.Core.Logic.{⊎_elim}
 use mathlib.Core.Bool.{true, false, ◌&&◌}
 use mathlib.Core.List.{List, [], ◌∷◌, map}
-use mathlib.Core.Option.{Option, none, some}
 use Prim.Native.Nat.{ℕ}
 use native.Mathlib.Omega.{arith}
 use lib.Dec.{T, eqb, ltb, leb, eqb→eq, eqb_refl, ltb→lt, leb→le, lt→ltb, le→leb}
@@ -62,22 +62,22 @@ module _ (P : Picture) (w : List ℕ) where
 
 -- ---- matching
 
-holds_same : (o : Option Run) (v : Run) → T (when_some (same_run v) o) → o ≡ some v
-holds_same none v t = absurd t
-holds_same (some u) v t = ap some (sym (same_is v u t))
+holds_same : (o : Option Run) (v : Run) → T (when_some (same_run v) o) → o ≡ Some v
+holds_same None v t = absurd t
+holds_same (Some u) v t = ap Some (sym (same_is v u t))
 
 module _ (L Q : Picture) (was w : List ℕ) where
-  is_match : (v u : Run) → match L was w u ≡ some v → T (matches_it L Q was w v u)
+  is_match : (v u : Run) → match L was w u ≡ Some v → T (matches_it L Q was w v u)
   is_match v u e = subst (λ (o : Option Run). T (when_some (same_run v) o)) (sym e) (self_same v)
 
-  match_is : (v u : Run) → T (matches_it L Q was w v u) → match L was w u ≡ some v
+  match_is : (v u : Run) → T (matches_it L Q was w v u) → match L was w u ≡ Some v
   match_is v u t = holds_same (match L was w u) v t
 
   write_test : (x y : Option Write) → Matches L was w x y → T (write_matches L Q was w x y)
-  write_test none none m = tt
-  write_test none (some v) m = m
-  write_test (some u) none m = m
-  write_test (some u) (some v) m =
+  write_test None None m = tt
+  write_test None (Some v) m = m
+  write_test (Some u) None m = m
+  write_test (Some u) (Some v) m =
       both (matches_it L Q was w v.by u.by) (eqb u.slot v.slot) (is_match v.by u.by m.0) (subst (λ (k : ℕ). T (eqb u.slot k)) m.1 (eqb_refl u.slot))
 
   each_test : (xs ys : List (Option Write)) → Each L was w xs ys → T (each_matches L Q was w xs ys)
@@ -115,13 +115,13 @@ module _ (L Q : Picture) (was w : List ℕ) where
         t : T (is_run Q w u)
         t = runs_in Q w u i
 
-        z : (v : Run) × (match L was w u ≡ some v) × T (is_run L w v)
+        z : (v : Run) × (match L was w u ≡ Some v) × T (is_run L w v)
         z = f.matched u t
 
         one : (x : Option Write) → In x (takes L w z.0) → T (unless_some (λ x. is_run L w x.by implies any (matches_it L Q was w x.by) (runs_of Q w)) x)
-        one none j = tt
-        one (some y) j = implies_of (is_run L w y.by) (any (matches_it L Q was w y.by) (runs_of Q w))
-            (λ h. let k = in_index none (some y) (takes L w z.0) j in
+        one None j = tt
+        one (Some y) j = implies_of (is_run L w y.by) (any (matches_it L Q was w y.by) (runs_of Q w))
+            (λ h. let k = in_index None (Some y) (takes L w z.0) j in
             ⊎_elim (λ (e : any (matches_it L Q was w y.by) (runs_of Q w) ≡ true). true_T (any (matches_it L Q was w y.by) (runs_of Q w)) e)
             (λ (e : any (matches_it L Q was w y.by) (runs_of Q w) ≡ false). absurd (f.unmatched y.by z.0 y.slot k.0 (true_T (is_run L w y.by) h) z.2 k.2
             (λ s r q. clash (T_true (matches_it L Q was w y.by s) (is_match y.by s q)) (any_no (matches_it L Q was w y.by) s (runs_of Q w) e (in_runs Q w s r))) u t z.1))

@@ -1,9 +1,10 @@
 -- From the walk's claim on programs to the claim on flat words: matched, apart, reads_match, unmatched. Assumes nothing.
+use Rattle.std.proofs.lemmas.Option.{none-some, same_Some}
+use Rattle.std.specs.Prelude.{Option, None, Some}
 use mathlib.Core.Path.{◌≡◌, refl, sym, ap, ap₂, ◌∙◌, subst}
 use mathlib.Core.Logic.{inl, inr}
 use mathlib.Core.Bool.{◌&&◌}
 use mathlib.Core.List.{List, [], ◌∷◌, map}
-use mathlib.Core.Option.{Option, none, some, none-ne-some, some-injective}
 use Prim.Native.Nat.{ℕ, zero, suc, ◌+◌, ◌-◌, ◌≤◌, ◌<◌}
 use native.Mathlib.Omega.{arith}
 use lib.Dec.{T, eqb, leb, ltb, ltb→lt, leb→le, eqb→eq, le→leb, lt→ltb}
@@ -38,8 +39,8 @@ walk_is P (b ∷ w) t =
     let u = left (eqb b 0 && ltb b (nblocks P)) (steps P b w) t in
     (eqb→eq b 0 (left (eqb b 0) (ltb b (nblocks P)) u), walk_goes P b w (right (eqb b 0 && ltb b (nblocks P)) (steps P b w) t))
 
-find_src : (f : LastWrite → Option Write) (xs : List LastWrite) (k : ℕ) (x : Write) → get_or (map f xs) k none ≡ some x → (y : LastWrite) × In y xs × (f y ≡ some x)
-find_src f [] k x e = absurd (none-ne-some x e)
+find_src : (f : LastWrite → Option Write) (xs : List LastWrite) (k : ℕ) (x : Write) → get_or (map f xs) k None ≡ Some x → (y : LastWrite) × In y xs × (f y ≡ Some x)
+find_src f [] k x e = absurd (none-some x e)
 find_src f (y ∷ xs) zero x e = (y, inl refl, e)
 find_src f (y ∷ xs) (suc k) x e = let r = find_src f xs k x e in (r.0, inr r.1, r.2)
 
@@ -128,8 +129,8 @@ module _ (P Q : Picture) (was : List ℕ) (gP : Accepted P) (st : Standing P Q w
           let e = ap (λ (i : Instr). i.old_block) here in
           (subst (λ (y : ℕ). latest_visit (block_at w) n y ≤ n) e r.0, subst (λ (y : ℕ). get_or w (latest_visit (block_at w) n y) 0 ≡ y) e r.1)
 
-      it_matches : match P was w (record { turn = n; at = p }) ≡ some (record { turn = mat n p; at = old p })
-      it_matches = ap (λ (l : Option ℕ). elim l as (λ z. Option Run) [ none ↦ none | some m ↦ some (record { turn = m; at = old p }) ]) (latest_same w n (home P (old p)) at_m.1)
+      it_matches : match P was w (record { turn = n; at = p }) ≡ Some (record { turn = mat n p; at = old p })
+      it_matches = ap (λ (l : Option ℕ). elim l as (λ z. Option Run) [ None ↦ None | Some m ↦ Some (record { turn = m; at = old p }) ]) (latest_same w n (home P (old p)) at_m.1)
 
       in_old : (starts P (get_or w (mat n p) 0) ≤ old p) × (old p < ends P (get_or w (mat n p) 0))
       in_old = let z = in_home P gP (old p) o_low in subst (λ (y : ℕ). (starts P y ≤ old p) × (old p < ends P y)) (sym at_m.1) (z.1, z.2)
@@ -145,12 +146,12 @@ module _ (P Q : Picture) (was : List ℕ) (gP : Accepted P) (st : Standing P Q w
       )
 
       -- and back
-      from_match : (m i : ℕ) → RunsMatch QB (block_at w) n j m i → match P was w (record { turn = n; at = p }) ≡ some (record { turn = m; at = starts P (get_or w m 0) + i })
+      from_match : (m i : ℕ) → RunsMatch QB (block_at w) n j m i → match P was w (record { turn = n; at = p }) ≡ Some (record { turn = m; at = starts P (get_or w m 0) + i })
       from_match m i r =
           let e : mat n p ≡ m = sym runs_match.0 ∙ r.0 in
           let f : old p - starts P (get_or w (mat n p) 0) ≡ i = sym runs_match.1 ∙ r.1 in
           let g : old p ≡ starts P (get_or w m 0) + i = sym (up (starts P (get_or w (mat n p) 0)) (old p) in_old.0) ∙ ap₂ (λ (x y : ℕ). starts P (get_or w x 0) + y) e f in
-          it_matches ∙ ap₂ (λ (x y : ℕ). some (record { turn = x; at = y })) e g
+          it_matches ∙ ap₂ (λ (x y : ℕ). Some (record { turn = x; at = y })) e g
 
       takes_after : W.takes Q w (record { turn = n; at = p }) ≡ map (as_write Q w) (takes QB (block_at w) n j)
       takes_after = ap (λ (y : ℕ). W.takes Q w (record { turn = n; at = y })) (sym (up (starts Q b) p tu.from)) ∙ takes_same Q w uQ n j (less (starts Q b) (ends Q b) p tu.from tu.to)
@@ -168,7 +169,7 @@ module _ (P Q : Picture) (was : List ℕ) (gP : Accepted P) (st : Standing P Q w
         near s e j h = omega arith
 
     by_index : (n j m i : ℕ) → n < length w → j < length (QB (get_or w n 0)) → RunsMatch QB (block_at w) n j m i
-        → match P was w (record { turn = n; at = starts Q (get_or w n 0) + j }) ≡ some (record { turn = m; at = starts P (get_or w m 0) + i })
+        → match P was w (record { turn = n; at = starts Q (get_or w n 0) + j }) ≡ Some (record { turn = m; at = starts P (get_or w m 0) + i })
     by_index n j m i a c r = from_match n (starts Q (get_or w n 0) + j) (turn_at n j a c) m i (subst (λ (k : ℕ). RunsMatch QB (block_at w) n k m i) (sym (back (starts Q (get_or w n 0)) j)) r)
       where
         back : (s j : ℕ) → s + j - s ≡ j
@@ -189,14 +190,14 @@ module _ (P Q : Picture) (was : List ℕ) (gP : Accepted P) (st : Standing P Q w
     abbrev old_run : Run → Run
     old_run u = record { turn = mat u.turn u.at; at = old u.at }
 
-    is_old : (u v : Run) → T (is_run Q w u) → match P was w u ≡ some v → old_run u ≡ v
-    is_old u v t e = some-injective (old_run u) v (sym (it_matches u.turn u.at (turn_of u t)) ∙ e)
+    is_old : (u v : Run) → T (is_run Q w u) → match P was w u ≡ Some v → old_run u ≡ v
+    is_old u v t e = same_Some (old_run u) v (sym (it_matches u.turn u.at (turn_of u t)) ∙ e)
 
     -- its index in the block before
     abbrev idx : Run → ℕ
     idx v = v.at - starts P (get_or w v.turn 0)
 
-    match_of : (u v : Run) (t : T (is_run Q w u)) → match P was w u ≡ some v → RunsMatch QB (block_at w) u.turn (u.at - starts Q (get_or w u.turn 0)) v.turn (idx v)
+    match_of : (u v : Run) (t : T (is_run Q w u)) → match P was w u ≡ Some v → RunsMatch QB (block_at w) u.turn (u.at - starts Q (get_or w u.turn 0)) v.turn (idx v)
     match_of u v t e = subst (λ (y : Run). RunsMatch QB (block_at w) u.turn (u.at - starts Q (get_or w u.turn 0)) y.turn (idx y)) (is_old u v t e) (runs_match u.turn u.at (turn_of u t))
 
     pub follows : Follows P Q was w
@@ -223,16 +224,16 @@ module _ (P Q : Picture) (was : List ℕ) (gP : Accepted P) (st : Standing P Q w
           let n = u.turn in
           let j = u.at - starts Q (get_or w n 0) in
           let f = find_src (as_write P w) (takes PB (block_at w) (old_run u).turn (idx (old_run u))) i (record { by = v; slot = k })
-          (ap (λ (l : List (Option Write)). get_or l i none) (sym (takes_before n u.at a)) ∙ ap (λ (y : Run). get_or (W.takes P w y) i none) (is_old u v' t q) ∙ e) in
+          (ap (λ (l : List (Option Write)). get_or l i None) (sym (takes_before n u.at a)) ∙ ap (λ (y : Run). get_or (W.takes P w y) i None) (is_old u v' t q) ∙ e) in
           reader n j (old_run u).turn (idx (old_run u)) a.in_walk (j_low n u.at a) (runs_match n u.at a) v k none_of f.0 f.1 f.2;
     }
       where
         reader : (n j m i : ℕ) → n < length w → j < length (QB (get_or w n 0)) → RunsMatch QB (block_at w) n j m i → (v : Run) (k : ℕ)
-            → ((u : Run) → T (is_run Q w u) → ¬ (match P was w u ≡ some v)) → (y : LastWrite) → In y (takes PB (block_at w) m i) → as_write P w y ≡ some (record { by = v; slot = k }) → ⊥
-        reader n j m i a c r v k out M.none g e = none-ne-some (record { by = v; slot = k }) e
+            → ((u : Run) → T (is_run Q w u) → ¬ (match P was w u ≡ Some v)) → (y : LastWrite) → In y (takes PB (block_at w) m i) → as_write P w y ≡ Some (record { by = v; slot = k }) → ⊥
+        reader n j m i a c r v k out M.none g e = none-some (record { by = v; slot = k }) e
         reader n j m i a c r v k out (M.write m' i' s) g e =
             let z = cl.matched n j m i a c r m' i' s g in
             let t = turn_at z.0 z.1 z.2 z.3 in
-            let f = some-injective (record { by = record { turn = m'; at = starts P (get_or w m' 0) + i' }; slot = s }) (record { by = v; slot = k }) e in
+            let f = same_Some (record { by = record { turn = m'; at = starts P (get_or w m' 0) + i' }; slot = s }) (record { by = v; slot = k }) e in
             out (record { turn = z.0; at = starts Q (get_or w z.0 0) + z.1 }) (is_turn Q z.0 (starts Q (get_or w z.0 0) + z.1) t.in_walk t.from t.to)
-            (by_index z.0 z.1 m' i' z.2 z.3 z.4 ∙ ap (λ (x : Write). some x.by) f)
+            (by_index z.0 z.1 m' i' z.2 z.3 z.4 ∙ ap (λ (x : Write). Some x.by) f)

@@ -1,8 +1,9 @@
 -- The greatest legal set keeps the rules on registers that the walk asks for. Assumes nothing.
+use Rattle.std.proofs.lemmas.Option.{none-some, same_Some}
+use Rattle.std.specs.Prelude.{Option, None, Some}
 use mathlib.Core.Path.{◌≡◌, refl, sym, ap, ◌∙◌, subst}
 use mathlib.Core.Bool.{Bool, true, false, true≢false}
 use mathlib.Core.List.{List}
-use mathlib.Core.Option.{Option, none, some, none-ne-some, some-injective}
 use Prim.Native.Nat.{ℕ, ◌≤◌, ◌<◌}
 use native.Mathlib.Omega.{arith}
 use lib.ListN.{get_or, length, take}
@@ -18,9 +19,9 @@ use Rattle.walk.specs.Machine.{Instr, no_instr}
 use Rattle.walk.specs.Rules.{Definer, entry, by, defined_by, Legal}
 use Rattle.kept.proofs.Straight.{opt, Tied, def_writer, reads_it, last_writes}
 
-back : (e : Definer) (d : ℕ) → opt e ≡ some d → e ≡ by d
-back entry d q = absurd (none-ne-some d q)
-back (by p) d q = ap by (some-injective p d q)
+back : (e : Definer) (d : ℕ) → opt e ≡ Some d → e ≡ by d
+back entry d q = absurd (none-some d q)
+back (by p) d q = ap by (same_Some p d q)
 
 module _ (run : List Fact) (S : List Instr) (tied : Tied run S) (needed : ℕ → Bool) (m : ℕ) (short : m ≤ length S) where
   abbrev pub mark : ℕ → Bool
@@ -53,9 +54,9 @@ module _ (run : List Fact) (S : List Instr) (tied : Tied run S) (needed : ℕ �
         q (record { later = l; inside = (let g = tied.len in omega arith); outside = f }));
   }
     where
-      none_marked : (o : Option ℕ) → ((d : ℕ) → o ≡ some d → mark d ≡ true → ⊥) → when_some mark o ≡ false
-      none_marked none h = refl
-      none_marked (some d) h = go (mark d) refl
+      none_marked : (o : Option ℕ) → ((d : ℕ) → o ≡ Some d → mark d ≡ true → ⊥) → when_some mark o ≡ false
+      none_marked None h = refl
+      none_marked (Some d) h = go (mark d) refl
         where
           go : (b : Bool) → mark d ≡ b → b ≡ false
           go true e = absurd (h d refl e)

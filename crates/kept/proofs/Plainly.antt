@@ -1,8 +1,8 @@
 -- The plain machine over a picture's flat words is that over its program of the walk. Assumes nothing.
+use Rattle.std.specs.Prelude.{Option, None, Some}
 use mathlib.Core.Path.{◌≡◌, refl, sym, ap, ◌∙◌, subst}
 use mathlib.Core.Bool.{Bool, true, false, not, ◌&&◌, cond}
 use mathlib.Core.List.{List, [], ◌∷◌, map}
-use mathlib.Core.Option.{Option, none, some}
 use Prim.Native.Nat.{ℕ, zero, suc, ◌+◌, ◌-◌, ◌≤◌, ◌<◌}
 use native.Mathlib.Nat.{add-zero, add-suc, not-suc-le-zero, le_of_suc-le-suc}
 use native.Mathlib.Omega.{arith}
@@ -23,13 +23,13 @@ use Rattle.kept.proofs.Program.{Spot, placed, prog, slots_at}
 
 -- ---- the latest place
 
-pub latest_same : (w : List ℕ) (n b : ℕ) → get_or w (latest_visit (block_at w) n b) 0 ≡ b → W.latest w n b ≡ some (latest_visit (block_at w) n b)
+pub latest_same : (w : List ℕ) (n b : ℕ) → get_or w (latest_visit (block_at w) n b) 0 ≡ b → W.latest w n b ≡ Some (latest_visit (block_at w) n b)
 unfolding latest_visit
-latest_same w zero b e = ap (λ (c : Bool). elim c as (λ z. Option ℕ) [ true ↦ some 0 | false ↦ none ]) (eq-eqb (get_or w 0 0) b e)
+latest_same w zero b e = ap (λ (c : Bool). elim c as (λ z. Option ℕ) [ true ↦ Some 0 | false ↦ None ]) (eq-eqb (get_or w 0 0) b e)
 latest_same w (suc n) b e = go (latest_same w n b) (eqb (get_or w (suc n) 0) b) e
   where
-    go : (get_or w (latest_visit (block_at w) n b) 0 ≡ b → W.latest w n b ≡ some (latest_visit (block_at w) n b)) → (c : Bool) → get_or w (cond c (suc n) (latest_visit (block_at w) n b)) 0 ≡ b
-        → ◌≡◌ {A = Option ℕ} (elim c as (λ z. Option ℕ) [ true ↦ some (suc n) | false ↦ W.latest w n b ]) (some (cond c (suc n) (latest_visit (block_at w) n b)))
+    go : (get_or w (latest_visit (block_at w) n b) 0 ≡ b → W.latest w n b ≡ Some (latest_visit (block_at w) n b)) → (c : Bool) → get_or w (cond c (suc n) (latest_visit (block_at w) n b)) 0 ≡ b
+        → ◌≡◌ {A = Option ℕ} (elim c as (λ z. Option ℕ) [ true ↦ Some (suc n) | false ↦ W.latest w n b ]) (Some (cond c (suc n) (latest_visit (block_at w) n b)))
     go k true e = refl
     go k false e = k e
 
@@ -37,8 +37,8 @@ latest_same w (suc n) b e = go (latest_same w n b) (eqb (get_or w (suc n) 0) b) 
 
 module _ (P : Picture) (w : List ℕ) where
   abbrev pub as_write : LastWrite → Option Write
-  as_write M.none = none
-  as_write (M.write n j s) = some (record { by = record { turn = n; at = starts P (get_or w n 0) + j }; slot = s })
+  as_write M.none = None
+  as_write (M.write n j s) = Some (record { by = record { turn = n; at = starts P (get_or w n 0) + j }; slot = s })
 
   module _ (n i p : ℕ) (e : starts P (get_or w n 0) + i ≡ p) where
     stores_same : (k : ℕ) (os : List Role) (rs : List ℕ) (s : ℕ → Option Write) (σ : State) → ((x : ℕ) → s x ≡ as_write (σ x))
@@ -48,18 +48,18 @@ module _ (P : Picture) (w : List ℕ) where
     stores_same k (o ∷ os) [] s σ h x = h x
     stores_same k (o ∷ os) (r ∷ rs) s σ h x = go (stores_same (suc k) os rs) (writing o && not (eqb r absent))
       where
-        step : (y : ℕ) → (c : Bool) → cond c (some (record { by = record { turn = n; at = p }; slot = k })) (s y) ≡ as_write (cond c (M.write n i k) (σ y))
-        step y true = ap (λ (q : ℕ). some (record { by = record { turn = n; at = q }; slot = k })) (sym e)
+        step : (y : ℕ) → (c : Bool) → cond c (Some (record { by = record { turn = n; at = p }; slot = k })) (s y) ≡ as_write (cond c (M.write n i k) (σ y))
+        step y true = ap (λ (q : ℕ). Some (record { by = record { turn = n; at = q }; slot = k })) (sym e)
         step y false = h y
 
-        on : (y : ℕ) → cond (eqb y r) (some (record { by = record { turn = n; at = p }; slot = k })) (s y) ≡ as_write (put σ r (M.write n i k) y)
+        on : (y : ℕ) → cond (eqb y r) (Some (record { by = record { turn = n; at = p }; slot = k })) (s y) ≡ as_write (put σ r (M.write n i k) y)
         on y = step y (eqb y r)
 
         go : ((s : ℕ → Option Write) (σ : State) → ((x : ℕ) → s x ≡ as_write (σ x)) → (x : ℕ) → stores (record { turn = n; at = p }) (suc k) os rs s x ≡ as_write (store n i (slots_at (suc k) os rs) (chosen writing os rs) σ x))
             → (c : Bool)
-            → stores (record { turn = n; at = p }) (suc k) os rs (λ x. cond (c && eqb x r) (some (record { by = record { turn = n; at = p }; slot = k })) (s x)) x
+            → stores (record { turn = n; at = p }) (suc k) os rs (λ x. cond (c && eqb x r) (Some (record { by = record { turn = n; at = p }; slot = k })) (s x)) x
             ≡ as_write (store n i (cond c (k ∷ slots_at (suc k) os rs) (slots_at (suc k) os rs)) (cond c (r ∷ chosen writing os rs) (chosen writing os rs)) σ x)
-        go rec true = rec (λ x. cond (eqb x r) (some (record { by = record { turn = n; at = p }; slot = k })) (s x)) (put σ r (M.write n i k)) on x
+        go rec true = rec (λ x. cond (eqb x r) (Some (record { by = record { turn = n; at = p }; slot = k })) (s x)) (put σ r (M.write n i k)) on x
         go rec false = rec s σ h x
 
   module _ (u : ℕ → Spot) where

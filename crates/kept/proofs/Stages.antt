@@ -1,8 +1,8 @@
 -- One round more of the pictures between rounds, case by case. Assumes nothing.
+use Rattle.std.specs.Prelude.{Option, None, Some}
 use mathlib.Core.Path.{◌≡◌, sym, ap, ◌∙◌, subst}
 use mathlib.Core.Bool.{Bool, true, false}
 use mathlib.Core.List.{List}
-use mathlib.Core.Option.{Option, none, some}
 use Prim.Native.Nat.{ℕ, zero, suc}
 use native.Mathlib.Omega.{arith}
 use Rattle.words.specs.Lists.{concat}
@@ -25,38 +25,38 @@ module _ (G : Facts) (k : ℕ) (P : Picture) (was : List ℕ) where
   by_room a b = elim b as (λ z. Stage) [ true ↦ further a | false ↦ here ]
 
   abbrev by_plan : Option Plan → Stage
-  by_plan o = elim o as (λ z. Stage) [ none ↦ here | some a ↦ by_room a (fits P (apply P a)) ]
+  by_plan o = elim o as (λ z. Stage) [ None ↦ here | Some a ↦ by_room a (fits P (apply P a)) ]
 
-  pub stage_done : round P G ≡ none → stage G (suc k) P was ≡ here
+  pub stage_done : round P G ≡ None → stage G (suc k) P was ≡ here
   stage_done e = ap by_plan e
 
-  pub stage_short : (a : Plan) → round P G ≡ some a → fits P (apply P a) ≡ false → stage G (suc k) P was ≡ here
+  pub stage_short : (a : Plan) → round P G ≡ Some a → fits P (apply P a) ≡ false → stage G (suc k) P was ≡ here
   stage_short a e f = ap by_plan e ∙ ap (by_room a) f
 
-  pub stage_more : (a : Plan) → round P G ≡ some a → fits P (apply P a) ≡ true → stage G (suc k) P was ≡ further a
+  pub stage_more : (a : Plan) → round P G ≡ Some a → fits P (apply P a) ≡ true → stage G (suc k) P was ≡ further a
   stage_more a e f = ap by_plan e ∙ ap (by_room a) f
 
 -- ---- a round more at the end
 
-not_none : (o : Option Plan) (a : Plan) → o ≡ none → o ≡ some a → ⊥
+not_none : (o : Option Plan) (a : Plan) → o ≡ None → o ≡ Some a → ⊥
 not_none o a p q = let z : ◌≡◌ {A = ℕ} 0 1 = cc in omega arith
 
-same_plan : (o : Option Plan) (a b : Plan) → o ≡ some a → o ≡ some b → a ≡ b
+same_plan : (o : Option Plan) (a b : Plan) → o ≡ Some a → o ≡ Some b → a ≡ b
 same_plan o a b p q = cc
 
 -- what k + 1 rounds leave is what a round makes of what k leave
-pub last_round : (G : Facts) (k : ℕ) (P : Picture) (was : List ℕ) (a : Plan) → round (stage G k P was).now G ≡ some a → fits (stage G k P was).now (apply (stage G k P was).now a) ≡ true
+pub last_round : (G : Facts) (k : ℕ) (P : Picture) (was : List ℕ) (a : Plan) → round (stage G k P was).now G ≡ Some a → fits (stage G k P was).now (apply (stage G k P was).now a) ≡ true
     → (stage G (suc k) P was).now ≡ apply (stage G k P was).now a
 last_round G zero P was a e f = ap (λ (s : Stage). s.now) (stage_more G zero P was a e f)
 last_round G (suc k) P was a e f = go (λ b. last_round G k (apply P b) (carried was (concat (order P b))) a) (next P G)
   where
     Has : Picture → Type 0
-    Has Q = (round Q G ≡ some a) × (fits Q (apply Q a) ≡ true)
+    Has Q = (round Q G ≡ Some a) × (fits Q (apply Q a) ≡ true)
 
     has : Has (stage G (suc k) P was).now
     has = (e, f)
 
-    go : ((b : Plan) → round (further G k P was b).now G ≡ some a → fits (further G k P was b).now (apply (further G k P was b).now a) ≡ true → (further G (suc k) P was b).now ≡ apply (further G k P was b).now a)
+    go : ((b : Plan) → round (further G k P was b).now G ≡ Some a → fits (further G k P was b).now (apply (further G k P was b).now a) ≡ true → (further G (suc k) P was b).now ≡ apply (further G k P was b).now a)
         → Next P G → (stage G (suc (suc k)) P was).now ≡ apply (stage G (suc k) P was).now a
     go rec (no_move n) =
         let h : Has P = subst (λ (s : Stage). Has s.now) (stage_done G k P was n) has in

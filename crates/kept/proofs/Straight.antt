@@ -1,9 +1,9 @@
 -- A chain's facts against straight code: the writer that `analyse` finds is the last one before. Assumes nothing.
+use Rattle.std.specs.Prelude.{Option, None, Some}
 use mathlib.Core.Path.{◌≡◌, sym, ap, ◌∙◌, subst}
 use mathlib.Core.Logic.{◌⊎◌, inl, inr, ⊎_elim}
 use mathlib.Core.Bool.{Bool, not, cond}
 use mathlib.Core.List.{List, map}
-use mathlib.Core.Option.{Option, none, some}
 use Prim.Native.Nat.{ℕ, zero, suc, ◌+◌, ◌-◌, ◌≤◌, ◌<◌}
 use native.Mathlib.Nat.{zero-add}
 use native.Mathlib.Omega.{arith}
@@ -24,8 +24,8 @@ use Rattle.walk.proofs.Definers.{defined_here, defined_before, defined_entry, en
 -- ---- the last writer
 
 abbrev pub opt : Definer → Option ℕ
-opt entry = none
-opt (by p) = some p
+opt entry = None
+opt (by p) = Some p
 
 pub record Tied (run : List Fact) (S : List Instr) : Type 0 where
   pub len : length run ≡ length S
@@ -37,12 +37,12 @@ module _ (run : List Fact) (S : List Instr) (tied : Tied run S) where
   def_writer r zero h = ap opt (defined_entry S r)
   def_writer r (suc q) h =
       ⊎_elim
-      (λ z. ap opt (defined_here S q r z) ∙ sym (step ∙ ap (λ (b : Bool). cond b (some (0 + length (take q run))) (last_writer 0 (take q run) r)) (ap (mem r) (tied.defs q h) ∙ in_mem r (get_or S q no_instr).writes z)
-      ∙ ap some (zero-add (length (take q run)) ∙ length-take-le q run (let e = tied.len in omega arith))))
-      (λ z. ap opt (defined_before S q r z) ∙ def_writer r q (omega arith) ∙ sym (step ∙ ap (λ (b : Bool). cond b (some (0 + length (take q run))) (last_writer 0 (take q run) r)) (ap (mem r) (tied.defs q h) ∙ not_in_mem r (get_or S q no_instr).writes z)))
+      (λ z. ap opt (defined_here S q r z) ∙ sym (step ∙ ap (λ (b : Bool). cond b (Some (0 + length (take q run))) (last_writer 0 (take q run) r)) (ap (mem r) (tied.defs q h) ∙ in_mem r (get_or S q no_instr).writes z)
+      ∙ ap Some (zero-add (length (take q run)) ∙ length-take-le q run (let e = tied.len in omega arith))))
+      (λ z. ap opt (defined_before S q r z) ∙ def_writer r q (omega arith) ∙ sym (step ∙ ap (λ (b : Bool). cond b (Some (0 + length (take q run))) (last_writer 0 (take q run) r)) (ap (mem r) (tied.defs q h) ∙ not_in_mem r (get_or S q no_instr).writes z)))
       (in? r (get_or S q no_instr).writes)
     where
-      step : last_writer 0 (take (suc q) run) r ≡ cond (mem r (fact_at run q).defs) (some (0 + length (take q run))) (last_writer 0 (take q run) r)
+      step : last_writer 0 (take (suc q) run) r ≡ cond (mem r (fact_at run q).defs) (Some (0 + length (take q run))) (last_writer 0 (take q run) r)
       step = ap (λ (l : List Fact). last_writer 0 l r) (take-suc run q no_fact (let e = tied.len in omega arith)) ∙ writer_snoc 0 (take q run) (fact_at run q) r
 
   -- q reads p's value

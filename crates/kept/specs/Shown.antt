@@ -1,7 +1,6 @@
 -- The claim of specs/Walk as a test, computed on small pictures. The test is what the statement asks of the runs of one walk, no more
 -- (proofs/Accord): a row that fails shows a statement that is false there. Assumes nothing.
-use Rattle.std.specs.Prelude.{◌≡◌, refl, Bool, true, false, ◌&&◌, List, [], ◌∷◌, ◌++◌, map, ℕ, eqb, leb, get_or, length, replicate}
-use Rattle.std.proofs.Math.Option.{Option, none, some}
+use Rattle.std.specs.Prelude.{◌≡◌, refl, Bool, true, false, ◌&&◌, List, [], ◌∷◌, ◌++◌, map, ℕ, eqb, leb, get_or, length, replicate, Option, None, Some}
 use Rattle.words.specs.Lists.{◌implies◌, range, upto, all, any, concat}
 use Rattle.model.specs.Picture.{Picture, places}
 use Rattle.model.specs.Analyse.{when_some, unless_some}
@@ -25,10 +24,10 @@ module _ (L Q : Picture) (was w : List ℕ) where
   matches_it v u = when_some (same_run v) (match L was w u)
 
   abbrev pub write_matches : Option Write → Option Write → Bool
-  write_matches none none = true
-  write_matches none (some v) = false
-  write_matches (some u) none = false
-  write_matches (some u) (some v) = matches_it v.by u.by && eqb u.slot v.slot
+  write_matches None None = true
+  write_matches None (Some v) = false
+  write_matches (Some u) None = false
+  write_matches (Some u) (Some v) = matches_it v.by u.by && eqb u.slot v.slot
 
   abbrev pub each_matches : List (Option Write) → List (Option Write) → Bool
   each_matches [] [] = true

@@ -1,7 +1,6 @@
 -- 01, "The walk": demand 3 as a statement. This page is read beside that section, sentence by sentence; the theorem is
 -- `demand3 : Demand3` (proofs/Answer), and specs/Shown computes the same claim on small pictures. Assumes nothing.
-use Rattle.std.specs.Prelude.{◌≡◌, Bool, true, false, not, ◌&&◌, cond, List, [], ◌∷◌, ◌++◌, map, ℕ, zero, suc, ◌-◌, ◌≤◌, ◌<◌, T, eqb, ltb, leb, get_or, length, take, drop}
-use Rattle.std.proofs.Math.Option.{Option, none, some}
+use Rattle.std.specs.Prelude.{◌≡◌, Bool, true, false, not, ◌&&◌, cond, List, [], ◌∷◌, ◌++◌, map, ℕ, zero, suc, ◌-◌, ◌≤◌, ◌<◌, T, eqb, ltb, leb, get_or, length, take, drop, Option, None, Some}
 use Rattle.words.specs.Lists.{range, upto, mem, concat, same}
 use Rattle.model.specs.Kinds.{Role, writing}
 use Rattle.model.specs.Picture.{Picture, Inst, inst, absent, slots, roles, reads, nblocks, starts, ends, places, succs, preds}
@@ -27,8 +26,8 @@ abbrev pub stage : Facts → ℕ → Picture → List ℕ → Stage
 stage G zero P was = record { now = P; was = was }
 stage G (suc k) P was =
     elim (round P G) [
-      | none ↦ record { now = P; was = was }
-      | some a ↦ elim (fits P (apply P a)) [ true ↦ stage G k (apply P a) (carried was (concat (order P a))) | false ↦ record { now = P; was = was } ]
+      | None ↦ record { now = P; was = was }
+      | Some a ↦ elim (fits P (apply P a)) [ true ↦ stage G k (apply P a) (carried was (concat (order P a))) | false ↦ record { now = P; was = was } ]
     ]
 
 -- k rounds on the picture lent, where each position stands at its own place
@@ -78,14 +77,14 @@ abbrev pub Kept : Type 0
 Kept = ℕ → Option Write
 
 abbrev pub nothing : Kept
-nothing r = none
+nothing r = None
 
 -- Each present slot that writes, in order, stores this run and slot as its register's write; slots counted from k.
 abbrev pub stores : Run → ℕ → List Role → List ℕ → Kept → Kept
 stores u k [] rs s = s
 stores u k (o ∷ os) [] s = s
 stores u k (o ∷ os) (r ∷ rs) s =
-    stores u (suc k) os rs (λ x. cond (writing o && not (eqb r absent) && eqb x r) (some (record { by = u; slot = k })) (s x))
+    stores u (suc k) os rs (λ x. cond (writing o && not (eqb r absent) && eqb x r) (Some (record { by = u; slot = k })) (s x))
 
 module _ (P : Picture) where
   -- positions run one after the other at place n of the walk
@@ -114,22 +113,22 @@ module _ (P : Picture) where
 
 -- the greatest place up to n that holds b
 abbrev pub latest : List ℕ → ℕ → ℕ → Option ℕ
-latest w zero b = elim (eqb (get_or w 0 0) b) [ true ↦ some 0 | false ↦ none ]
-latest w (suc n) b = elim (eqb (get_or w (suc n) 0) b) [ true ↦ some (suc n) | false ↦ latest w n b ]
+latest w zero b = elim (eqb (get_or w 0 0) b) [ true ↦ Some 0 | false ↦ None ]
+latest w (suc n) b = elim (eqb (get_or w (suc n) 0) b) [ true ↦ Some (suc n) | false ↦ latest w n b ]
 
 module _ (P : Picture) (was : List ℕ) (w : List ℕ) where
   -- A run after matches the run before of its old place, at the greatest place up to its own that holds its old block.
   abbrev pub match : Run → Option Run
   match u =
       let o = get_or was u.at 0 in
-      elim (latest w u.turn (home P o)) [ none ↦ none | some m ↦ some (record { turn = m; at = o }) ]
+      elim (latest w u.turn (home P o)) [ None ↦ None | Some m ↦ Some (record { turn = m; at = o }) ]
 
   -- Writes match if their runs match and their slots are the same; or a value is taken in both from none.
   abbrev pub Matches : Option Write → Option Write → Type 0
-  Matches none none = Unit {0}
-  Matches none (some v) = ⊥
-  Matches (some u) none = ⊥
-  Matches (some u) (some v) = (match u.by ≡ some v.by) × (u.slot ≡ v.slot)
+  Matches None None = Unit {0}
+  Matches None (Some v) = ⊥
+  Matches (Some u) None = ⊥
+  Matches (Some u) (Some v) = (match u.by ≡ Some v.by) × (u.slot ≡ v.slot)
 
   -- Reads are compared at the same slot or list place.
   abbrev pub Each : List (Option Write) → List (Option Write) → Type 0
@@ -163,15 +162,15 @@ pub record Once (L Q : Picture) (was : List ℕ) : Type 0 where
 -- The claim on one walk, followed in the picture as lent, L, and in the picture as it then stands, Q
 pub record Follows (L Q : Picture) (was w : List ℕ) : Type 0 where
   -- each run after matches a run before, that is one of the walk; and no two match one
-  pub matched : (u : Run) → T (is_run Q w u) → (v : Run) × (match L was w u ≡ some v) × T (is_run L w v)
-  pub apart : (u u' v : Run) → T (is_run Q w u) → T (is_run Q w u') → match L was w u ≡ some v → match L was w u' ≡ some v → u ≡ u'
+  pub matched : (u : Run) → T (is_run Q w u) → (v : Run) × (match L was w u ≡ Some v) × T (is_run L w v)
+  pub apart : (u u' v : Run) → T (is_run Q w u) → T (is_run Q w u') → match L was w u ≡ Some v → match L was w u' ≡ Some v → u ≡ u'
   -- each register read takes its value from the matching write, or in both from none
-  pub reads_match : (u v : Run) → T (is_run Q w u) → match L was w u ≡ some v → Each L was w (takes Q w u) (takes L w v)
+  pub reads_match : (u v : Run) → T (is_run Q w u) → match L was w u ≡ Some v → Each L was w (takes Q w u) (takes L w v)
   -- a run left unmatched had been read only by unmatched runs: if v' takes a write of v, and no run after matches v, none matches v'
   pub unmatched : (v v' : Run) (k j : ℕ) → T (is_run L w v) → T (is_run L w v')
-      → get_or (takes L w v') j none ≡ some (record { by = v; slot = k })
-      → ((u : Run) → T (is_run Q w u) → ¬ (match L was w u ≡ some v))
-      → (u : Run) → T (is_run Q w u) → ¬ (match L was w u ≡ some v')
+      → get_or (takes L w v') j None ≡ Some (record { by = v; slot = k })
+      → ((u : Run) → T (is_run Q w u) → ¬ (match L was w u ≡ Some v))
+      → (u : Run) → T (is_run Q w u) → ¬ (match L was w u ≡ Some v')
 
 -- of two pictures
 pub record Keeps (L Q : Picture) (was : List ℕ) : Type 0 where

@@ -1,9 +1,9 @@
 -- A chain's facts, position by position: each is that of its instruction after those before it, and so is the last writer; and what
 -- is movable there is of a kind that may move. Assumes nothing.
+use Rattle.std.specs.Prelude.{Option, None, Some}
 use mathlib.Core.Path.{◌≡◌, refl, sym, ap, ◌∙◌, subst}
 use mathlib.Core.Bool.{Bool, true, false, cond}
 use mathlib.Core.List.{List, [], ◌∷◌, ◌++◌, map, append_assoc, append-nil}
-use mathlib.Core.Option.{Option, none, some}
 use Prim.Native.Nat.{ℕ, zero, suc, ◌+◌, ◌<◌}
 use native.Mathlib.Nat.{not-suc-le-zero, le_of_suc-le-suc, suc-add, add-suc, add-zero, zero-add}
 use native.Mathlib.Omega.{arith}
@@ -66,15 +66,15 @@ movable_arm i p k o l y os writes t = t
 movable_arm i p k o l y os other t = t
 
 -- the last writer, with one fact more
-pub writer_snoc : (k : ℕ) (past : List Fact) (f : Fact) (r : ℕ) → last_writer k (past ++ f ∷ []) r ≡ cond (mem r f.defs) (some (k + length past)) (last_writer k past r)
-writer_snoc k [] f r = ap (λ (n : ℕ). cond (mem r f.defs) (some n) none) (sym (add-zero k))
+pub writer_snoc : (k : ℕ) (past : List Fact) (f : Fact) (r : ℕ) → last_writer k (past ++ f ∷ []) r ≡ cond (mem r f.defs) (Some (k + length past)) (last_writer k past r)
+writer_snoc k [] f r = ap (λ (n : ℕ). cond (mem r f.defs) (Some n) None) (sym (add-zero k))
 writer_snoc k (g ∷ past) f r =
-    ap (λ (o : Option ℕ). elim o as (λ z. Option ℕ) [ some q ↦ some q | none ↦ cond (mem r g.defs) (some k) none ]) (writer_snoc (suc k) past f r)
+    ap (λ (o : Option ℕ). elim o as (λ z. Option ℕ) [ Some q ↦ Some q | None ↦ cond (mem r g.defs) (Some k) None ]) (writer_snoc (suc k) past f r)
     ∙ go (mem r f.defs)
   where
-    go : (b : Bool) → ◌≡◌ {A = Option ℕ} (elim (cond b (some (suc k + length past)) (last_writer (suc k) past r)) as (λ z. Option ℕ) [ some q ↦ some q | none ↦ cond (mem r g.defs) (some k) none ])
-        (cond b (some (k + suc (length past))) (last_writer k (g ∷ past) r))
-    go true = ap some (suc-add k (length past) ∙ sym (add-suc k (length past)))
+    go : (b : Bool) → ◌≡◌ {A = Option ℕ} (elim (cond b (Some (suc k + length past)) (last_writer (suc k) past r)) as (λ z. Option ℕ) [ Some q ↦ Some q | None ↦ cond (mem r g.defs) (Some k) None ])
+        (cond b (Some (k + suc (length past))) (last_writer k (g ∷ past) r))
+    go true = ap Some (suc-add k (length past) ∙ sym (add-suc k (length past)))
     go false = refl
 
 module _ (G : Facts) (ops : List ℕ) where

@@ -1,9 +1,9 @@
 -- The picture that a move leaves: its operands, its records, its blocks. Assumes nothing.
+use Rattle.std.specs.Prelude.{Option, None, Some}
 use mathlib.Core.Path.{◌≡◌, refl, sym, ap, ap₂, ◌∙◌, subst}
 use mathlib.Core.Logic.{inl, inr, ⊎_elim}
 use mathlib.Core.Bool.{Bool, true, false, cond}
 use mathlib.Core.List.{List, [], ◌∷◌, ◌++◌, map, append_assoc}
-use mathlib.Core.Option.{Option, none, some}
 use Prim.Native.Nat.{ℕ, suc, ◌+◌, ◌-◌, ◌*◌, ◌≤◌, ◌<◌}
 use native.Mathlib.Nat.{zero-add, le_refl}
 use native.Mathlib.Omega.{arith}
@@ -105,8 +105,8 @@ module _ (P : Picture) (G : Facts) (a : Plan) (mv : Moving P G a) where
 
   -- what holds of a register and of those given holds of its new name
   named : (K : ℕ → Type 0) → ((d r : ℕ) → Got d r given → K r) → (r : ℕ) (o : Option ℕ) → K r → K (new_name P a given r o)
-  named K h r none e = e
-  named K h r (some d) e = go (member a.set d)
+  named K h r None e = e
+  named K h r (Some d) e = go (member a.set d)
     where
       go : (b : Bool) → K (elim b as (λ z. ℕ) [ true ↦ lookup given d r | false ↦ r ])
       go true = looked_up K given h d r e

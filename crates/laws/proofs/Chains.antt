@@ -1,10 +1,11 @@
 -- The chain that the search finds from a block: its blocks, each the sole successor of the one before and with one predecessor, none
 -- twice, and its end in a CondBr; and its places. Assumes nothing.
+use Rattle.std.proofs.lemmas.Option.{none-some, same_Some}
+use Rattle.std.specs.Prelude.{Option, None, Some}
 use mathlib.Core.Path.{◌≡◌, refl, sym, ap, ap₂, ◌∙◌, subst}
 use mathlib.Core.Logic.{inl, inr}
 use mathlib.Core.Bool.{Bool, true, false, not, ◌&&◌}
 use mathlib.Core.List.{List, [], ◌∷◌, ◌++◌, append_assoc, append-nil, head-eq_of_cons-eq, tail-eq_of_cons-eq, nil≢cons}
-use mathlib.Core.Option.{Option, none, some, none-ne-some, some-injective}
 use Prim.Native.Nat.{ℕ, zero, suc, ◌+◌, ◌-◌, ◌≤◌, ◌<◌, zero-le}
 use native.Mathlib.Omega.{arith}
 use lib.Dec.{eqb, eqb→eq}
@@ -36,9 +37,9 @@ module _ (P : Picture) where
     pub ends_in : ending P (last_of_chain cur rest) ≡ parts c.t c.f
     pub links : Links bs cur rest
 
-  stop : (bs : List ℕ) (cur t f : ℕ) (c : Chain) → ending P cur ≡ parts t f → ◌≡◌ {A = Option Chain} (some (record { blocks = bs; last = cur; t = t; f = f })) (some c) → Found bs cur c
+  stop : (bs : List ℕ) (cur t f : ℕ) (c : Chain) → ending P cur ≡ parts t f → ◌≡◌ {A = Option Chain} (Some (record { blocks = bs; last = cur; t = t; f = f })) (Some c) → Found bs cur c
   stop bs cur t f c e q =
-      let g = some-injective (record { blocks = bs; last = cur; t = t; f = f }) c q in
+      let g = same_Some (record { blocks = bs; last = cur; t = t; f = f }) c q in
       record {
         rest = [];
         blocks_are = ap (λ (z : Chain). z.blocks) (sym g) ∙ sym (append-nil bs);
@@ -47,18 +48,18 @@ module _ (P : Picture) where
         links = tt;
       }
 
-  found : (k : ℕ) (bs : List ℕ) (cur : ℕ) (c : Chain) → chain_from P k bs cur ≡ some c → Found bs cur c
+  found : (k : ℕ) (bs : List ℕ) (cur : ℕ) (c : Chain) → chain_from P k bs cur ≡ Some c → Found bs cur c
   found zero bs cur c q = go (ending P cur) refl q
     where
-      go : (e : End) → ending P cur ≡ e → ◌≡◌ {A = Option Chain} (elim e as (λ z. Option Chain) [ goes to ↦ none | parts t f ↦ some (record { blocks = bs; last = cur; t = t; f = f }) | cases c ↦ none | stops ↦ none ]) (some c) → Found bs cur c
-      go (goes to) e q = absurd (none-ne-some c q)
+      go : (e : End) → ending P cur ≡ e → ◌≡◌ {A = Option Chain} (elim e as (λ z. Option Chain) [ goes to ↦ None | parts t f ↦ Some (record { blocks = bs; last = cur; t = t; f = f }) | cases c ↦ None | stops ↦ None ]) (Some c) → Found bs cur c
+      go (goes to) e q = absurd (none-some c q)
       go (parts t f) e q = stop bs cur t f c e q
-      go (cases n) e q = absurd (none-ne-some c q)
-      go stops e q = absurd (none-ne-some c q)
+      go (cases n) e q = absurd (none-some c q)
+      go stops e q = absurd (none-some c q)
   found (suc k) bs cur c q = go (λ to. found k (bs ++ to ∷ []) to c) (ending P cur) refl q
     where
-      on : (to : ℕ) → (chain_from P k (bs ++ to ∷ []) to ≡ some c → Found (bs ++ to ∷ []) to c) → ending P cur ≡ goes to → (b : Bool) → (eqb (length (preds P to)) 1 && not (mem to bs)) ≡ b
-          → ◌≡◌ {A = Option Chain} (elim b as (λ z. Option Chain) [ true ↦ chain_from P k (bs ++ to ∷ []) to | false ↦ none ]) (some c) → Found bs cur c
+      on : (to : ℕ) → (chain_from P k (bs ++ to ∷ []) to ≡ Some c → Found (bs ++ to ∷ []) to c) → ending P cur ≡ goes to → (b : Bool) → (eqb (length (preds P to)) 1 && not (mem to bs)) ≡ b
+          → ◌≡◌ {A = Option Chain} (elim b as (λ z. Option Chain) [ true ↦ chain_from P k (bs ++ to ∷ []) to | false ↦ None ]) (Some c) → Found bs cur c
       on to rec e true t q =
           let r = rec q in
           let u = true_T (eqb (length (preds P to)) 1 && not (mem to bs)) t in
@@ -74,22 +75,22 @@ module _ (P : Picture) where
               r.links,
             );
           }
-      on to rec e false t q = absurd (none-ne-some c q)
+      on to rec e false t q = absurd (none-some c q)
 
-      go : ((to : ℕ) → chain_from P k (bs ++ to ∷ []) to ≡ some c → Found (bs ++ to ∷ []) to c) → (e : End) → ending P cur ≡ e
+      go : ((to : ℕ) → chain_from P k (bs ++ to ∷ []) to ≡ Some c → Found (bs ++ to ∷ []) to c) → (e : End) → ending P cur ≡ e
           → ◌≡◌ {A = Option Chain} (elim e as (λ z. Option Chain) [
-            | goes to ↦ elim (eqb (length (preds P to)) 1 && not (mem to bs)) as (λ z. Option Chain) [ true ↦ chain_from P k (bs ++ to ∷ []) to | false ↦ none ]
-            | parts t f ↦ some (record { blocks = bs; last = cur; t = t; f = f })
-            | cases c ↦ none
-            | stops ↦ none
-          ]) (some c) → Found bs cur c
+            | goes to ↦ elim (eqb (length (preds P to)) 1 && not (mem to bs)) as (λ z. Option Chain) [ true ↦ chain_from P k (bs ++ to ∷ []) to | false ↦ None ]
+            | parts t f ↦ Some (record { blocks = bs; last = cur; t = t; f = f })
+            | cases c ↦ None
+            | stops ↦ None
+          ]) (Some c) → Found bs cur c
       go rec (goes to) e q = on to (rec to) e (eqb (length (preds P to)) 1 && not (mem to bs)) refl q
       go rec (parts t f) e q = stop bs cur t f c e q
-      go rec (cases n) e q = absurd (none-ne-some c q)
-      go rec stops e q = absurd (none-ne-some c q)
+      go rec (cases n) e q = absurd (none-some c q)
+      go rec stops e q = absurd (none-some c q)
 
   -- THE CHAIN FROM x
-  pub chain_found : (x : ℕ) (c : Chain) → chain P x ≡ some c → Found (x ∷ []) x c
+  pub chain_found : (x : ℕ) (c : Chain) → chain P x ≡ Some c → Found (x ∷ []) x c
   chain_found x c q = found 5 (x ∷ []) x c q
 
   -- ---- what follows

@@ -1,7 +1,7 @@
 -- 01, "A round": Done with fewer than 8 rounds, past the gates, means that no block has a move left. Assumes nothing.
+use Rattle.std.specs.Prelude.{None}
 use mathlib.Core.Path.{◌≡◌, sym, ap, subst}
 use mathlib.Core.Bool.{true, false}
-use mathlib.Core.Option.{none}
 use Prim.Native.Nat.{ℕ, zero, suc, ◌+◌, ◌<◌}
 use native.Mathlib.Nat.{add-zero, lt_irrefl}
 use native.Mathlib.Omega.{arith}
@@ -21,9 +21,9 @@ use Rattle.laws.proofs.Rounds.{Next, no_move, no_room, goes_on, next, sink_done,
 
 -- no block of more than 3 instructions has a move
 pub record Settled (P : Picture) (G : Facts) : Type 0 where
-  pub all_still : (b : ℕ) → b < nblocks P → ltb min_replay (size P b) ≡ true → try_block P G b ≡ none
+  pub all_still : (b : ℕ) → b < nblocks P → ltb min_replay (size P b) ≡ true → try_block P G b ≡ None
 
-settled : (P : Picture) (G : Facts) → round P G ≡ none → Settled P G
+settled : (P : Picture) (G : Facts) → round P G ≡ None → Settled P G
 settled P G e = record { all_still = λ b h l. none_first P G (upto (nblocks P)) e b (in_range b 0 (nblocks P) (omega arith) (omega arith)) l }
 
 -- an answer that says Done with fewer than n rounds leaves nothing to move

@@ -1,8 +1,8 @@
 -- The greatest legal set is legal, and every legal set of movable positions lies within it. Assumes nothing.
+use Rattle.std.specs.Prelude.{Option, None, Some}
 use mathlib.Core.Path.{◌≡◌, refl, sym, ap, ◌∙◌, subst}
 use mathlib.Core.Bool.{Bool, true, false, ◌&&◌, ◌||◌}
 use mathlib.Core.List.{List, [], ◌∷◌}
-use mathlib.Core.Option.{Option, none, some}
 use Prim.Native.Nat.{ℕ, zero, suc, ◌≤◌, ◌<◌}
 use native.Mathlib.Nat.{zero-add, le_trans, le_of_eq, lt_of_not-le, le_of_suc-le-suc}
 use native.Mathlib.Decide.{dec_lt}
@@ -20,8 +20,8 @@ use Rattle.laws.proofs.Rules.{legal→Legal, Legal→legal}
 -- ---- the rules only get easier as the set grows
 
 some_mono : {A : Type 0} (f g : A → Bool) → ((a : A) → T (f a) → T (g a)) → (o : Option A) → T (when_some f o) → T (when_some g o)
-some_mono f g h none t = t
-some_mono f g h (some a) t = h a t
+some_mono f g h None t = t
+some_mono f g h (Some a) t = h a t
 
 rule6_mono : (run : List Fact) (w : ℕ → Bool) (L M : ℕ → Bool) → L ⊑ M → (o : Org) → T (rule6 run w L o) → T (rule6 run w M o)
 rule6_mono run w L M i Unknown t = t
@@ -45,8 +45,8 @@ conj_mono (b ∷ bs) [] e t = absurd e
 conj_mono (b ∷ bs) (c ∷ cs) e t = both c (conj cs) (e.0 (left b (conj bs) t)) (conj_mono bs cs e.1 (right b (conj bs) t))
 
 unless_mono : {A : Type 0} (f g : A → Bool) → ((a : A) → T (f a) → T (g a)) → (o : Option A) → T (unless_some f o) → T (unless_some g o)
-unless_mono f g h none t = tt
-unless_mono f g h (some a) t = h a t
+unless_mono f g h None t = tt
+unless_mono f g h (Some a) t = h a t
 
 pub legal_mono : (run : List Fact) (w : ℕ → Bool) (L M : ℕ → Bool) → L ⊑ M → (p : ℕ) → T (legal run w L p) → T (legal run w M p)
 legal_mono run w L M i p =

@@ -1,9 +1,9 @@
 -- A round keeps acceptance, and so does any number of rounds. Assumes nothing.
+use Rattle.std.specs.Prelude.{Some}
 use mathlib.Core.Path.{◌≡◌, refl, sym, ap, ap₂, ◌∙◌, subst}
 use mathlib.Core.Logic.{inl, inr, ⊎_elim}
 use mathlib.Core.Bool.{Bool, true, false, not, ◌&&◌, ◌||◌, cond}
 use mathlib.Core.List.{List, [], ◌∷◌, ◌++◌, map}
-use mathlib.Core.Option.{some}
 use Prim.Native.Nat.{ℕ, ◌+◌, ◌*◌, ◌%◌, ◌≤◌, ◌<◌}
 use native.Mathlib.Nat.{zero-add, le_of_eq, le_trans}
 use native.Mathlib.Omega.{arith}
@@ -203,15 +203,15 @@ module _ (P : Picture) (G : Facts) (a : Plan) (mv : Moving P G a) where
 
 -- ---- rounds
 
-pub moving : (P : Picture) (G : Facts) (a : Plan) → Accepted P → round P G ≡ some a → fits P (apply P a) ≡ true → Moving P G a
+pub moving : (P : Picture) (G : Facts) (a : Plan) → Accepted P → round P G ≡ Some a → fits P (apply P a) ≡ true → Moving P G a
 moving P G a ok e f = record { ok = ok; choice = chosen P G a e; room = f }
 
 -- A ROUND KEEPS ACCEPTANCE
-pub keeps : (P : Picture) (G : Facts) (a : Plan) → Accepted P → round P G ≡ some a → fits P (apply P a) ≡ true → Accepted (apply P a)
+pub keeps : (P : Picture) (G : Facts) (a : Plan) → Accepted P → round P G ≡ Some a → fits P (apply P a) ≡ true → Accepted (apply P a)
 keeps P G a ok e f = move_keeps P G a (moving P G a ok e f)
 
 -- and what was not refused is not, with the same work slices and records
-pub round-not_refused : (P : Picture) (G : Facts) (a : Plan) (w64 w32 nf : ℕ) → refusal P w64 w32 nf ≡ 0 → round P G ≡ some a → fits P (apply P a) ≡ true → refusal (apply P a) w64 w32 nf ≡ 0
+pub round-not_refused : (P : Picture) (G : Facts) (a : Plan) (w64 w32 nf : ℕ) → refusal P w64 w32 nf ≡ 0 → round P G ≡ Some a → fits P (apply P a) ≡ true → refusal (apply P a) w64 w32 nf ≡ 0
 round-not_refused P G a w64 w32 nf z e f =
     let ok = accepted P w64 w32 nf z in
     let mv = moving P G a ok e f in

@@ -1,9 +1,10 @@
 -- What a plan is: the chain, the target, the facts along the chain and the greatest legal set; and when there is none. Assumes nothing.
+use Rattle.std.proofs.lemmas.Option.{none-some, same_Some}
+use Rattle.std.specs.Prelude.{Option, None, Some}
 use mathlib.Core.Path.{◌≡◌, refl, sym, ap, ap₂, ◌∙◌, subst}
 use mathlib.Core.Logic.{◌⊎◌, inl, inr, ⊎_elim}
 use mathlib.Core.Bool.{Bool, true, false, not, ◌&&◌, true≢false}
 use mathlib.Core.List.{List, [], ◌∷◌}
-use mathlib.Core.Option.{Option, none, some, none-ne-some, some-injective}
 use Prim.Native.Nat.{ℕ, ◌-◌, ◌≤◌, ◌<◌}
 use native.Mathlib.Omega.{arith}
 use lib.Dec.{T, ltb, leb, leb→le, nleb→lt}
@@ -34,17 +35,17 @@ pub record Planned (P : Picture) (run : List Fact) (x : ℕ) (c : Chain) (least 
   pub apart : mem into c.blocks ≡ false
   pub sole : preds P into ≡ c.last ∷ []
 
-pub planned : (P : Picture) (run : List Fact) (x : ℕ) (c : Chain) (least into other : ℕ) (a : Plan) → plan P run x c least into other ≡ some a → Planned P run x c least into other a
+pub planned : (P : Picture) (run : List Fact) (x : ℕ) (c : Chain) (least into other : ℕ) (a : Plan) → plan P run x c least into other ≡ Some a → Planned P run x c least into other a
 planned P run x c least into other a e = go (is_target P c into && leb least (count S)) refl e
   where
     S : List Bool
     S = set_for P run x into other
 
     go : (b : Bool) → (is_target P c into && leb least (count S)) ≡ b
-        → ◌≡◌ {A = Option Plan} (elim b as (λ z. Option Plan) [ true ↦ some (record { x = x; into = into; run = run; set = S }) | false ↦ none ]) (some a) → Planned P run x c least into other a
-    go false t e = absurd (none-ne-some a e)
+        → ◌≡◌ {A = Option Plan} (elim b as (λ z. Option Plan) [ true ↦ Some (record { x = x; into = into; run = run; set = S }) | false ↦ None ]) (Some a) → Planned P run x c least into other a
+    go false t e = absurd (none-some a e)
     go true t e =
-        let f = some-injective (record { x = x; into = into; run = run; set = S }) a e in
+        let f = same_Some (record { x = x; into = into; run = run; set = S }) a e in
         let u = true_T (is_target P c into && leb least (count S)) t in
         let v = left (is_target P c into) (leb least (count S)) u in
         record {
@@ -65,16 +66,16 @@ module _ (P : Picture) (run : List Fact) (x : ℕ) (c : Chain) (least into other
   Lawful L = LegalSet run (member (needed_of P into other)) L (size P x - 1)
 
   -- what is planned is a legal set, every legal set lies within it, and it has the minimum
-  pub planned_legal : (a : Plan) → plan P run x c least into other ≡ some a → Lawful (member a.set)
+  pub planned_legal : (a : Plan) → plan P run x c least into other ≡ Some a → Lawful (member a.set)
   planned_legal a e =
       subst (λ (S : List Bool). Lawful (member S)) (sym (planned P run x c least into other a e).set_is) (greatest_is_legal run (member (needed_of P into other)) (size P x - 1))
 
-  pub planned_greatest : (a : Plan) → plan P run x c least into other ≡ some a → (L : ℕ → Bool) → Lawful L → L ⊑ member a.set
+  pub planned_greatest : (a : Plan) → plan P run x c least into other ≡ Some a → (L : ℕ → Bool) → Lawful L → L ⊑ member a.set
   planned_greatest a e L l =
       subst (λ (S : List Bool). L ⊑ member S) (sym (planned P run x c least into other a e).set_is) (greatest_contains run (member (needed_of P into other)) (size P x - 1) L l)
 
   -- where there is none, though the target is one, every legal set has fewer
-  pub unplanned_few : plan P run x c least into other ≡ none → is_target P c into ≡ true → (S : List Bool) → Lawful (member S) → count S < least
+  pub unplanned_few : plan P run x c least into other ≡ None → is_target P c into ≡ true → (S : List Bool) → Lawful (member S) → count S < least
   unplanned_few e t S l = go (leb least (count G)) refl
     where
       G : List Bool
@@ -84,7 +85,7 @@ module _ (P : Picture) (run : List Fact) (x : ℕ) (c : Chain) (least into other
       a = record { x = x; into = into; run = run; set = G }
 
       go : (b : Bool) → leb least (count G) ≡ b → count S < least
-      go true q = absurd (none-ne-some a (sym e ∙ ap₂ (λ (u v : Bool). elim (u && v) as (λ z. Option Plan) [ true ↦ some a | false ↦ none ]) t q))
+      go true q = absurd (none-some a (sym e ∙ ap₂ (λ (u v : Bool). elim (u && v) as (λ z. Option Plan) [ true ↦ Some a | false ↦ None ]) t q))
       go false q =
           let most = greatest_count run (member (needed_of P into other)) (size P x - 1) S l in
           let few = nleb→lt least (count G) (subst (λ (b : Bool). T (not b)) (sym q) tt) in
@@ -95,7 +96,7 @@ module _ (P : Picture) (run : List Fact) (x : ℕ) (c : Chain) (least into other
 pub record Chosen (P : Picture) (G : Facts) (a : Plan) : Type 0 where
   pub c : Chain
   pub other : ℕ
-  pub is_chain : chain P a.x ≡ some c
+  pub is_chain : chain P a.x ≡ Some c
   pub x_block : a.x < nblocks P
   pub sides : ((a.into ≡ c.t) × (other ≡ c.f)) ⊎ ((a.into ≡ c.f) × (other ≡ c.t))
   pub run_is : a.run ≡ run_of P G c
@@ -104,7 +105,7 @@ pub record Chosen (P : Picture) (G : Facts) (a : Plan) : Type 0 where
   pub sole : preds P a.into ≡ c.last ∷ []
 
 module _ (P : Picture) (G : Facts) where
-  from_side : (x : ℕ) (c : Chain) (a : Plan) (least into other : ℕ) → x < nblocks P → chain P x ≡ some c
+  from_side : (x : ℕ) (c : Chain) (a : Plan) (least into other : ℕ) → x < nblocks P → chain P x ≡ Some c
       → ((into ≡ c.t) × (other ≡ c.f)) ⊎ ((into ≡ c.f) × (other ≡ c.t)) → Planned P (run_of P G c) x c least into other a → Chosen P G a
   from_side x c a least into other h e s d = record {
     c = c;
@@ -119,7 +120,7 @@ module _ (P : Picture) (G : Facts) where
     sole = ap (preds P) d.into_is ∙ d.sole;
   }
 
-  from_chain : (x : ℕ) (c : Chain) (a : Plan) → x < nblocks P → chain P x ≡ some c → plan_chain P G x c ≡ some a → Chosen P G a
+  from_chain : (x : ℕ) (c : Chain) (a : Plan) → x < nblocks P → chain P x ≡ Some c → plan_chain P G x c ≡ Some a → Chosen P G a
   from_chain x c a h e q = go (worth_a_look P x c) q
     where
       least : ℕ
@@ -129,61 +130,61 @@ module _ (P : Picture) (G : Facts) where
       run = run_of P G c
 
       two : (o : Option Plan) → plan P run x c least c.t c.f ≡ o
-          → ◌≡◌ {A = Option Plan} (elim o as (λ z. Option Plan) [ some b ↦ some b | none ↦ plan P run x c least c.f c.t ]) (some a) → Chosen P G a
-      two none f g = from_side x c a least c.f c.t h e (inr (refl, refl)) (planned P run x c least c.f c.t a g)
-      two (some b) f g = from_side x c a least c.t c.f h e (inl (refl, refl)) (planned P run x c least c.t c.f a (f ∙ g))
+          → ◌≡◌ {A = Option Plan} (elim o as (λ z. Option Plan) [ Some b ↦ Some b | None ↦ plan P run x c least c.f c.t ]) (Some a) → Chosen P G a
+      two None f g = from_side x c a least c.f c.t h e (inr (refl, refl)) (planned P run x c least c.f c.t a g)
+      two (Some b) f g = from_side x c a least c.t c.f h e (inl (refl, refl)) (planned P run x c least c.t c.f a (f ∙ g))
 
       go : (b : Bool) → ◌≡◌ {A = Option Plan} (elim b as (λ z. Option Plan) [
-        | false ↦ none
-        | true ↦ elim (plan P run x c least c.t c.f) as (λ z. Option Plan) [ some a ↦ some a | none ↦ plan P run x c least c.f c.t ]
-      ]) (some a) → Chosen P G a
-      go false q = absurd (none-ne-some a q)
+        | false ↦ None
+        | true ↦ elim (plan P run x c least c.t c.f) as (λ z. Option Plan) [ Some a ↦ Some a | None ↦ plan P run x c least c.f c.t ]
+      ]) (Some a) → Chosen P G a
+      go false q = absurd (none-some a q)
       go true q = two (plan P run x c least c.t c.f) refl q
 
-  from_block : (x : ℕ) (a : Plan) → x < nblocks P → try_block P G x ≡ some a → Chosen P G a
+  from_block : (x : ℕ) (a : Plan) → x < nblocks P → try_block P G x ≡ Some a → Chosen P G a
   from_block x a h q = go (chain P x) refl q
     where
-      go : (o : Option Chain) → chain P x ≡ o → ◌≡◌ {A = Option Plan} (elim o as (λ z. Option Plan) [ none ↦ none | some c ↦ plan_chain P G x c ]) (some a) → Chosen P G a
-      go none e q = absurd (none-ne-some a q)
-      go (some c) e q = from_chain x c a h e q
+      go : (o : Option Chain) → chain P x ≡ o → ◌≡◌ {A = Option Plan} (elim o as (λ z. Option Plan) [ None ↦ None | Some c ↦ plan_chain P G x c ]) (Some a) → Chosen P G a
+      go None e q = absurd (none-some a q)
+      go (Some c) e q = from_chain x c a h e q
 
   -- the first of these blocks for which a move exists, or none of them
-  found_first : (xs : List ℕ) (a : Plan) → first_plan P G xs ≡ some a → (x : ℕ) × In x xs × (try_block P G x ≡ some a)
-  found_first [] a q = absurd (none-ne-some a q)
+  found_first : (xs : List ℕ) (a : Plan) → first_plan P G xs ≡ Some a → (x : ℕ) × In x xs × (try_block P G x ≡ Some a)
+  found_first [] a q = absurd (none-some a q)
   found_first (x ∷ xs) a q = go (found_first xs a) (ltb 3 (size P x)) q
     where
-      later : (x' : ℕ) × In x' xs × (try_block P G x' ≡ some a) → (y : ℕ) × In y (x ∷ xs) × (try_block P G y ≡ some a)
+      later : (x' : ℕ) × In x' xs × (try_block P G x' ≡ Some a) → (y : ℕ) × In y (x ∷ xs) × (try_block P G y ≡ Some a)
       later z = (z.0, inr z.1, z.2)
 
-      try : (first_plan P G xs ≡ some a → (y : ℕ) × In y xs × (try_block P G y ≡ some a)) → (o : Option Plan) → try_block P G x ≡ o
-          → ◌≡◌ {A = Option Plan} (elim o as (λ z. Option Plan) [ some a ↦ some a | none ↦ first_plan P G xs ]) (some a) → (y : ℕ) × In y (x ∷ xs) × (try_block P G y ≡ some a)
-      try k none f g = later (k g)
-      try k (some b) f g = (x, inl refl, f ∙ g)
+      try : (first_plan P G xs ≡ Some a → (y : ℕ) × In y xs × (try_block P G y ≡ Some a)) → (o : Option Plan) → try_block P G x ≡ o
+          → ◌≡◌ {A = Option Plan} (elim o as (λ z. Option Plan) [ Some a ↦ Some a | None ↦ first_plan P G xs ]) (Some a) → (y : ℕ) × In y (x ∷ xs) × (try_block P G y ≡ Some a)
+      try k None f g = later (k g)
+      try k (Some b) f g = (x, inl refl, f ∙ g)
 
-      go : (first_plan P G xs ≡ some a → (y : ℕ) × In y xs × (try_block P G y ≡ some a)) → (b : Bool)
-          → ◌≡◌ {A = Option Plan} (elim b as (λ z. Option Plan) [ false ↦ first_plan P G xs | true ↦ elim (try_block P G x) as (λ z. Option Plan) [ some a ↦ some a | none ↦ first_plan P G xs ] ]) (some a)
-          → (y : ℕ) × In y (x ∷ xs) × (try_block P G y ≡ some a)
+      go : (first_plan P G xs ≡ Some a → (y : ℕ) × In y xs × (try_block P G y ≡ Some a)) → (b : Bool)
+          → ◌≡◌ {A = Option Plan} (elim b as (λ z. Option Plan) [ false ↦ first_plan P G xs | true ↦ elim (try_block P G x) as (λ z. Option Plan) [ Some a ↦ Some a | None ↦ first_plan P G xs ] ]) (Some a)
+          → (y : ℕ) × In y (x ∷ xs) × (try_block P G y ≡ Some a)
       go k false q = later (k q)
       go k true q = try k (try_block P G x) refl q
 
-  pub none_first : (xs : List ℕ) → first_plan P G xs ≡ none → (x : ℕ) → In x xs → ltb 3 (size P x) ≡ true → try_block P G x ≡ none
+  pub none_first : (xs : List ℕ) → first_plan P G xs ≡ None → (x : ℕ) → In x xs → ltb 3 (size P x) ≡ true → try_block P G x ≡ None
   none_first [] q x i l = absurd i
   none_first (y ∷ ys) q x i l = go (none_first ys) (ltb 3 (size P y)) refl q i
     where
-      try : (first_plan P G ys ≡ none → (x : ℕ) → In x ys → ltb 3 (size P x) ≡ true → try_block P G x ≡ none) → (o : Option Plan) → try_block P G y ≡ o
-          → ◌≡◌ {A = Option Plan} (elim o as (λ z. Option Plan) [ some a ↦ some a | none ↦ first_plan P G ys ]) none → In x (y ∷ ys) → try_block P G x ≡ none
-      try k none f g (inl e) = ap (try_block P G) e ∙ f
-      try k none f g (inr j) = k g x j l
-      try k (some b) f g j = absurd (none-ne-some b (sym g))
+      try : (first_plan P G ys ≡ None → (x : ℕ) → In x ys → ltb 3 (size P x) ≡ true → try_block P G x ≡ None) → (o : Option Plan) → try_block P G y ≡ o
+          → ◌≡◌ {A = Option Plan} (elim o as (λ z. Option Plan) [ Some a ↦ Some a | None ↦ first_plan P G ys ]) None → In x (y ∷ ys) → try_block P G x ≡ None
+      try k None f g (inl e) = ap (try_block P G) e ∙ f
+      try k None f g (inr j) = k g x j l
+      try k (Some b) f g j = absurd (none-some b (sym g))
 
-      go : (first_plan P G ys ≡ none → (x : ℕ) → In x ys → ltb 3 (size P x) ≡ true → try_block P G x ≡ none) → (b : Bool) → ltb 3 (size P y) ≡ b
-          → ◌≡◌ {A = Option Plan} (elim b as (λ z. Option Plan) [ false ↦ first_plan P G ys | true ↦ elim (try_block P G y) as (λ z. Option Plan) [ some a ↦ some a | none ↦ first_plan P G ys ] ]) none
-          → In x (y ∷ ys) → try_block P G x ≡ none
+      go : (first_plan P G ys ≡ None → (x : ℕ) → In x ys → ltb 3 (size P x) ≡ true → try_block P G x ≡ None) → (b : Bool) → ltb 3 (size P y) ≡ b
+          → ◌≡◌ {A = Option Plan} (elim b as (λ z. Option Plan) [ false ↦ first_plan P G ys | true ↦ elim (try_block P G y) as (λ z. Option Plan) [ Some a ↦ Some a | None ↦ first_plan P G ys ] ]) None
+          → In x (y ∷ ys) → try_block P G x ≡ None
       go k false e g (inl f) = absurd (true≢false (sym l ∙ ap (λ (z : ℕ). ltb 3 (size P z)) f ∙ e))
       go k false e g (inr j) = k g x j l
       go k true e g j = try k (try_block P G y) refl g j
 
-  pub chosen : (a : Plan) → round P G ≡ some a → Chosen P G a
+  pub chosen : (a : Plan) → round P G ≡ Some a → Chosen P G a
   chosen a q =
       let z = found_first (upto (nblocks P)) a q in
       let b = (range_in z.0 0 (nblocks P) z.1).1 in

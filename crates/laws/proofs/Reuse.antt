@@ -1,10 +1,11 @@
 -- The pool of new registers: each is at or above R, and one is reused only once the last reader of its value is before the member
 -- that gets it. Assumes nothing.
+use Rattle.std.proofs.lemmas.Option.{none-some, same_Some}
+use Rattle.std.specs.Prelude.{Option, None, Some}
 use mathlib.Core.Path.{◌≡◌, refl, sym, subst}
 use mathlib.Core.Logic.{◌⊎◌, inl, inr, ⊎_elim}
 use mathlib.Core.Bool.{Bool, true, false, not, cond}
 use mathlib.Core.List.{List, [], ◌∷◌, ◌++◌}
-use mathlib.Core.Option.{Option, none, some, none-ne-some, some-injective}
 use Prim.Native.Nat.{ℕ, zero, suc, ◌+◌, ◌≤◌, ◌<◌}
 use native.Mathlib.Nat.{lt_of_lt_of_le, le_trans, lt_irrefl, le_of_lt, le_refl, le-suc}
 use native.Mathlib.Omega.{arith}
@@ -125,12 +126,12 @@ release_apart p (h ∷ hs) fs a c r i j = go (ltb h.until p) (λ fs'. release_ap
 
 -- ---- giving
 
-found_in : (ty r : ℕ) (fs : List (ℕ × ℕ)) → found ty fs ≡ some r → In r (fregs fs)
-found_in ty r [] e = absurd (none-ne-some r e)
+found_in : (ty r : ℕ) (fs : List (ℕ × ℕ)) → found ty fs ≡ Some r → In r (fregs fs)
+found_in ty r [] e = absurd (none-some r e)
 found_in ty r (f ∷ fs) e = go (eqb f.0 ty) (found_in ty r fs) e
   where
-    go : (b : Bool) → (found ty fs ≡ some r → In r (fregs fs)) → cond b (some f.1) (found ty fs) ≡ some r → In r (fregs (f ∷ fs))
-    go true k e = inl (sym (some-injective f.1 r e))
+    go : (b : Bool) → (found ty fs ≡ Some r → In r (fregs fs)) → cond b (Some f.1) (found ty fs) ≡ Some r → In r (fregs (f ∷ fs))
+    go true k e = inl (sym (same_Some f.1 r e))
     go false k e = inr (k e)
 
 without_in : (ty r : ℕ) (fs : List (ℕ × ℕ)) → In r (fregs (without ty fs)) → In r (fregs fs)
@@ -151,12 +152,12 @@ without_apart ty (f ∷ fs) a = go (eqb f.0 ty) (without_apart ty fs a.1)
     go false k = (λ i. a.0 (without_in ty f.1 fs i), k)
 
 -- the one found is gone
-without_found : (ty r : ℕ) (fs : List (ℕ × ℕ)) → Apart (fregs fs) → found ty fs ≡ some r → ¬ In r (fregs (without ty fs))
+without_found : (ty r : ℕ) (fs : List (ℕ × ℕ)) → Apart (fregs fs) → found ty fs ≡ Some r → ¬ In r (fregs (without ty fs))
 without_found ty r [] a e i = i
 without_found ty r (f ∷ fs) a e i = go (eqb f.0 ty) (without_found ty r fs a.1) e i
   where
-    go : (b : Bool) → (found ty fs ≡ some r → ¬ In r (fregs (without ty fs))) → cond b (some f.1) (found ty fs) ≡ some r → ¬ In r (fregs (cond b fs (f ∷ without ty fs)))
-    go true k e i = a.0 (subst (λ (x : ℕ). In x (fregs fs)) (sym (some-injective f.1 r e)) i)
+    go : (b : Bool) → (found ty fs ≡ Some r → ¬ In r (fregs (without ty fs))) → cond b (Some f.1) (found ty fs) ≡ Some r → ¬ In r (fregs (cond b fs (f ∷ without ty fs)))
+    go true k e i = a.0 (subst (λ (x : ℕ). In x (fregs fs)) (sym (same_Some f.1 r e)) i)
     go false k e (inl q) = a.0 (subst (λ (x : ℕ). In x (fregs fs)) q (found_in ty r fs e))
     go false k e (inr i) = k e i
 
@@ -238,7 +239,7 @@ module _ (lu : ℕ → ℕ) (R : ℕ) where
     unread : (d : ℕ) → Got d (given_reg s.types o) s.given → lu d < p
 
   serves : (p ty : ℕ) (s : Pool) (o : Option ℕ) → found ty s.free ≡ o → Fine lu R p s → Serves p ty s o
-  serves p ty s none e F =
+  serves p ty s None e F =
       let n = length s.types in
       record {
         not_held = λ i. lt_irrefl n (F.held_known n i);
@@ -248,7 +249,7 @@ module _ (lu : ℕ → ℕ) (R : ℕ) where
         longer = le_of_lt (grown_longer s.types ty);
         unread = λ d g. absurd (lt_irrefl n (F.new d n g).1);
       }
-  serves p ty s (some r) e F =
+  serves p ty s (Some r) e F =
       let was_free = found_in ty r s.free e in
       let not_held : ¬ In r (hregs s.held) = λ i. F.both_apart r i was_free in
       record {

@@ -1,8 +1,9 @@
 -- The six tests say what the record of rules says. Assumes nothing.
+use Rattle.std.proofs.lemmas.Option.{none-some}
+use Rattle.std.specs.Prelude.{Option, None, Some}
 use mathlib.Core.Path.{◌≡◌, refl, sym, subst}
 use mathlib.Core.Bool.{Bool, true, not, ◌&&◌, ◌||◌}
 use mathlib.Core.List.{List}
-use mathlib.Core.Option.{Option, none, some, none-ne-some}
 use Prim.Native.Nat.{ℕ, suc, ◌-◌, ◌<◌}
 use native.Mathlib.Nat.{zero-add}
 use native.Mathlib.Omega.{arith}
@@ -17,20 +18,20 @@ use Rattle.model.specs.Legal.{Legal, Kept, legal, tests, rule1, rule2, rule3, ru
 
 -- ---- tests and what they say
 
-pub no_some : {A : Type 0} (o : Option A) → T (not (is_some o)) → o ≡ none
-no_some none t = refl
-no_some (some a) t = absurd t
+pub no_some : {A : Type 0} (o : Option A) → T (not (is_some o)) → o ≡ None
+no_some None t = refl
+no_some (Some a) t = absurd t
 
-pub no_some_of : {A : Type 0} (o : Option A) → o ≡ none → T (not (is_some o))
-no_some_of none e = tt
-no_some_of (some a) e = none-ne-some a (sym e)
+pub no_some_of : {A : Type 0} (o : Option A) → o ≡ None → T (not (is_some o))
+no_some_of None e = tt
+no_some_of (Some a) e = none-some a (sym e)
 
-pub unless_at : {A : Type 0} (f : A → Bool) (o : Option A) → T (unless_some f o) → (a : A) → o ≡ some a → T (f a)
+pub unless_at : {A : Type 0} (f : A → Bool) (o : Option A) → T (unless_some f o) → (a : A) → o ≡ Some a → T (f a)
 unless_at f o t a e = subst (λ x. T (unless_some f x)) e t
 
-pub unless_of : {A : Type 0} (f : A → Bool) (o : Option A) → ((a : A) → o ≡ some a → T (f a)) → T (unless_some f o)
-unless_of f none h = tt
-unless_of f (some a) h = h a refl
+pub unless_of : {A : Type 0} (f : A → Bool) (o : Option A) → ((a : A) → o ≡ Some a → T (f a)) → T (unless_some f o)
+unless_of f None h = tt
+unless_of f (Some a) h = h a refl
 
 -- memory that is a member's own
 pub own_memory : (run : List Fact) (needed L : ℕ → Bool) (w : Org) → T (rule6 run needed L w) → (k : ℕ) × (w ≡ Temp k) × (L k ≡ true)

@@ -1,7 +1,7 @@
 -- The types that the pool of new registers has given: if those in use before are 7 or less, so are all. Assumes nothing.
+use Rattle.std.specs.Prelude.{Option, None, Some}
 use mathlib.Core.Bool.{Bool, true, false, cond}
 use mathlib.Core.List.{List, [], ◌∷◌}
-use mathlib.Core.Option.{Option, none, some}
 use Prim.Native.Nat.{ℕ, zero, suc, ◌≤◌}
 use native.Mathlib.Omega.{arith}
 use lib.Dec.{eqb}
@@ -28,8 +28,8 @@ grown_small ts ty s h = each_append (λ t. t ≤ 7) ts (cond (eqb ty 4) (4 ∷ 0
     go false = (h, tt)
 
 given_small : (ts : List ℕ) (ty : ℕ) (o : Option ℕ) → Small ts → ty ≤ 7 → Small (given_types ts ty o)
-given_small ts ty none s h = grown_small ts ty s h
-given_small ts ty (some r) s h = s
+given_small ts ty None s h = grown_small ts ty s h
+given_small ts ty (Some r) s h = s
 
 gives_small : (p u : ℕ) (ds : List ℕ) (s : Pool) → Small s.types → Small (gives p u s ds).types
 gives_small p u [] s h = h

@@ -1,9 +1,9 @@
 -- Laws of the last kept position and of the last writer. Assumes nothing.
+use Rattle.std.specs.Prelude.{Some}
 use mathlib.Core.Path.{◌≡◌, refl, sym, ap, ◌∙◌}
 use mathlib.Core.Logic.{⊎_elim}
 use mathlib.Core.Bool.{Bool, true, false, not, ◌&&◌, cond}
 use mathlib.Core.List.{List}
-use mathlib.Core.Option.{some}
 use Prim.Native.Nat.{ℕ, zero, suc, ◌+◌, ◌≤◌, ◌<◌}
 use native.Mathlib.Omega.{arith}
 use lib.Dec.{T, leb, leb→le, le→leb}
@@ -61,13 +61,13 @@ writer_low defs r p = last_low (λ q. mem r (defs q)) p
 pub record Wrote (defs : ℕ → List ℕ) (r p d : ℕ) : Type 0 where
   pub before : d < p
   pub writes : mem r (defs d) ≡ true
-  pub none : (k : ℕ) → d < k → k < p → mem r (defs k) ≡ false
+  pub None : (k : ℕ) → d < k → k < p → mem r (defs k) ≡ false
 
 pub writer_wrote : (defs : ℕ → List ℕ) (r p d : ℕ) → writer defs r p ≡ suc d → Wrote defs r p d
 unfolding writer
 writer_wrote defs r p d e =
     let z = last_passes (λ q. mem r (defs q)) p d e in
-    record { before = z.0; writes = z.1; none = λ k a b. last_after (λ q. mem r (defs q)) p k (omega arith) b }
+    record { before = z.0; writes = z.1; None = λ k a b. last_after (λ q. mem r (defs q)) p k (omega arith) b }
 
 pub wrote_writer : (defs : ℕ → List ℕ) (r p d : ℕ) → Wrote defs r p d → writer defs r p ≡ suc d
 unfolding writer
@@ -80,12 +80,12 @@ writer_is' defs n run e d r (suc q) h =
     let l : q < length run = rw e (omega arith) in
     ap (λ (x : List Fact). last_writer 0 x r) (take-suc run q no_fact l)
     ∙ writer_snoc 0 (take q run) (fact_at run q) r
-    ∙ ap (λ (x : ℕ). cond (mem r (fact_at run q).defs) (some x) (last_writer 0 (take q run) r)) (native.Mathlib.Nat.zero-add (length (take q run)) ∙ length-take-le q run (omega arith))
-    ∙ ap (λ (x : List ℕ). cond (mem r x) (some q) (last_writer 0 (take q run) r)) (d q (omega arith))
+    ∙ ap (λ (x : ℕ). cond (mem r (fact_at run q).defs) (Some x) (last_writer 0 (take q run) r)) (native.Mathlib.Nat.zero-add (length (take q run)) ∙ length-take-le q run (omega arith))
+    ∙ ap (λ (x : List ℕ). cond (mem r x) (Some q) (last_writer 0 (take q run) r)) (d q (omega arith))
     ∙ go (mem r (defs q)) (writer_is' defs n run e d r q (omega arith))
   where
     go : (b : Bool) → last_writer 0 (take q run) r ≡ place_at (last_below (λ q. mem r (defs q)) q)
-        → cond b (some q) (last_writer 0 (take q run) r) ≡ place_at (cond b (suc q) (last_below (λ q. mem r (defs q)) q))
+        → cond b (Some q) (last_writer 0 (take q run) r) ≡ place_at (cond b (suc q) (last_below (λ q. mem r (defs q)) q))
     go true z = refl
     go false z = z
 

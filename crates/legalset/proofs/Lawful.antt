@@ -1,10 +1,11 @@
 -- The tests of the passes are `model`'s six, one by one: over the summary of the set now, each equals its rule at every position of
 -- the chain, member or not. Assumes nothing.
+use Rattle.std.proofs.lemmas.Option.{none-some, same_Some}
+use Rattle.std.specs.Prelude.{None, Some}
 use mathlib.Core.Path.{◌≡◌, refl, sym, ap, ap₂, ◌∙◌, subst}
 use mathlib.Core.Logic.{◌⊎◌, inl, inr, ⊎_elim}
 use mathlib.Core.Bool.{Bool, true, false, not, ◌&&◌, ◌||◌}
 use mathlib.Core.List.{List, [], ◌∷◌}
-use mathlib.Core.Option.{none, some, none-ne-some, some-injective}
 use Prim.Native.Nat.{ℕ, zero, suc, ◌+◌, ◌*◌, ◌-◌, ◌/◌, ◌%◌, ◌≤◌, ◌<◌}
 use native.Mathlib.Nat.{zero-add}
 use native.Mathlib.Numerals.{add-one}
@@ -32,25 +33,25 @@ at_place L zero = refl
 at_place L (suc d) = refl
 
 -- memory written, by its number
-wrote_some : (x : ℕ) (w : Org) → wrote_at x ≡ some w → (a : ℕ) × (x ≡ suc a) × (org_at a ≡ w)
+wrote_some : (x : ℕ) (w : Org) → wrote_at x ≡ Some w → (a : ℕ) × (x ≡ suc a) × (org_at a ≡ w)
 unfolding wrote_at
-wrote_some zero w e = absurd (none-ne-some w e)
-wrote_some (suc a) w e = (a, refl, some-injective (org_at a) w e)
+wrote_some zero w e = absurd (none-some w e)
+wrote_some (suc a) w e = (a, refl, same_Some (org_at a) w e)
 
-some_wrote : (x a : ℕ) → x ≡ suc a → wrote_at x ≡ some (org_at a)
+some_wrote : (x a : ℕ) → x ≡ suc a → wrote_at x ≡ Some (org_at a)
 unfolding wrote_at
 some_wrote x a e = ap wrote_at e
 
-none_wrote : (x : ℕ) → eqb x 0 ≡ true → wrote_at x ≡ none
+none_wrote : (x : ℕ) → eqb x 0 ≡ true → wrote_at x ≡ None
 unfolding wrote_at
 none_wrote x e = ap wrote_at (eqb-true x 0 e)
 
-wrote_none : (x : ℕ) → wrote_at x ≡ none → eqb x 0 ≡ true
+wrote_none : (x : ℕ) → wrote_at x ≡ None → eqb x 0 ≡ true
 unfolding wrote_at
 wrote_none zero e = refl
-wrote_none (suc a) e = absurd (none-ne-some (org_at a) (sym e))
+wrote_none (suc a) e = absurd (none-some (org_at a) (sym e))
 
-own_temp : (L : ℕ → Bool) (x : ℕ) → T (own_memory L x) → (w : Org) → wrote_at x ≡ some w → (k : ℕ) × (w ≡ Temp k) × (L k ≡ true)
+own_temp : (L : ℕ → Bool) (x : ℕ) → T (own_memory L x) → (w : Org) → wrote_at x ≡ Some w → (k : ℕ) × (w ≡ Temp k) × (L k ≡ true)
 unfolding own_memory
 own_temp L x t w e =
     let z = wrote_some x w e in
@@ -64,7 +65,7 @@ own_temp L x t w e =
     let n : z.0 ≡ 4 + 2 * ((x - 5) / 2) = omega arith in
     (k, sym z.2 ∙ ap org_at n ∙ temp_at k, T_true (L k) (right (leb 5 x && eqb (x % 2) 1) (L k) u))
 
-temp_own : (L : ℕ → Bool) (x : ℕ) → ((w : Org) → wrote_at x ≡ some w → (k : ℕ) × (w ≡ Temp k) × (L k ≡ true)) → T (own_memory L x)
+temp_own : (L : ℕ → Bool) (x : ℕ) → ((w : Org) → wrote_at x ≡ Some w → (k : ℕ) × (w ≡ Temp k) × (L k ≡ true)) → T (own_memory L x)
 unfolding own_memory wrote_at
 temp_own L zero h = tt
 temp_own L (suc a) h =
@@ -129,7 +130,7 @@ module _ (C : View) (n : ℕ) (run : List Fact) (s : Stands C n run) (needed L :
           let w = writer_wrote C.defs z.0 q p z.2 in
           let lt = w.before in
           ⊎_elim (λ (t : L q ≡ true). t) (λ (f : L q ≡ false).
-          clash {b = pending C.defs C.reads L z.0 (p + 1) (n - (p + 1))} (T_true (pending C.defs C.reads L z.0 (p + 1) (n - (p + 1))) (of_awaits C n L z.0 (p + 1) (n - (p + 1)) q (record { from = omega arith; below = omega arith; kept = f; reads = z.1; none = λ j u v. w.none j (omega arith) v })))
+          clash {b = pending C.defs C.reads L z.0 (p + 1) (n - (p + 1))} (T_true (pending C.defs C.reads L z.0 (p + 1) (n - (p + 1))) (of_awaits C n L z.0 (p + 1) (n - (p + 1)) q (record { from = omega arith; below = omega arith; kept = f; reads = z.1; None = λ j u v. w.none j (omega arith) v })))
           (T_false (pending C.defs C.reads L z.0 (p + 1) (n - (p + 1))) (all_in _ z.0 (C.defs p) t (mem_in z.0 (C.defs p) w.writes)))) (bool? (L q))
 
   of_readers : T (all (rule1 run needed L p) (upto (length run))) → T (backward_ok C.defs C.reads n L p)
@@ -139,7 +140,7 @@ module _ (C : View) (n : ℕ) (run : List Fact) (s : Stands C n run) (needed L :
       let a = z.1.from in let b = z.1.below in
       let q : z.0 < n = omega arith in
       clash (one z.0 q (reads_from_of C n run s z.0 p q x z.1.reads
-      (wrote_writer C.defs x z.0 p (record { before = omega arith; writes = in_mem x (C.defs p) i; none = λ k u v. z.1.none k (omega arith) v })))) z.1.kept)))
+      (wrote_writer C.defs x z.0 p (record { before = omega arith; writes = in_mem x (C.defs p) i; None = λ k u v. z.1.none k (omega arith) v })))) z.1.kept)))
     where
       one : (q : ℕ) → q < n → reads_from run q p ≡ true → L q ≡ true
       one q m e = let l = s.long in T_true (L q) (implied (reads_from run q p) (L q) (subst (λ (x : ℕ). T (rule1 run needed L p x)) (zero-add q) (range_all (rule1 run needed L p) 0 (length run) t q (omega arith))) e)
@@ -157,7 +158,7 @@ module _ (C : View) (n : ℕ) (run : List Fact) (s : Stands C n run) (needed L :
       let w : writer C.defs x n ≡ suc p = wrote_writer C.defs x n p (record {
         before = h;
         writes = in_mem x (C.defs p) j;
-        none = λ k a b.
+        None = λ k a b.
             ap (mem x) (sym (s.defs k b)) ∙ T_false (mem x (fact_at run k).defs) (subst (λ (y : ℕ). T (not (mem x (fact_at run y).defs))) (omega arith)
             (range_all (λ q. not (mem x (fact_at run q).defs)) (suc p) (length run - suc p) (true_T (writes_last run p x) e) (k - suc p) (omega arith)));
       }) in

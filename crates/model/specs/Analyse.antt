@@ -1,7 +1,6 @@
 -- 01, "A round" and "The legal set": 000's facts on registers, `analyse`, `writes_nothing` and `alias`, over a chain's
 -- instructions. Assumes nothing.
-use Rattle.std.specs.Prelude.{Bool, true, false, ◌&&◌, ◌||◌, cond, List, [], ◌∷◌, ◌++◌, map, ℕ, suc, ◌+◌, ◌-◌, ◌*◌, ◌/◌, ◌%◌, ◌^◌, ℤ, pos, negsuc, nat_abs, eqb, ltb, leb, get_or, length, drop}
-use Rattle.std.proofs.Math.Option.{Option, none, some}
+use Rattle.std.specs.Prelude.{Bool, true, false, ◌&&◌, ◌||◌, cond, List, [], ◌∷◌, ◌++◌, map, ℕ, suc, ◌+◌, ◌-◌, ◌*◌, ◌/◌, ◌%◌, ◌^◌, ℤ, pos, negsuc, nat_abs, eqb, ltb, leb, get_or, length, drop, Option, None, Some}
 use Rattle.std.specs.Int.Signed.{lt_z}
 use Rattle.words.specs.Lists.{upto, mem, filter, same}
 use Rattle.model.specs.Kinds.{Arm, row, Const, AddrOf, CallNative, Suspend, CallIndirect, Call, CallProt, const, constF, addr_of, move, select, truth, bin, index, check, dopeLen, load, alloc, layout_of, signal, fills, store, cat, native, stops, deref, writes, other}
@@ -12,16 +11,16 @@ use Rattle.model.specs.Refusal.{all_code}
 -- ---- an option that holds something, or something that passes
 
 abbrev pub is_some : {A : Type 0} → Option A → Bool
-is_some none = false
-is_some (some a) = true
+is_some None = false
+is_some (Some a) = true
 
 abbrev pub when_some : {A : Type 0} → (A → Bool) → Option A → Bool
-when_some f none = false
-when_some f (some a) = f a
+when_some f None = false
+when_some f (Some a) = f a
 
 abbrev pub unless_some : {A : Type 0} → (A → Bool) → Option A → Bool
-unless_some f none = true
-unless_some f (some a) = f a
+unless_some f None = true
+unless_some f (Some a) = f a
 
 -- ---- facts on registers, once, before round 1
 
@@ -36,7 +35,7 @@ pub record Known : Type 0 where
   pub konst : Option ℤ
 
 abbrev pub unknown : Known
-unknown = record { ro = false; frame = false; konst = none }
+unknown = record { ro = false; frame = false; konst = None }
 
 -- the address of read-only memory (AddrOf's Inst and Const), of the function's own frame, or a constant
 abbrev pub known : Inst → Known
@@ -44,7 +43,7 @@ known i =
     record {
       ro = is_kind AddrOf i && (eqb (form i) 2 || eqb (form i) 4);
       frame = is_kind AddrOf i && eqb (form i) 0;
-      konst = elim (is_kind Const i) [ true ↦ some (whole i) | false ↦ none ];
+      konst = elim (is_kind Const i) [ true ↦ Some (whole i) | false ↦ None ];
     }
 
 -- from the register's writers: something only if there is exactly one
@@ -128,23 +127,23 @@ alias (Img j) r = same_org r Unknown || same_org r (Img j)
 
 -- the last position, counted from k, that writes r
 abbrev pub last_writer : ℕ → List Fact → ℕ → Option ℕ
-last_writer k [] r = none
-last_writer k (f ∷ fs) r = elim (last_writer (suc k) fs r) [ some q ↦ some q | none ↦ cond (mem r f.defs) (some k) none ]
+last_writer k [] r = None
+last_writer k (f ∷ fs) r = elim (last_writer (suc k) fs r) [ Some q ↦ Some q | None ↦ cond (mem r f.defs) (Some k) None ]
 
 abbrev pub no_fact : Fact
-no_fact = record { uses = []; defs = []; does = eff No [] false none false Unknown false false; suspends = false }
+no_fact = record { uses = []; defs = []; does = eff No [] false None false Unknown false false; suspends = false }
 
 -- where a register that is read points (000's `orgof`), and whether it is a length (`lenof`): from its writer among the facts so
 -- far, or from those of before round 1
 abbrev pub org_of : Facts → List Fact → Read → Org
 org_of G past u =
     elim u.writer [
-      | some d ↦ (get_or past d no_fact).does.org
-      | none ↦ cond (known_of G u.reg).ro Ro (cond (known_of G u.reg).frame Frame Unknown)
+      | Some d ↦ (get_or past d no_fact).does.org
+      | None ↦ cond (known_of G u.reg).ro Ro (cond (known_of G u.reg).frame Frame Unknown)
     ]
 
 abbrev pub len_of : Facts → List Fact → Read → Bool
-len_of G past u = elim u.writer [ some d ↦ (get_or past d no_fact).does.len | none ↦ when_some small (known_of G u.reg).konst ]
+len_of G past u = elim u.writer [ Some d ↦ (get_or past d no_fact).does.len | None ↦ when_some small (known_of G u.reg).konst ]
 
 abbrev pub is_layout : List Fact → ℕ → Bool
 is_layout past d = (get_or past d no_fact).does.layout
@@ -177,37 +176,37 @@ sized f (Img k) = false
 module _ (i : Inst) (p : ℕ) (divisor : Bool) (o : ℕ → Org) (l : ℕ → Bool) (layouts : ℕ → Bool) (list : List Org) where
   -- nothing that the pass knows of
   abbrev pub plain : Effect
-  plain = eff No [] false none false Unknown false false
+  plain = eff No [] false None false Unknown false false
 
   -- it can move and leaves a value
   abbrev pub value : Org → Bool → Effect
-  value og ln = eff Movable [] false none false og ln false
+  value og ln = eff Movable [] false None false og ln false
 
   -- the arms of `analyse`:         class   reads        creates wrote        barrier org      len   layout
   abbrev pub arm : Arm → Effect
-  arm const = eff Free [] false none false Unknown (small (whole i)) false
-  arm constF = eff Free [] false none false Unknown false false
-  arm addr_of = eff Free [] false none false (cond (eqb (form i) 2 || eqb (form i) 4) Ro (cond (eqb (form i) 0) Frame Unknown)) false false
+  arm const = eff Free [] false None false Unknown (small (whole i)) false
+  arm constF = eff Free [] false None false Unknown false false
+  arm addr_of = eff Free [] false None false (cond (eqb (form i) 2 || eqb (form i) 4) Ro (cond (eqb (form i) 0) Frame Unknown)) false false
   arm move = value (o 0) (l 0)
   arm select = value (cond (same_org (o 1) (o 2)) (o 1) Unknown) (l 1 && l 2)
   arm truth = value Unknown true
   arm bin = cond (l 0 && (ltb 0 (form i) && leb (form i) 3 && l 1 || eqb (form i) 4 && divisor)) (value Unknown true) plain
   arm index = value (o 0) false
   arm check = cond (eqb (form i) 3 && l 0) (value Unknown false) plain
-  arm dopeLen = eff Movable (o 0 ∷ []) false none false Unknown true false
-  arm load = cond (eqb (form i) 4) plain (eff Movable (o 0 ∷ []) false none false (inside (o 0)) (sized layouts (o 0)) false)
-  arm alloc = eff (cond (l 0) Movable No) [] (l 0) none false (Temp p) false false
-  arm layout_of = cond (eqb (form i) 0) (eff Movable (o 0 ∷ []) true none false (Temp p) false true) plain
+  arm dopeLen = eff Movable (o 0 ∷ []) false None false Unknown true false
+  arm load = cond (eqb (form i) 4) plain (eff Movable (o 0 ∷ []) false None false (inside (o 0)) (sized layouts (o 0)) false)
+  arm alloc = eff (cond (l 0) Movable No) [] (l 0) None false (Temp p) false false
+  arm layout_of = cond (eqb (form i) 0) (eff Movable (o 0 ∷ []) true None false (Temp p) false true) plain
   arm signal = value Unknown false
-  arm fills = eff Movable [] false (some (o 0)) false Unknown false false
-  arm store = cond (eqb (form i) 4) plain (eff Movable [] false (some (o 0)) false Unknown false false)
-  arm cat = eff Movable (pieces (get_or i 9 0) list) false (some (o 0)) false Unknown false false
+  arm fills = eff Movable [] false (Some (o 0)) false Unknown false false
+  arm store = cond (eqb (form i) 4) plain (eff Movable [] false (Some (o 0)) false Unknown false false)
+  arm cat = eff Movable (pieces (get_or i 9 0) list) false (Some (o 0)) false Unknown false false
   arm native =
-      cond (eqb (form i) 1 && eqb (get_or i 8 0) 1) (eff Movable [] true none false (Img p) false false)
-      (cond (eqb (form i) 2) (eff No [] false none false (Temp p) false false) (eff No [] false none true Unknown false false))
-  arm stops = eff No [] false none true Unknown false false
-  arm deref = eff No [] false none false Heap false false
-  arm writes = eff No [] false (some (o 0)) false Unknown false false
+      cond (eqb (form i) 1 && eqb (get_or i 8 0) 1) (eff Movable [] true None false (Img p) false false)
+      (cond (eqb (form i) 2) (eff No [] false None false (Temp p) false false) (eff No [] false None true Unknown false false))
+  arm stops = eff No [] false None true Unknown false false
+  arm deref = eff No [] false None false Heap false false
+  arm writes = eff No [] false (Some (o 0)) false Unknown false false
   arm other = plain
 
 abbrev pub movable : Class → Bool
@@ -219,8 +218,8 @@ movable Free = false
 abbrev pub placed : Inst → Effect → Option Org
 placed i e =
     elim e.wrote [
-      | some w ↦ some w
-      | none ↦ cond (movable e.class || e.barrier || (row (kind i)).quiet || is_kind CallNative i) none (some Unknown)
+      | Some w ↦ Some w
+      | None ↦ cond (movable e.class || e.barrier || (row (kind i)).quiet || is_kind CallNative i) None (Some Unknown)
     ]
 
 abbrev pub may_suspend : Inst → Bool
@@ -228,7 +227,7 @@ may_suspend i = is_kind Suspend i || is_kind CallIndirect i || ((is_kind Call i 
 
 -- in place of a read that is not there
 abbrev pub unread : Read
-unread = record { reg = absent; writer = none }
+unread = record { reg = absent; writer = None }
 
 -- the fact of one instruction, after those of the past
 abbrev pub fact : Facts → List ℕ → List Fact → Inst → Fact

@@ -1,7 +1,6 @@
 -- 01, "The legal set": the six rules over any set L of positions, as a statement and as tests in order; legal sets; and the
 -- greatest one. Assumes nothing.
-use Rattle.std.specs.Prelude.{◌≡◌, Bool, true, false, not, ◌&&◌, ◌||◌, List, [], ◌∷◌, map, ℕ, suc, ◌-◌, ◌<◌, eqb, get_or, length}
-use Rattle.std.proofs.Math.Option.{none, some}
+use Rattle.std.specs.Prelude.{◌≡◌, Bool, true, false, not, ◌&&◌, ◌||◌, List, [], ◌∷◌, map, ℕ, suc, ◌-◌, ◌<◌, eqb, get_or, length, None, Some}
 use Rattle.words.specs.Lists.{In, range, upto, any, all, mem, conj, ◌implies◌, iterate, member}
 use Rattle.model.specs.Analyse.{Org, Unknown, Ro, Heap, Frame, Temp, Img, movable, Read, Fact, no_fact, alias, is_some, when_some, unless_some}
 
@@ -63,13 +62,13 @@ module _ (run : List Fact) (needed : ℕ → Bool) (L : ℕ → Bool) where
     pub suspensions : (q : ℕ) → Kept p q → (fact_at run q).suspends ≡ false
     -- 5. after p no kept barrier if p creates, writes memory, or reads other than Ro or Heap;
     pub barriers : (q : ℕ) → Kept p q → (fact_at run q).does.barrier ≡ true
-        → ((fact_at run p).does.creates ≡ false) × ((fact_at run p).does.wrote ≡ none) × ((o : Org) → In o (fact_at run p).does.from → steady o ≡ true)
+        → ((fact_at run p).does.creates ≡ false) × ((fact_at run p).does.wrote ≡ None) × ((o : Org) → In o (fact_at run p).does.from → steady o ≡ true)
     --    no kept write that may alias p's reads;
-    pub aliases : (q : ℕ) → Kept p q → (w o : Org) → (fact_at run q).does.wrote ≡ some w → In o (fact_at run p).does.from → alias w o ≡ false
+    pub aliases : (q : ℕ) → Kept p q → (w o : Org) → (fact_at run q).does.wrote ≡ Some w → In o (fact_at run p).does.from → alias w o ≡ false
     --    p's reads are Ro, Frame, Img or Temp
     pub origins : (o : Org) → In o (fact_at run p).does.from → readable o ≡ true
     -- 6. memory p writes is Temp of a member
-    pub memory : (w : Org) → (fact_at run p).does.wrote ≡ some w → (k : ℕ) × (w ≡ Temp k) × (L k ≡ true)
+    pub memory : (w : Org) → (fact_at run p).does.wrote ≡ Some w → (k : ℕ) × (w ≡ Temp k) × (L k ≡ true)
 
   -- ---- the same as tests
 

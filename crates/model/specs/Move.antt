@@ -1,6 +1,5 @@
 -- 01, "A round" and "The move": the chain from a block, the plan for it, and 000's `apply`. Assumes nothing.
-use Rattle.std.specs.Prelude.{Bool, true, false, not, ◌&&◌, ◌||◌, cond, List, [], ◌∷◌, ◌++◌, map, ℕ, zero, suc, ◌+◌, ◌-◌, max, eqb, ltb, leb, get_or, length, take, drop}
-use Rattle.std.proofs.Math.Option.{Option, none, some}
+use Rattle.std.specs.Prelude.{Bool, true, false, not, ◌&&◌, ◌||◌, cond, List, [], ◌∷◌, ◌++◌, map, ℕ, zero, suc, ◌+◌, ◌-◌, max, eqb, ltb, leb, get_or, length, take, drop, Option, None, Some}
 use Rattle.words.specs.Lists.{upto, any, mem, filter, concat, same, lookup, spans, member, count}
 use Rattle.model.specs.Kinds.{Role, reading, writing, Cat}
 use Rattle.model.specs.Picture.{Picture, Inst, inst, absent, form, slots, roles, is_kind, list_of, writes, nblocks, starts, places, code, size, goes, parts, cases, stops, ending, preds}
@@ -35,13 +34,13 @@ pub record Chain : Type 0 where
 -- the chain that goes on from cur, behind the blocks gathered, if k more may be gathered: follow Br until CondBr
 abbrev pub chain_from : Picture → ℕ → List ℕ → ℕ → Option Chain
 chain_from P zero bs cur =
-    elim (ending P cur) [ goes to ↦ none | parts t f ↦ some (record { blocks = bs; last = cur; t = t; f = f }) | cases c ↦ none | stops ↦ none ]
+    elim (ending P cur) [ goes to ↦ None | parts t f ↦ Some (record { blocks = bs; last = cur; t = t; f = f }) | cases c ↦ None | stops ↦ None ]
 chain_from P (suc k) bs cur =
     elim (ending P cur) [
-      | goes to ↦ elim (eqb (length (preds P to)) 1 && not (mem to bs)) [ true ↦ chain_from P k (bs ++ to ∷ []) to | false ↦ none ]
-      | parts t f ↦ some (record { blocks = bs; last = cur; t = t; f = f })
-      | cases c ↦ none
-      | stops ↦ none
+      | goes to ↦ elim (eqb (length (preds P to)) 1 && not (mem to bs)) [ true ↦ chain_from P k (bs ++ to ∷ []) to | false ↦ None ]
+      | parts t f ↦ Some (record { blocks = bs; last = cur; t = t; f = f })
+      | cases c ↦ None
+      | stops ↦ None
     ]
 
 -- "Chain from block x": six blocks at most
@@ -82,7 +81,7 @@ set_for P run x into other = let rs = needed_of P into other in greatest run (me
 abbrev pub plan : Picture → List Fact → ℕ → Chain → ℕ → ℕ → ℕ → Option Plan
 plan P run x c least into other =
     let S = set_for P run x into other in
-    elim (is_target P c into && leb least (count S)) [ true ↦ some (record { x = x; into = into; run = run; set = S }) | false ↦ none ]
+    elim (is_target P c into && leb least (count S)) [ true ↦ Some (record { x = x; into = into; run = run; set = S }) | false ↦ None ]
 
 -- t or f is in replay
 abbrev pub replays : Picture → Chain → Bool
@@ -102,16 +101,16 @@ worth_a_look P x c =
 abbrev pub plan_chain : Picture → Facts → ℕ → Chain → Option Plan
 plan_chain P G x c =
     elim (worth_a_look P x c) [
-      | false ↦ none
+      | false ↦ None
       | true ↦
           let run = run_of P G c in
           let least = minimum (replays P c) in
-          elim (plan P run x c least c.t c.f) [ some a ↦ some a | none ↦ plan P run x c least c.f c.t ]
+          elim (plan P run x c least c.t c.f) [ Some a ↦ Some a | None ↦ plan P run x c least c.f c.t ]
     ]
 
 -- the move from block x, if there is one
 abbrev pub try_block : Picture → Facts → ℕ → Option Plan
-try_block P G x = elim (chain P x) [ none ↦ none | some c ↦ plan_chain P G x c ]
+try_block P G x = elim (chain P x) [ None ↦ None | Some c ↦ plan_chain P G x c ]
 
 -- ---- new registers, as `apply` gives them
 
@@ -141,8 +140,8 @@ release p s = record { free = freed p s.held s.free; held = filter (λ h. not (p
 
 -- the first free register of a type, and the rest
 abbrev pub found : ℕ → List (ℕ × ℕ) → Option ℕ
-found ty [] = none
-found ty (f ∷ fs) = cond (eqb f.0 ty) (some f.1) (found ty fs)
+found ty [] = None
+found ty (f ∷ fs) = cond (eqb f.0 ty) (Some f.1) (found ty fs)
 
 abbrev pub without : ℕ → List (ℕ × ℕ) → List (ℕ × ℕ)
 without ty [] = []
@@ -154,12 +153,12 @@ grown ts ty = ts ++ cond (eqb ty 4) (4 ∷ 0 ∷ []) (ty ∷ [])
 
 -- the register given for an old one of type ty: the free one if there is one, else a new one
 abbrev pub given_reg : List ℕ → Option ℕ → ℕ
-given_reg ts none = length ts
-given_reg ts (some r) = r
+given_reg ts None = length ts
+given_reg ts (Some r) = r
 
 abbrev pub given_types : List ℕ → ℕ → Option ℕ → List ℕ
-given_types ts ty none = grown ts ty
-given_types ts ty (some r) = ts
+given_types ts ty None = grown ts ty
+given_types ts ty (Some r) = ts
 
 -- member p's register, held until `until`, for its old one d
 abbrev pub give : ℕ → ℕ → Pool → ℕ → Pool
@@ -247,8 +246,8 @@ module _ (P : Picture) (a : Plan) where
 
   -- what register r becomes where its value comes from a writer in the chain: the writer's new register, if it is a member
   abbrev pub new_name : List (ℕ × ℕ) → ℕ → Option ℕ → ℕ
-  new_name given r none = r
-  new_name given r (some d) = elim (member a.set d) [ true ↦ lookup given d r | false ↦ r ]
+  new_name given r None = r
+  new_name given r (Some d) = elim (member a.set d) [ true ↦ lookup given d r | false ↦ r ]
 
   -- what goes into the target: the members, each with its new register, its reads by the last writer before it
   abbrev pub member_job : List (ℕ × ℕ) → ℕ → Job

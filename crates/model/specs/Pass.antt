@@ -1,6 +1,5 @@
 -- 01, "The call" and "A round": the rounds, the gates and the answer. Assumes nothing.
-use Rattle.std.specs.Prelude.{Bool, true, false, not, ◌&&◌, ◌||◌, List, [], ◌∷◌, ℕ, zero, suc, ◌+◌, ◌*◌, eqb, ltb, leb, length}
-use Rattle.std.proofs.Math.Option.{Option, none, some}
+use Rattle.std.specs.Prelude.{Bool, true, false, not, ◌&&◌, ◌||◌, List, [], ◌∷◌, ℕ, zero, suc, ◌+◌, ◌*◌, eqb, ltb, leb, length, Option, None, Some}
 use Rattle.words.specs.Lists.{upto, any, count}
 use Rattle.model.specs.declared.Used.{Used}
 use Rattle.model.specs.declared.Answer.{Answer}
@@ -39,11 +38,11 @@ number (Refused n) = 200 + n
 
 -- "the first block, in number order, of more than 3 instructions for which a move exists"
 abbrev pub first_plan : Picture → Facts → List ℕ → Option Plan
-first_plan P G [] = none
+first_plan P G [] = None
 first_plan P G (x ∷ xs) =
     elim (ltb min_replay (size P x)) [
       | false ↦ first_plan P G xs
-      | true ↦ elim (try_block P G x) [ some a ↦ some a | none ↦ first_plan P G xs ]
+      | true ↦ elim (try_block P G x) [ Some a ↦ Some a | None ↦ first_plan P G xs ]
     ]
 
 abbrev pub round : Picture → Facts → Option Plan
@@ -72,8 +71,8 @@ abbrev pub sink_all : ℕ → ℕ → Facts → Picture → Outcome
 sink_all zero n G P = ends_in (Done (used n P)) P
 sink_all (suc k) n G P =
     elim (round P G) [
-      | none ↦ ends_in (Done (used n P)) P
-      | some a ↦
+      | None ↦ ends_in (Done (used n P)) P
+      | Some a ↦
           let Q = apply P a in
           elim (fits P Q) [ true ↦ after_line (suc n ∷ a.x ∷ a.into ∷ count a.set ∷ Q.regs ∷ Q.opers ∷ []) (sink_all k (suc n) G Q) | false ↦ ends_in (Short (used n P)) P ]
     ]

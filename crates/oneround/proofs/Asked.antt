@@ -1,10 +1,11 @@
 -- What the move asks (apply/specs/Apply), of an accepted picture and a plan that the search found, with the words that stand for it.
 -- Assumes nothing.
+use Rattle.std.proofs.lemmas.Option.{none-some}
+use Rattle.std.specs.Prelude.{Option, None, Some}
 use mathlib.Core.Path.{◌≡◌, refl, sym, ap, ◌∙◌, subst}
 use mathlib.Core.Logic.{◌⊎◌, inl, inr, ⊎_elim}
 use mathlib.Core.Bool.{Bool, true, false, ◌&&◌, ◌||◌}
 use mathlib.Core.List.{List, [], ◌∷◌, ◌++◌, map}
-use mathlib.Core.Option.{Option, none, some, none-ne-some}
 use Prim.Native.Nat.{ℕ, zero, suc, ◌+◌, ◌-◌, ◌*◌, ◌≤◌, ◌<◌}
 use native.Mathlib.Nat.{zero-add, not-suc-le-zero, le_of_suc-le-suc}
 use native.Mathlib.Omega.{arith}
@@ -50,7 +51,7 @@ record Tells (P : Picture) (G : Facts) (x : ℕ) (c : Chain) (a : Plan) : Type 0
   worth : worth_a_look P x c ≡ true
 
 module _ (P : Picture) (G : Facts) (x : ℕ) (c : Chain) (a : Plan) where
-  one_side : (least into other : ℕ) → (into ≡ c.t) ⊎ (into ≡ c.f) → worth_a_look P x c ≡ true → plan P (run_of P G c) x c least into other ≡ some a → Tells P G x c a
+  one_side : (least into other : ℕ) → (into ≡ c.t) ⊎ (into ≡ c.f) → worth_a_look P x c ≡ true → plan P (run_of P G c) x c least into other ≡ Some a → Tells P G x c a
   one_side least into other s l e =
       let d = planned P (run_of P G c) x c least into other a e in
       record {
@@ -67,16 +68,16 @@ module _ (P : Picture) (G : Facts) (x : ℕ) (c : Chain) (a : Plan) where
   abbrev along : ℕ → ℕ → Option Plan
   along into other = plan P (run_of P G c) x c least_of into other
 
-  tells : chain P x ≡ some c → try_block P G x ≡ some a → Tells P G x c a
-  tells e q = go (worth_a_look P x c) refl (sym (ap (λ (o : Option Chain). elim o as (λ z. Option Plan) [ none ↦ none | some d ↦ plan_chain P G x d ]) e) ∙ q)
+  tells : chain P x ≡ Some c → try_block P G x ≡ Some a → Tells P G x c a
+  tells e q = go (worth_a_look P x c) refl (sym (ap (λ (o : Option Chain). elim o as (λ z. Option Plan) [ None ↦ None | Some d ↦ plan_chain P G x d ]) e) ∙ q)
     where
-      two : worth_a_look P x c ≡ true → (o : Option Plan) → along c.t c.f ≡ o → ◌≡◌ {A = Option Plan} (elim o as (λ z. Option Plan) [ some b ↦ some b | none ↦ along c.f c.t ]) (some a) → Tells P G x c a
-      two l none f g = one_side least_of c.f c.t (inr refl) l g
-      two l (some b) f g = one_side least_of c.t c.f (inl refl) l (f ∙ g)
+      two : worth_a_look P x c ≡ true → (o : Option Plan) → along c.t c.f ≡ o → ◌≡◌ {A = Option Plan} (elim o as (λ z. Option Plan) [ Some b ↦ Some b | None ↦ along c.f c.t ]) (Some a) → Tells P G x c a
+      two l None f g = one_side least_of c.f c.t (inr refl) l g
+      two l (Some b) f g = one_side least_of c.t c.f (inl refl) l (f ∙ g)
 
       go : (b : Bool) → worth_a_look P x c ≡ b
-          → ◌≡◌ {A = Option Plan} (elim b as (λ z. Option Plan) [ false ↦ none | true ↦ elim (along c.t c.f) as (λ z. Option Plan) [ some b ↦ some b | none ↦ along c.f c.t ] ]) (some a) → Tells P G x c a
-      go false l q = absurd (none-ne-some a q)
+          → ◌≡◌ {A = Option Plan} (elim b as (λ z. Option Plan) [ false ↦ None | true ↦ elim (along c.t c.f) as (λ z. Option Plan) [ Some b ↦ Some b | None ↦ along c.f c.t ] ]) (Some a) → Tells P G x c a
+      go false l q = absurd (none-some a q)
       go true l q = two l (along c.t c.f) refl q
 
   abbrev long : Bool
@@ -228,7 +229,7 @@ module _ {P : Picture} (ok : Accepted P) {G : Facts} {x : ℕ} {mv : Move} {w : 
     x_in = x_block;
     t_in = into_block;
     apart = apart;
-    some = let a = f.in_x in let b = many in omega arith;
+    Some = let a = f.in_x in let b = many in omega arith;
     inside = let a = f.in_x in omega arith;
     few = let a = in_chain in let b = places_few in omega arith;
     chain = in_chain;

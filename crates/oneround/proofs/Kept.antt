@@ -1,8 +1,8 @@
 -- Demand 3 of one round, and at the end of any number of rounds. Assumes nothing.
+use Rattle.std.specs.Prelude.{Some}
 use mathlib.Core.Path.{◌≡◌, refl, sym, ap, ◌∙◌, subst}
 use mathlib.Core.Bool.{true}
 use mathlib.Core.List.{List}
-use mathlib.Core.Option.{some}
 use Prim.Native.Nat.{ℕ, ◌+◌}
 use native.Mathlib.Numerals.{add-one}
 use lib.ListN.{length}
@@ -50,10 +50,10 @@ kept_of L Q n w64 w32 nf ok e = record {
 }
 
 -- what a round leaves of what n rounds left is what n + 1 leave
-one_more : (L P : Picture) (n : ℕ) (a : Plan) → (after L n).now ≡ P → Pass.round P (facts L) ≡ some a → fits P (apply P a) ≡ true → apply P a ≡ (after L (n + 1)).now
+one_more : (L P : Picture) (n : ℕ) (a : Plan) → (after L n).now ≡ P → Pass.round P (facts L) ≡ Some a → fits P (apply P a) ≡ true → apply P a ≡ (after L (n + 1)).now
 one_more L P n a e m f =
     ap (λ (Z : Picture). apply Z a) (sym e)
-    ∙ sym (last_round (facts L) n L _ a (subst (λ (Z : Picture). Pass.round Z (facts L) ≡ some a) (sym e) m) (subst (λ (Z : Picture). fits Z (apply Z a) ≡ true) (sym e) f))
+    ∙ sym (last_round (facts L) n L _ a (subst (λ (Z : Picture). Pass.round Z (facts L) ≡ Some a) (sym e) m) (subst (λ (Z : Picture). fits Z (apply Z a) ≡ true) (sym e) f))
     ∙ ap (λ (k : ℕ). (after L k).now) (sym (add-one n))
 
 module _ {P : Picture} {work64 work32 : List ℕ} {r : Step} {bounds recs locs vias types ops work64' work32' : List ℕ} (s : Stepped P work64 work32 r bounds recs locs vias types ops work64' work32') where

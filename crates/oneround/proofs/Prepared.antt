@@ -4,7 +4,6 @@ use mathlib.Core.Path.{◌≡◌, sym, ap, ◌∙◌, subst}
 use mathlib.Core.Logic.{⊎_elim}
 use mathlib.Core.Bool.{Bool, true, false, ◌&&◌, and-false}
 use mathlib.Core.List.{List}
-use mathlib.Core.Option.{some}
 use Prim.Native.Nat.{ℕ, ◌+◌, ◌*◌, ◌≤◌, ◌<◌}
 use native.Mathlib.Nat.{le_refl}
 use native.Mathlib.Omega.{arith}
@@ -43,7 +42,7 @@ use Rattle.oneround.proofs.Asked.{x_is, asked}
 
 module _ {P : Picture} (ok : Accepted P) {G : Facts} {x : ℕ} {mv : Move} {w v : List ℕ} (c : Counts) (f : Found P G x mv w) (long : length w ≡ 8000)
     (n : Counted mv.from.0 mv.into.0 mv.inside mv.places P.regs P.opers P.bounds P.recs P.types P.ops w v c.regs c.opers)
-    (q : Pass.round P G ≡ some f.a) where
+    (q : Pass.round P G ≡ Some f.a) where
   from_is : mv.from.0 ≡ f.a.x
   from_is = f.from_is ∙ sym (x_is ok f long)
 

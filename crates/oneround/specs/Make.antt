@@ -1,6 +1,5 @@
 -- 01, "The move" of a round, made, with the rows of the blocks that it changed. Assumes nothing.
-use Rattle.std.specs.Prelude.{◌≡◌, true, false, List, [], ℕ, ◌+◌, ◌*◌, ◌/◌, ◌≤◌, ◌<◌, get_or, length}
-use Rattle.std.proofs.Math.Option.{none, some}
+use Rattle.std.specs.Prelude.{◌≡◌, true, false, List, [], ℕ, ◌+◌, ◌*◌, ◌/◌, ◌≤◌, ◌<◌, get_or, length, None, Some}
 use Rattle.model.specs.Picture.{Picture}
 use Rattle.model.specs.Refusal.{refusal, records}
 use Rattle.model.specs.Analyse.{Facts}
@@ -44,9 +43,9 @@ pub record Renewed (bounds recs ops work64 : List ℕ) (v w from into : ℕ) (wo
 
 -- the picture after a round, by what it came to
 abbrev pub IsNext : Picture → Step → (Picture → Type 0) → Facts → Type 0
-IsNext P (Goes l) F G = (a : Plan) × (Pass.round P G ≡ some a) × (fits P (apply P a) ≡ true) × Says P a l × F (apply P a)
-IsNext P Short F G = (a : Plan) × (Pass.round P G ≡ some a) × (fits P (apply P a) ≡ false) × F P
-IsNext P Ends F G = (Pass.round P G ≡ none) × F P
+IsNext P (Goes l) F G = (a : Plan) × (Pass.round P G ≡ Some a) × (fits P (apply P a) ≡ true) × Says P a l × F (apply P a)
+IsNext P Short F G = (a : Plan) × (Pass.round P G ≡ Some a) × (fits P (apply P a) ≡ false) × F P
+IsNext P Ends F G = (Pass.round P G ≡ None) × F P
 
 -- there is an accepted picture of these lists and sizes, and facts by which the round comes to q
 pub record Making (bounds recs locs vias types ops : List ℕ) (s : Sizes) (work64 work32 : List ℕ) (q : Step) : Type 0 where

@@ -1,6 +1,5 @@
 -- 01, "A round" and "Answers": what the move of a round comes to, against the room that is lent. Assumes nothing.
-use Rattle.std.specs.Prelude.{◌≡◌, true, false, List, ℕ, ◌+◌, ◌≤◌, ◌<◌, length, take, drop, Option}
-use Rattle.std.proofs.Math.Option.{none, some}
+use Rattle.std.specs.Prelude.{◌≡◌, true, false, List, ℕ, ◌+◌, ◌≤◌, ◌<◌, length, take, drop, Option, None, Some}
 use Rattle.words.specs.Lists.{count}
 use Rattle.model.specs.Picture.{Picture}
 use Rattle.model.specs.Refusal.{refusal, records}
@@ -57,12 +56,12 @@ pub record Says (P : Picture) (a : Plan) (l : Line) : Type 0 where
 -- what the move comes to, and what the work slices then hold: of a move that fits, all that `apply` takes
 abbrev pub IsPrepared : Picture → Facts → Step → List ℕ → Type 0
 IsPrepared P G (Goes l) w =
-    (a : Plan) × (Pass.round P G ≡ some a) × (fits P (apply P a) ≡ true) × Says P a l
+    (a : Plan) × (Pass.round P G ≡ Some a) × (fits P (apply P a) ≡ true) × Says P a l
     × Asks a.x a.into l.moved.inside l.moved.places P.regs P.opers (length P.types) (length P.locs) P.bounds P.recs P.types P.ops w
     × Fits a.x a.into l.moved.inside l.moved.places P.regs P.opers P.bounds P.recs P.types P.ops w
     × Stands P a l.moved.inside l.moved.places w × Given P a l.moved.inside w
-IsPrepared P G Short w = (a : Plan) × (Pass.round P G ≡ some a) × (fits P (apply P a) ≡ false)
-IsPrepared P G Ends w = Pass.round P G ≡ none
+IsPrepared P G Short w = (a : Plan) × (Pass.round P G ≡ Some a) × (fits P (apply P a) ≡ false)
+IsPrepared P G Ends w = Pass.round P G ≡ None
 
 -- what is lent besides, which `weigh` does not read
 pub record Beside : Type 0 where

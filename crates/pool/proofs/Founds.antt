@@ -1,8 +1,8 @@
 -- The free words: the search from the top, and the closing up. Assumes nothing.
+use Rattle.std.specs.Prelude.{Some}
 use mathlib.Core.Path.{◌≡◌, refl, sym, ap, ap₂, ◌∙◌, subst}
 use mathlib.Core.Bool.{Bool, true, false, cond}
 use mathlib.Core.List.{List, [], ◌∷◌, ◌++◌, append_assoc, append-nil}
-use mathlib.Core.Option.{some}
 use Prim.Native.Nat.{ℕ, suc, ◌+◌, ◌-◌, ◌≤◌, ◌<◌}
 use native.Mathlib.Nat.{add-zero, sub_self, sub-zero, suc_inj}
 use native.Mathlib.Numerals.{add-one}
@@ -49,7 +49,7 @@ module _ (ty m nf : ℕ) (xs : List ℕ) where
       let t : eqb (free_of w).0 ty ≡ false = ne_eqb (free_of w).0 ty nt in
       record {
         within = omega arith;
-        found_is = h.found_is ∙ ap (found ty) (top j lt) ∙ ap (λ (b : Bool). cond b (some (free_of w).1) (found ty (below j))) t;
+        found_is = h.found_is ∙ ap (found ty) (top j lt) ∙ ap (λ (b : Bool). cond b (Some (free_of w).1) (found ty (below j))) t;
         rest_is =
             h.rest_is
             ∙ ap (λ (l : List (ℕ × ℕ)). piled (part (m + (j + 1)) (nf - (j + 1)) xs) l) (ap (without ty) (top j lt) ∙ ap (λ (b : Bool). cond b (below j) (free_of w ∷ without ty (below j))) t)
@@ -82,7 +82,7 @@ module _ (ty m nf : ℕ) (xs : List ℕ) where
       let t : eqb (free_of w).0 ty ≡ true = eq-eqb (free_of w).0 ty e in
       record {
         within = omega arith;
-        found_is = h.found_is ∙ ap (found ty) (top j lt) ∙ ap (λ (b : Bool). cond b (some (free_of w).1) (found ty (below j))) t;
+        found_is = h.found_is ∙ ap (found ty) (top j lt) ∙ ap (λ (b : Bool). cond b (Some (free_of w).1) (found ty (below j))) t;
         rest_is =
             h.rest_is
             ∙ ap (λ (l : List (ℕ × ℕ)). piled (part (m + (j + 1)) (nf - (j + 1)) xs) l) (ap (without ty) (top j lt) ∙ ap (λ (b : Bool). cond b (below j) (free_of w ∷ without ty (below j))) t)

@@ -1,8 +1,9 @@
 -- `give` in words is `give` of the pool. Assumes nothing.
+use Rattle.std.proofs.lemmas.Option.{none-some}
+use Rattle.std.specs.Prelude.{Option, None, Some}
 use mathlib.Core.Path.{◌≡◌, refl, sym, ap, ap₂, ◌∙◌, subst}
 use mathlib.Core.Bool.{Bool, true, false, cond}
 use mathlib.Core.List.{List, [], ◌∷◌, ◌++◌, map}
-use mathlib.Core.Option.{Option, none, some, none-ne-some}
 use Prim.Native.Nat.{ℕ, suc, ◌+◌, ◌-◌, ◌*◌, ◌/◌, ◌%◌, ◌≤◌, ◌<◌}
 use native.Mathlib.Nat.{mod-eq_of_lt, mod-lt, mul-add-mod_self_right, div-le_self}
 use native.Mathlib.Numerals.{add-one}
@@ -40,12 +41,12 @@ held_more nh xs s h v len hs e =
     ∙ map_append held_of (take nh xs) (v ∷ []) ∙ ap₂ (λ (l : List Held) (x : Held). l ++ (x ∷ [])) hs e
 
 -- nothing is taken out where nothing is found
-none_gone : (ty : ℕ) (fs : List (ℕ × ℕ)) → found ty fs ≡ none → fs ≡ without ty fs
+none_gone : (ty : ℕ) (fs : List (ℕ × ℕ)) → found ty fs ≡ None → fs ≡ without ty fs
 none_gone ty [] e = refl
 none_gone ty (f ∷ fs) e = go (eqb f.0 ty) e (none_gone ty fs)
   where
-    go : (b : Bool) → cond b (some f.1) (found ty fs) ≡ none → (found ty fs ≡ none → fs ≡ without ty fs) → f ∷ fs ≡ cond b fs (f ∷ without ty fs)
-    go true q more = absurd (none-ne-some f.1 (sym q))
+    go : (b : Bool) → cond b (Some f.1) (found ty fs) ≡ None → (found ty fs ≡ None → fs ≡ without ty fs) → f ∷ fs ≡ cond b fs (f ∷ without ty fs)
+    go true q more = absurd (none-some f.1 (sym q))
     go false q more = ap (λ (l : List (ℕ × ℕ)). f ∷ l) (more q)
 
 -- the pool after, by what was found
@@ -82,7 +83,7 @@ gave_new {m} {until} {ty} {nh} {nf} {next} {at} {k} {xs} t₀ z few room small t
       step = λ R p d types s i lt e.
           let word : held_of v ≡ record { until = until; reg = length s.types; type = ty } =
           held_word until (next * 8 + ty) x_small ∙ ap₂ (λ (a b : ℕ). record { until = until; reg = a; type = b }) (reg_is ∙ sym i.next_is) type_is in
-          let same : give p until s d ≡ given_by p until ty s none = give_is i until ty p d lt e none t.found_is in
+          let same : give p until s d ≡ given_by p until ty s None = give_is i until ty p d lt e None t.found_is in
           let n_is = i.next_is in
           let l_is = grown_length s.types ty in
           subst (Gives R m types (set xs nh v) (nh + 1) nf (next + k) p next ty s) (sym same)
@@ -123,7 +124,7 @@ again {m} {until} {ty} {nh} {nf} {next} {a} {xs} {ys} t r few room =
           ap (map held_of) (sym (take-take nh m ys (omega arith)) ∙ ap (take nh) r.held_same ∙ take-take nh m xs (omega arith)) ∙ i.held_is in
           let fs : part m (nf - 1) (set ys nh v) ≡ part m a xs ++ part (m + suc a) (nf - suc a) xs =
           part_below m (nf - 1) ys nh v (omega arith) ∙ r.closed ∙ ap (λ (n : ℕ). part m a xs ++ part (m + suc a) n xs) {x = nf - 1 - a} {y = nf - suc a} (omega arith) in
-          let same : give p until s d ≡ given_by p until ty s (some (x / 8)) = give_is i until ty p d lt e (some (x / 8)) t.found_is in
+          let same : give p until s d ≡ given_by p until ty s (Some (x / 8)) = give_is i until ty p d lt e (Some (x / 8)) t.found_is in
           let below : x / 8 < length s.types = found_low s i.low ty (x / 8) (ap (found ty) (sym i.free_is) ∙ t.found_is) in
           subst (Gives R m types (set ys nh v) (nh + 1) (nf - 1) next p (x / 8) ty s) (sym same)
           (record {

@@ -1,10 +1,11 @@
 -- Every register that the pool holds or has free is one whose type is known: so one that is given is new just if it is the next.
 -- Assumes nothing.
+use Rattle.std.proofs.lemmas.Option.{none-some, same_Some}
+use Rattle.std.specs.Prelude.{Option, None, Some}
 use mathlib.Core.Path.{◌≡◌, refl, sym, ap, ◌∙◌, subst}
 use mathlib.Core.Logic.{◌⊎◌, inl, inr, ⊎_elim}
 use mathlib.Core.Bool.{Bool, true, false, not, cond}
 use mathlib.Core.List.{List, [], ◌∷◌, ◌++◌}
-use mathlib.Core.Option.{Option, none, some, none-ne-some, some-injective}
 use Prim.Native.Nat.{ℕ, suc, ◌+◌, ◌<◌}
 use native.Mathlib.Omega.{arith}
 use lib.Dec.{eqb}
@@ -31,12 +32,12 @@ low_release p s l =
       held_low = λ h i. l.held_low h (filter_in (λ k. not (past p k)) h s.held i).0;
     }
 
-found_in : (ty : ℕ) (fs : List (ℕ × ℕ)) (r : ℕ) → found ty fs ≡ some r → (f : ℕ × ℕ) × In f fs × (r ≡ f.1)
-found_in ty [] r e = absurd (none-ne-some r e)
+found_in : (ty : ℕ) (fs : List (ℕ × ℕ)) (r : ℕ) → found ty fs ≡ Some r → (f : ℕ × ℕ) × In f fs × (r ≡ f.1)
+found_in ty [] r e = absurd (none-some r e)
 found_in ty (f ∷ fs) r e = go (eqb f.0 ty) e (found_in ty fs r)
   where
-    go : (b : Bool) → cond b (some f.1) (found ty fs) ≡ some r → (found ty fs ≡ some r → (k : ℕ × ℕ) × In k fs × (r ≡ k.1)) → (k : ℕ × ℕ) × In k (f ∷ fs) × (r ≡ k.1)
-    go true q more = (f, inl refl, sym (some-injective f.1 r q))
+    go : (b : Bool) → cond b (Some f.1) (found ty fs) ≡ Some r → (found ty fs ≡ Some r → (k : ℕ × ℕ) × In k fs × (r ≡ k.1)) → (k : ℕ × ℕ) × In k (f ∷ fs) × (r ≡ k.1)
+    go true q more = (f, inl refl, sym (same_Some f.1 r q))
     go false q more = let k = more q in (k.0, inr k.1, k.2)
 
 without_in : (ty : ℕ) (fs : List (ℕ × ℕ)) (f : ℕ × ℕ) → In f (without ty fs) → In f fs
@@ -55,7 +56,7 @@ grown_length ts ty = length-append ts (cond (eqb ty 4) (4 ∷ 0 ∷ []) (ty ∷ 
     go true = refl
     go false = refl
 
-pub found_low : (s : Pool) → Low s → (ty r : ℕ) → found ty s.free ≡ some r → r < length s.types
+pub found_low : (s : Pool) → Low s → (ty r : ℕ) → found ty s.free ≡ Some r → r < length s.types
 found_low s l ty r e = let k = found_in ty s.free r e in subst (λ (x : ℕ). x < length s.types) (sym k.2) (l.free_low k.0 k.1)
 
 pub low_give : (p until : ℕ) (s : Pool) (d : ℕ) → Low s → Low (give p until s d)
@@ -70,14 +71,14 @@ low_give p until s d l = go (found ty s.free) refl
       types = given_types s.types ty o;
       given = (p, given_reg s.types o) ∷ s.given;
     })
-    go none e =
+    go None e =
         let g = grown_length s.types ty in
         let up : (r : ℕ) → r < length s.types → r < length (grown s.types ty) = λ r h. omega arith in
         record {
           free_low = λ f i. up f.1 (l.free_low f (without_in ty s.free f i));
           held_low = λ h i. ⊎_elim (λ j. up h.reg (l.held_low h j)) (λ j. ⊎_elim (λ q. subst (λ (k : Held). k.reg < length (grown s.types ty)) (sym q) (omega arith)) (λ z. absurd z) j) (in_split h s.held (record { until = until; reg = length s.types; type = ty } ∷ []) i);
         }
-    go (some r) e =
+    go (Some r) e =
         record {
           free_low = λ f i. l.free_low f (without_in ty s.free f i);
           held_low = λ h i. ⊎_elim (λ j. l.held_low h j) (λ j. ⊎_elim (λ q. subst (λ (k : Held). k.reg < length s.types) (sym q) (found_low s l ty r e)) (λ z. absurd z) j) (in_split h s.held (record { until = until; reg = r; type = ty } ∷ []) i);

@@ -1,8 +1,7 @@
 -- 01, "The move", new registers: `model`'s pool in words, and what the functions over it ensure. Assumes nothing.
 -- A held register is one word, until × 2^20 + register × 8 + type, and a free one keeps that word. The first m words of a pool
 -- are for those held, in order; the next m for those free, last freed last.
-use Rattle.std.specs.Prelude.{◌≡◌, Bool, true, false, cond, not, List, [], ◌∷◌, ◌++◌, map, ℕ, zero, suc, ◌+◌, ◌-◌, ◌*◌, ◌/◌, ◌%◌, ◌≤◌, ◌<◌, eqb, ltb, get_or, length, take, drop, set}
-use Rattle.std.proofs.Math.Option.{Option, none, some}
+use Rattle.std.specs.Prelude.{◌≡◌, Bool, true, false, cond, not, List, [], ◌∷◌, ◌++◌, map, ℕ, zero, suc, ◌+◌, ◌-◌, ◌*◌, ◌/◌, ◌%◌, ◌≤◌, ◌<◌, eqb, ltb, get_or, length, take, drop, set, Option, None, Some}
 use Rattle.words.specs.Lists.{filter, lookup, In}
 use Rattle.model.specs.Picture.{absent}
 use Rattle.model.specs.Move.{Held, Pool, found, without, release, give, gives, grown}
@@ -45,8 +44,8 @@ pub record Topmost (ty m nf : ℕ) (xs : List ℕ) (i : ℕ) : Type 0 where
 
 -- the register that is found: the free word at index r - 1 above m, if r is not 0
 abbrev pub reg_at : ℕ → List ℕ → ℕ → Option ℕ
-reg_at m xs zero = none
-reg_at m xs (suc a) = some (free_of (get_or xs (m + a) 0)).1
+reg_at m xs zero = None
+reg_at m xs (suc a) = Some (free_of (get_or xs (m + a) 0)).1
 
 -- the free words without that one
 abbrev pub rest_at : ℕ → ℕ → List ℕ → ℕ → List ℕ

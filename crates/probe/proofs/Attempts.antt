@@ -1,9 +1,9 @@
 -- What `virdzeba_try` gives, case by case: refused, no block, no chain, sought. Assumes nothing.
+use Rattle.std.proofs.lemmas.Option.{none-some}
 use Rattle.std.specs.Prelude.{Option, Some, None}
 use mathlib.Core.Path.{◌≡◌, refl, sym, ap, ◌∙◌, subst}
 use mathlib.Core.Bool.{Bool, true, false}
 use mathlib.Core.List.{List}
-use mathlib.Core.Option.{Option, none, some, none-ne-some}
 use Prim.Native.Nat.{ℕ, zero, suc, ◌+◌, ◌-◌, ◌≤◌, ◌<◌}
 use native.Mathlib.Omega.{arith}
 use borrow.Author.Tests.{le-ltb, lt-ltb}
@@ -129,14 +129,14 @@ module _ (P : Picture) (x : ℕ) where
     same_out out (Some mv) f = same_words out mv f
     same_out out None f = sym (ap (with_plan out (size P x - 1)) f)
 
-    stands_so : (r : Option Move) → IsTried P (facts P) x r w → (a : Plan) → try_block P (facts P) x ≡ some a
+    stands_so : (r : Option Move) → IsTried P (facts P) x r w → (a : Plan) → try_block P (facts P) x ≡ Some a
         → Stands P a (size P x - 1) (length a.run) w
     stands_so (Some mv) f a e =
-        let q : f.a ≡ a = ap (λ (o : Option Plan). elim o as (λ z. Plan) [ some p ↦ p | none ↦ a ]) (sym f.is ∙ e) in
+        let q : f.a ≡ a = ap (λ (o : Option Plan). elim o as (λ z. Plan) [ Some p ↦ p | None ↦ a ]) (sym f.is ∙ e) in
         subst (λ (p : Plan). Stands P p (size P x - 1) (length p.run) w) q
         (subst (λ (n : ℕ). Stands P f.a (size P x - 1) n w) (sym f.stands.long)
         (subst (λ (m : ℕ). Stands P f.a m mv.places w) f.in_x f.stands))
-    stands_so None f a e = absurd (none-ne-some a (sym f ∙ e))
+    stands_so None f a e = absurd (none-some a (sym f ∙ e))
 
   -- ---- the cases
 
@@ -205,7 +205,7 @@ module _ (P : Picture) (x : ℕ) where
             let v = z.2 in
             let sh = shown_of P (length work64) (length work32) nf t.accepted t.sizes_are in
             let c = subst (λ (o : Option Look). IsLooked P b.0 o) e (v.is P sh) in
-            let g : Sought P work64 work32 work64' work32' x None = record { size64 = v.size64; size32 = v.size32; is = subst (λ (i : ℕ). try_block P (facts P) i ≡ none) t.block_is (c (facts P)) } in
+            let g : Sought P work64 work32 work64' work32' x None = record { size64 = v.size64; size32 = v.size32; is = subst (λ (i : ℕ). try_block P (facts P) i ≡ None) t.block_is (c (facts P)) } in
             record { number_is = z.0 ∙ number_as t.accepted t.is_block g; out_is = out_as t.accepted t.is_block g; left = left_as t.accepted t.is_block g }
 
         by_judged : (o : Option BlockId) → IsJudged P room x j o → SetsTo P.bounds P.recs P.ops P.pairs P.targets P.replay j work64 work32 work64' work32' k o → SetOut P x nf work64 work32 work64' work32' k

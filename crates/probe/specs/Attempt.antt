@@ -1,6 +1,5 @@
 -- 01, "A round": the move from one block x of a picture, as a first round finds it, and what the search leaves. Assumes nothing.
 use Rattle.std.specs.Prelude.{◌≡◌, true, false, List, ℕ, zero, suc, ◌+◌, ◌-◌, ◌≤◌, ◌<◌, ltb, length, Option, Some, None}
-use Rattle.std.proofs.Math.Option.{Option, none, some}
 use Rattle.words.specs.Lists.{count}
 use Rattle.model.specs.Picture.{Picture, nblocks, size}
 use Rattle.model.specs.Refusal.{refusal}
@@ -33,12 +32,12 @@ with_move out None = out
 
 -- of `model`'s plan
 abbrev pub plan_number : Option Plan → ℕ
-plan_number (some a) = 1
-plan_number none = 0
+plan_number (Some a) = 1
+plan_number None = 0
 
 abbrev pub with_plan : List ℕ → ℕ → Option Plan → List ℕ
-with_plan out n (some a) = with_four out a.into n (length a.run) (count a.set)
-with_plan out n none = out
+with_plan out n (Some a) = with_four out a.into n (length a.run) (count a.set)
+with_plan out n None = out
 
 -- of the picture with work slices of these lengths and so many records: 200 and the number of a refusal; 300 where x is no block
 abbrev pub attempt : Picture → ℕ → ℕ → ℕ → ℕ → ℕ
@@ -62,7 +61,7 @@ pub record Left (P : Picture) (x nf : ℕ) (work64 work32 work64' work32' : List
   pub size64 : length work64' ≡ length work64
   pub size32 : length work32' ≡ length work32
   pub kept : (refusal P (length work64) (length work32) nf ≡ 0 → x < nblocks P → ⊥) → (work64' ≡ work64) × (work32' ≡ work32)
-  pub stands : (a : Plan) → refusal P (length work64) (length work32) nf ≡ 0 → x < nblocks P → try_block P (facts P) x ≡ some a
+  pub stands : (a : Plan) → refusal P (length work64) (length work32) nf ≡ 0 → x < nblocks P → try_block P (facts P) x ≡ Some a
       → Stands P a (size P x - 1) (length a.run) (chain_words work32')
 
 -- so does the list of records, but for what it then holds

@@ -1,8 +1,8 @@
 -- The facts on registers as flags: a constant's, a record's, and of every register. Assumes nothing.
+use Rattle.std.specs.Prelude.{Option, None, Some}
 use mathlib.Core.Bool.{Bool, true, false, cond, ◌||◌, ◌&&◌, and-true}
 use mathlib.Core.List.{List}
 use mathlib.Core.Logic.{◌⊎◌, inl, inr, ⊎_elim}
-use mathlib.Core.Option.{Option, none, some}
 use mathlib.Core.Path.{◌≡◌, refl, sym, ap, ◌∙◌, subst}
 use Prim.Native.Nat.{ℕ, zero, suc, ◌+◌, ◌*◌, ◌-◌, ◌≤◌, ◌<◌}
 use native.Mathlib.Decide.{ℕ_discrete}
@@ -40,7 +40,7 @@ small_is (negsuc n) = and-true (leb n 1099511627775) ∙ go (leb n 1099511627775
 
 abbrev packed : Bool → Bool → Bool → Inst → ℕ
 packed a f c i =
-    let k : Option ℤ = elim c [ true ↦ some (whole i) | false ↦ none ] in
+    let k : Option ℤ = elim c [ true ↦ Some (whole i) | false ↦ None ] in
     num (a && (eqb (get_or i 1 0) 2 || eqb (get_or i 1 0) 4)) + 2 * num (a && eqb (get_or i 1 0) 0) + 4 * num (when_some small k) + 8 * num (when_some positive k)
 
 flags_by : (i : Inst) (a c : Bool) → eqb (get_or i 0 0) 3 ≡ a → eqb (get_or i 0 0) 0 ≡ c → flags_of (known i) ≡ packed a a c i

@@ -1,10 +1,10 @@
 -- The search for the next block whose chain is to be tried (01, "A round": "the first block, in number order, of more than 3 instructions
 -- for which a move exists"): the blocks that it passes over have no move, so that block by block it is `model`'s `first_plan`. Assumes nothing.
+use Rattle.std.proofs.lemmas.Option.{none-some}
 use Rattle.std.specs.Prelude.{Option, Some, None}
 use mathlib.Core.Path.{◌≡◌, refl, sym, ap, ap₂, ◌∙◌, subst}
 use mathlib.Core.Bool.{Bool, true, false}
 use mathlib.Core.List.{List, [], ◌∷◌, ◌++◌}
-use mathlib.Core.Option.{Option, none, some, none-ne-some}
 use Prim.Native.Nat.{ℕ, suc, ◌+◌, ◌-◌, ◌*◌, ◌≤◌, ◌<◌}
 use native.Mathlib.Nat.{zero-add, le_refl}
 use native.Mathlib.Numerals.{add-one}
@@ -44,25 +44,25 @@ use Rattle.search.specs.Search.{Sees, Seeking, IsLooked, Looked, IsPassed, Sough
 
 module _ (P : Picture) (G : Facts) where
   abbrev one_of : Option Plan → Option Plan → Option Plan
-  one_of o rest = elim o as (λ z. Option Plan) [ some a ↦ some a | none ↦ rest ]
+  one_of o rest = elim o as (λ z. Option Plan) [ Some a ↦ Some a | None ↦ rest ]
 
   abbrev pick : Bool → Option Plan → Option Plan → Option Plan
   pick b o rest = elim b as (λ z. Option Plan) [ false ↦ rest | true ↦ one_of o rest ]
 
-  first_on : (xs ys : List ℕ) → first_plan P G xs ≡ none → first_plan P G (xs ++ ys) ≡ first_plan P G ys
+  first_on : (xs ys : List ℕ) → first_plan P G xs ≡ None → first_plan P G (xs ++ ys) ≡ first_plan P G ys
   first_on [] ys e = refl
   first_on (x ∷ xs) ys e = go (first_on xs ys) (ltb min_replay (size P x)) (try_block P G x) e
     where
-      go : (first_plan P G xs ≡ none → first_plan P G (xs ++ ys) ≡ first_plan P G ys) → (b : Bool) (o : Option Plan) → pick b o (first_plan P G xs) ≡ none
+      go : (first_plan P G xs ≡ None → first_plan P G (xs ++ ys) ≡ first_plan P G ys) → (b : Bool) (o : Option Plan) → pick b o (first_plan P G xs) ≡ None
           → pick b o (first_plan P G (xs ++ ys)) ≡ first_plan P G ys
       go k false o q = k q
-      go k true none q = k q
-      go k true (some a) q = absurd (none-ne-some a (sym q))
+      go k true None q = k q
+      go k true (Some a) q = absurd (none-some a (sym q))
 
-  first_here : (x : ℕ) (ys : List ℕ) (a : Plan) → ltb min_replay (size P x) ≡ true → try_block P G x ≡ some a → first_plan P G (x ∷ ys) ≡ some a
+  first_here : (x : ℕ) (ys : List ℕ) (a : Plan) → ltb min_replay (size P x) ≡ true → try_block P G x ≡ Some a → first_plan P G (x ∷ ys) ≡ Some a
   first_here x ys a l t = ap₂ (λ (b : Bool) (o : Option Plan). pick b o (first_plan P G ys)) l t
 
-  first_skip : (x : ℕ) (ys : List ℕ) → (ltb min_replay (size P x) ≡ true → try_block P G x ≡ none) → first_plan P G (x ∷ ys) ≡ first_plan P G ys
+  first_skip : (x : ℕ) (ys : List ℕ) → (ltb min_replay (size P x) ≡ true → try_block P G x ≡ None) → first_plan P G (x ∷ ys) ≡ first_plan P G ys
   first_skip x ys h = go (ltb min_replay (size P x)) refl
     where
       go : (b : Bool) → ltb min_replay (size P x) ≡ b → pick b (try_block P G x) (first_plan P G ys) ≡ first_plan P G ys
@@ -74,11 +74,11 @@ module _ (P : Picture) (G : Facts) where
       let e : n ≡ b + suc (n - suc b) = omega arith in
       ap (range 0) e ∙ sym (range_append 0 b (suc (n - suc b))) ∙ ap (λ (z : ℕ). range 0 b ++ range z (suc (n - suc b))) (zero-add b)
 
-  pub first_at : (b n : ℕ) (a : Plan) → b < n → first_plan P G (upto b) ≡ none → ltb min_replay (size P b) ≡ true → try_block P G b ≡ some a → first_plan P G (upto n) ≡ some a
+  pub first_at : (b n : ℕ) (a : Plan) → b < n → first_plan P G (upto b) ≡ None → ltb min_replay (size P b) ≡ true → try_block P G b ≡ Some a → first_plan P G (upto n) ≡ Some a
   first_at b n a h e l t =
       ap (first_plan P G) (upto_at b n h) ∙ first_on (upto b) (b ∷ range (suc b) (n - suc b)) e ∙ first_here b (range (suc b) (n - suc b)) a l t
 
-  pub none_more : (b : ℕ) → first_plan P G (upto b) ≡ none → (ltb min_replay (size P b) ≡ true → try_block P G b ≡ none) → first_plan P G (upto (b + 1)) ≡ none
+  pub none_more : (b : ℕ) → first_plan P G (upto b) ≡ None → (ltb min_replay (size P b) ≡ true → try_block P G b ≡ None) → first_plan P G (upto (b + 1)) ≡ None
   none_more b e h =
       ap (λ (n : ℕ). first_plan P G (upto n)) (add-one b) ∙ ap (first_plan P G) (range_snoc 0 b) ∙ first_on (upto b) ((0 + b) ∷ []) e
       ∙ ap (λ (x : ℕ). first_plan P G (x ∷ [])) (zero-add b) ∙ first_skip b [] h
@@ -87,30 +87,30 @@ module _ (P : Picture) (G : Facts) where
 
 module _ (P : Picture) (G : Facts) (x : ℕ) where
   abbrev by_chain : Option M.Chain → Option Plan
-  by_chain o = elim o as (λ z. Option Plan) [ none ↦ none | some c ↦ plan_chain P G x c ]
+  by_chain o = elim o as (λ z. Option Plan) [ None ↦ None | Some c ↦ plan_chain P G x c ]
 
   abbrev by_worth : M.Chain → Bool → Option Plan
   by_worth c b = elim b as (λ z. Option Plan) [
-    | false ↦ none
-    | true ↦ elim (plan P (run_of P G c) x c (minimum (replays P c)) c.t c.f) as (λ z. Option Plan) [ some a ↦ some a | none ↦ plan P (run_of P G c) x c (minimum (replays P c)) c.f c.t ]
+    | false ↦ None
+    | true ↦ elim (plan P (run_of P G c) x c (minimum (replays P c)) c.t c.f) as (λ z. Option Plan) [ Some a ↦ Some a | None ↦ plan P (run_of P G c) x c (minimum (replays P c)) c.f c.t ]
   ]
 
-  no_chain : chain P x ≡ none → try_block P G x ≡ none
+  no_chain : chain P x ≡ None → try_block P G x ≡ None
   no_chain e = ap by_chain e
 
-  not_worth : (c : M.Chain) → chain P x ≡ some c → worth_a_look P x c ≡ false → try_block P G x ≡ none
+  not_worth : (c : M.Chain) → chain P x ≡ Some c → worth_a_look P x c ≡ false → try_block P G x ≡ None
   not_worth c e f = ap by_chain e ∙ ap (by_worth c) f
 
-  too_short : size P x ≤ 3 → try_block P G x ≡ none
+  too_short : size P x ≤ 3 → try_block P G x ≡ None
   too_short h = go (chain P x) refl
     where
       low : (c : M.Chain) (b : Bool) → worth_a_look P x c ≡ b → worth_a_look P x c ≡ false
       low c true f = absurd (let a = worth_long P x c f in omega arith)
       low c false f = f
 
-      go : (o : Option M.Chain) → chain P x ≡ o → try_block P G x ≡ none
-      go none e = no_chain e
-      go (some c) e = not_worth c e (low c (worth_a_look P x c) refl)
+      go : (o : Option M.Chain) → chain P x ≡ o → try_block P G x ≡ None
+      go None e = no_chain e
+      go (Some c) e = not_worth c e (low c (worth_a_look P x c) refl)
 
 sized : (P : Picture) {bounds : List ℕ} → bounds ≡ P.bounds → (x k : ℕ) → k ≡ x → get_or bounds (2 * k + 1) 0 - get_or bounds (2 * k) 0 ≡ size P x
 sized P h x k e = ap₂ (λ (l : List ℕ) (i : ℕ). get_or l (2 * i + 1) 0 - get_or l (2 * i) 0) h e
@@ -180,7 +180,7 @@ module _ {bounds recs replay : List ℕ} {s : Sizes} {work32 : List ℕ} (x k : 
   unfolding chain_of
   looked_none f e = record { is = λ P v G. no_chain P G x (sym (chain_is P v f) ∙ ap chain_of e) }
 
-  this_chain : {r : Option Chain} {c : Chain} (P : Picture) → Sees P bounds recs replay s work32 → Chains bounds recs s work32 x r → r ≡ IsChain c → chain P x ≡ some (chain_in c)
+  this_chain : {r : Option Chain} {c : Chain} (P : Picture) → Sees P bounds recs replay s work32 → Chains bounds recs s work32 x r → r ≡ IsChain c → chain P x ≡ Some (chain_in c)
   unfolding chain_of ended
   this_chain P v f e = sym (chain_is P v f) ∙ ap chain_of e
 
@@ -220,7 +220,7 @@ module _ {bounds recs replay : List ℕ} {s : Sizes} {work32 : List ℕ} {from :
     passing_more h q = record {
       past = λ P v G z.
           none_more P G b (l.past P v G z)
-          (λ y. subst (λ (i : ℕ). try_block P G i ≡ none) (sym e) (subst (IsLooked P x) q (u.is P v) G));
+          (λ y. subst (λ (i : ℕ). try_block P G i ≡ None) (sym e) (subst (IsLooked P x) q (u.is P v) G));
       after = let a = l.after in omega arith;
       within = omega arith;
     }

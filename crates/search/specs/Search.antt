@@ -1,7 +1,6 @@
 -- 01, "A round": what the call begins with, and the search for the next block whose chain is to be tried, of which `model`'s `first_plan`
 -- is made. Assumes nothing.
 use Rattle.std.specs.Prelude.{◌≡◌, List, ℕ, ◌≤◌, length, Option, Some, None}
-use Rattle.std.proofs.Math.Option.{none}
 use Rattle.words.specs.Lists.{upto}
 use Rattle.model.specs.Picture.{Picture, nblocks}
 use Rattle.model.specs.Refusal.{refusal, records}
@@ -59,14 +58,14 @@ pub record Seeking (bounds recs replay : List ℕ) (s : Sizes) (work32 : List �
 -- one block: its chain, or it has no move, whatever the facts are
 abbrev pub IsLooked : Picture → ℕ → Option Look → Type 0
 IsLooked P x (Some k) = (k.x.0 ≡ x) × Chosen P x k.c
-IsLooked P x None = (G : Facts) → try_block P G x ≡ none
+IsLooked P x None = (G : Facts) → try_block P G x ≡ None
 
 pub record Looked (bounds recs replay : List ℕ) (s : Sizes) (work32 : List ℕ) (x : ℕ) (r : Option Look) : Type 0 where
   pub is : (P : Picture) → Sees P bounds recs replay s work32 → IsLooked P x r
 
 -- no block from a up to b has a move, whatever the facts are: if those before a have none, those before b have none
 abbrev pub IsPassed : Picture → ℕ → ℕ → Type 0
-IsPassed P a b = (G : Facts) → first_plan P G (upto a) ≡ none → first_plan P G (upto b) ≡ none
+IsPassed P a b = (G : Facts) → first_plan P G (upto a) ≡ None → first_plan P G (upto b) ≡ None
 
 -- the first block from block `from` on
 abbrev pub IsSought : Picture → ℕ → Option Look → Type 0

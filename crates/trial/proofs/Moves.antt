@@ -4,7 +4,6 @@ use mathlib.Core.Path.{◌≡◌, refl, sym, ap, ◌∙◌, subst}
 use mathlib.Core.Logic.{⊎_elim}
 use mathlib.Core.Bool.{Bool, cond}
 use mathlib.Core.List.{List}
-use mathlib.Core.Option.{Option, none, some}
 use Prim.Native.Nat.{ℕ, ◌*◌, ◌≤◌, ◌<◌}
 use native.Mathlib.Omega.{arith}
 use borrow.Author.Tests.{lt-ltb, le-ltb, ne_eqb}
@@ -62,7 +61,7 @@ module _ (x : BlockId) (g : Goal) (k l : ℕ) where
 
 -- the first plan, or else the second
 abbrev pub first_of : Option Plan → Option Plan → Option Plan
-first_of p q = elim p [ some a ↦ some a | none ↦ q ]
+first_of p q = elim p [ Some a ↦ Some a | None ↦ q ]
 
 -- the plan for t, with which g is tried, or else that for f
 abbrev pub plan_in : Picture → Facts → ℕ → Chain → Goal → Option Plan
@@ -71,7 +70,7 @@ plan_in P G x c g = first_of (plan_toward P G x c g) (plan_toward P G x c (towar
 -- the move mv is that plan, and the words say so
 pub record Moves (P : Picture) (G : Facts) (x : ℕ) (c : Chain) (g : Goal) (mv : Move) (w : List ℕ) : Type 0 where
   pub a : Plan
-  pub is : plan_in P G x c g ≡ some a
+  pub is : plan_in P G x c g ≡ Some a
   pub from_is : mv.from.0 ≡ x
   pub into_is : mv.into.0 ≡ a.into
   pub moved_is : mv.moved ≡ count a.set
@@ -82,12 +81,12 @@ pub record Moves (P : Picture) (G : Facts) (x : ℕ) (c : Chain) (g : Goal) (mv 
 
 abbrev pub MovesBy : Picture → Facts → ℕ → Chain → Goal → Option Move → List ℕ → Type 0
 MovesBy P G x c g (Some mv) w = Moves P G x c g mv w
-MovesBy P G x c g None w = plan_in P G x c g ≡ none
+MovesBy P G x c g None w = plan_in P G x c g ≡ None
 
-first_some : {p : Option Plan} (q : Option Plan) {a : Plan} → p ≡ some a → first_of p q ≡ some a
+first_some : {p : Option Plan} (q : Option Plan) {a : Plan} → p ≡ Some a → first_of p q ≡ Some a
 first_some q e = ap (λ (o : Option Plan). first_of o q) e
 
-first_none : {p : Option Plan} (q : Option Plan) → p ≡ none → first_of p q ≡ q
+first_none : {p : Option Plan} (q : Option Plan) → p ≡ None → first_of p q ≡ q
 first_none q e = ap (λ (o : Option Plan). first_of o q) e
 
 -- ---- t is tried, then f
@@ -103,7 +102,7 @@ module _ {bounds recs ops pairs targets : List ℕ} {s : Sizes} {c : Chain} {w :
     IsAnswer v = MovesBy P G x c g v (chain_words work32'')
 
     -- the plan is for the target's block
-    into_it : (h : Goal) {v : Plan} → plan_toward P G x c h ≡ some v → h.into.0 ≡ v.into
+    into_it : (h : Goal) {v : Plan} → plan_toward P G x c h ≡ Some v → h.into.0 ≡ v.into
     into_it h {v} e = sym (laws.planned P (run_of P G (chain_in c)) x (chain_in c) h.least h.into.0 h.other.0 v e).into_is
 
     -- into t: the words stay as they are
@@ -149,7 +148,7 @@ module _ {bounds recs ops pairs targets : List ℕ} {s : Sizes} {c : Chain} {w :
 
       neither : l ≡ 0 → IsAnswer (found from g k l)
       neither l0 =
-          let it : plan_in P G x c g ≡ none =
+          let it : plan_in P G x c g ≡ None =
           no_t
           ∙ q.none_is (subst (λ (y : ℕ). 0 < (toward_f g y).least) (sym k0) some?) P G x (lists_of p.size64 p.size32 r) u (p.held P G r u d) (along_behind p.behind a) f l0 in
           subst IsAnswer (found_none from g k l (omega arith) (omega arith)) it

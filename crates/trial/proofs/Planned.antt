@@ -1,10 +1,10 @@
 -- `try_target`: what it asks of its callees, and its answer: where there is nothing to do, where the set has too few members, and where the
 -- words stand for the plan. Assumes nothing.
+use Rattle.std.specs.Prelude.{Option, None, Some}
 use mathlib.Core.Path.{◌≡◌, refl, sym, ap, ap₂, ◌∙◌, subst}
 use mathlib.Core.Logic.{◌⊎◌, inl, inr, ⊎_elim}
 use mathlib.Core.Bool.{Bool, true, false, ◌&&◌}
 use mathlib.Core.List.{List, []}
-use mathlib.Core.Option.{Option, none, some}
 use Prim.Native.Nat.{ℕ, zero, suc, ◌+◌, ◌-◌, ◌*◌, ◌≤◌, ◌<◌}
 use native.Mathlib.Omega.{arith}
 use borrow.Author.Tests.{le-leb, lt-leb}
@@ -55,14 +55,14 @@ module _ (P : Picture) (run : List Fact) (x : ℕ) (c : M.Chain) (least into oth
   abbrev made : Plan
   made = record { x = x; into = into; run = run; set = set_for P run x into other }
 
-  plan_off : is_target P c into ≡ false → plan P run x c least into other ≡ none
-  plan_off e = ap (λ (b : Bool). elim (b && leb least (count (set_for P run x into other))) as (λ z. Option Plan) [ true ↦ some made | false ↦ none ]) e
+  plan_off : is_target P c into ≡ false → plan P run x c least into other ≡ None
+  plan_off e = ap (λ (b : Bool). elim (b && leb least (count (set_for P run x into other))) as (λ z. Option Plan) [ true ↦ Some made | false ↦ None ]) e
 
-  plan_few : is_target P c into ≡ true → count (set_for P run x into other) < least → plan P run x c least into other ≡ none
-  plan_few e h = ap₂ (λ (u v : Bool). elim (u && v) as (λ z. Option Plan) [ true ↦ some made | false ↦ none ]) e (lt-leb least (count (set_for P run x into other)) h)
+  plan_few : is_target P c into ≡ true → count (set_for P run x into other) < least → plan P run x c least into other ≡ None
+  plan_few e h = ap₂ (λ (u v : Bool). elim (u && v) as (λ z. Option Plan) [ true ↦ Some made | false ↦ None ]) e (lt-leb least (count (set_for P run x into other)) h)
 
-  plan_on : is_target P c into ≡ true → least ≤ count (set_for P run x into other) → plan P run x c least into other ≡ some made
-  plan_on e h = ap₂ (λ (u v : Bool). elim (u && v) as (λ z. Option Plan) [ true ↦ some made | false ↦ none ]) e (le-leb least (count (set_for P run x into other)) h)
+  plan_on : is_target P c into ≡ true → least ≤ count (set_for P run x into other) → plan P run x c least into other ≡ Some made
+  plan_on e h = ap₂ (λ (u v : Bool). elim (u && v) as (λ z. Option Plan) [ true ↦ Some made | false ↦ None ]) e (le-leb least (count (set_for P run x into other)) h)
 
 -- ---- what stays
 
@@ -279,7 +279,7 @@ module _ {bounds recs ops pairs targets : List ℕ} {s : Sizes} {c : Chain} {fs 
       still_by (all_move h i) f z = absurd (omega arith)
 
       none_by : {b : Sunk} → Share k a.least g.places b → 0 < g.least → (P : Picture) (G : Facts) (x : ℕ) → Lists P bounds recs ops s (length work64) (length work32) → Tabled P pairs targets → Held P G work64 work32
-          → Along P G c (bare fs) work32 g.places → FromX P c x g.inside → b.moved ≡ 0 → plan_toward P G x c g ≡ none
+          → Along P G c (bare fs) work32 g.places → FromX P c x g.inside → b.moved ≡ 0 → plan_toward P G x c g ≡ None
       none_by (none_move h) some? P G x l u hd al fx z = ⊎_elim
           (λ (y : a.least ≡ 0). plan_off P (run_of P G (chain_in c)) x (chain_in c) g.least g.into.0 g.other.0 (d.no_target y some? P G ops l hd))
           (λ (y : 0 < a.least).
@@ -293,7 +293,7 @@ module _ {bounds recs ops pairs targets : List ℕ} {s : Sizes} {c : Chain} {fs 
       some_by : {b : Sunk} → Share k a.least g.places b → U.Facts fs' work32 work32₁ b.places → Used bounds recs ops s c work64₂ work32₁ b.moved g.into.0 g.inside g.places work64₃ work32₃
           → (P : Picture) (G : Facts) (x : ℕ) → Lists P bounds recs ops s (length work64) (length work32) → Tabled P pairs targets → Held P G work64 work32
           → Along P G c (bare fs) work32 g.places → FromX P c x g.inside → (b.moved ≡ 0 → ⊥)
-          → (v : Plan) × (plan_toward P G x c g ≡ some v) × (b.moved ≡ count v.set) × Marked P v g.inside g.places (chain_words work32₃)
+          → (v : Plan) × (plan_toward P G x c g ≡ Some v) × (b.moved ≡ count v.set) × Marked P v g.inside g.places (chain_words work32₃)
           × ((j : ℕ) → j < g.places → get_or (chain_words work32₃) (10 * j) 0 ≡ get_or (chain_places P (blocks_of c)) j 0)
       some_by (none_move h) f v P G x l u hd al fx z = absurd (z refl)
       some_by (all_move h i) f v P G x l u hd al fx z =

@@ -3,7 +3,6 @@ use Rattle.std.specs.Prelude.{Option, Some, None}
 use mathlib.Core.Path.{◌≡◌, refl, sym, ap, ap₂, ◌∙◌, subst}
 use mathlib.Core.Bool.{Bool, true, false}
 use mathlib.Core.List.{List, [], ◌∷◌}
-use mathlib.Core.Option.{Option, none, some}
 use Prim.Native.Nat.{ℕ, ◌+◌, ◌-◌, ◌*◌, ◌≤◌, ◌<◌}
 use native.Mathlib.Omega.{arith}
 use lib.ListN.{get_or, length}
@@ -38,7 +37,7 @@ use Rattle.trial.proofs.Moves.{plan_in, MovesBy, held_both, first_plan}
 
 -- ---- the chain from x
 
-module _ (P : Picture) (k : Look) (e : chain P k.x.0 ≡ some (chain_in k.c)) where
+module _ (P : Picture) (k : Look) (e : chain P k.x.0 ≡ Some (chain_in k.c)) where
   abbrev x : ℕ
   x = k.x.0
 
@@ -65,7 +64,7 @@ module _ (P : Picture) (k : Look) (e : chain P k.x.0 ≡ some (chain_in k.c)) wh
     aim = toward_t P.bounds P.replay k n
 
     look : try_block P G x ≡ plan_in P G x c aim
-    look = ap (λ (o : Option M.Chain). elim o as (λ z. Option Plan) [ none ↦ none | some d ↦ plan_chain P G x d ]) e ∙ ap (λ (b : Bool). elim b as (λ z. Option Plan) [ false ↦ none | true ↦ plan_in P G x c aim ]) f
+    look = ap (λ (o : Option M.Chain). elim o as (λ z. Option Plan) [ None ↦ None | Some d ↦ plan_chain P G x d ]) e ∙ ap (λ (b : Bool). elim b as (λ z. Option Plan) [ false ↦ None | true ↦ plan_in P G x c aim ]) f
 
     -- the move
     tried_is : (w : List ℕ) (r : Option Move) → MovesBy P G x c aim r w → IsTried P G x r w

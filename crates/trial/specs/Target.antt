@@ -1,6 +1,5 @@
 -- One target tried (01, "A round"), in parts: whether it is one, the set, and the words. Assumes nothing.
-use Rattle.std.specs.Prelude.{◌≡◌, true, false, ◌||◌, cond, List, ℕ, ◌+◌, ◌*◌, ◌<◌, eqb, ltb, get_or, length, drop}
-use Rattle.std.proofs.Math.Option.{Option, none, some}
+use Rattle.std.specs.Prelude.{◌≡◌, true, false, ◌||◌, cond, List, ℕ, ◌+◌, ◌*◌, ◌<◌, eqb, ltb, get_or, length, drop, Option, None, Some}
 use Rattle.words.specs.Lists.{count, member}
 use Rattle.model.specs.Picture.{Picture, nblocks}
 use Rattle.model.specs.Analyse.{Facts}
@@ -74,9 +73,9 @@ pub record TargetTried (bounds recs ops pairs targets : List ℕ) (s : Sizes) (c
   -- no plan: the words are as they were
   pub still : r ≡ 0 → work32' ≡ work32
   pub none_is : 0 < g.least → (P : Picture) (G : Facts) (x : ℕ) → Lists P bounds recs ops s (length work64) (length work32) → Tabled P pairs targets → Held P G work64 work32
-      → Along P G c w work32 g.places → FromX P c x g.inside → r ≡ 0 → plan_toward P G x c g ≡ none
+      → Along P G c w work32 g.places → FromX P c x g.inside → r ≡ 0 → plan_toward P G x c g ≡ None
   -- a plan: the words say so
   pub some_is : (P : Picture) (G : Facts) (x : ℕ) → Lists P bounds recs ops s (length work64) (length work32) → Tabled P pairs targets → Held P G work64 work32
       → Along P G c w work32 g.places → FromX P c x g.inside → (r ≡ 0 → ⊥)
-      → (a : Plan) × (plan_toward P G x c g ≡ some a) × (r ≡ count a.set) × Marked P a g.inside g.places (chain_words work32')
+      → (a : Plan) × (plan_toward P G x c g ≡ Some a) × (r ≡ count a.set) × Marked P a g.inside g.places (chain_words work32')
       × ((k : ℕ) → k < g.places → get_or (chain_words work32') (10 * k) 0 ≡ get_or (chain_places P (blocks_of c)) k 0)

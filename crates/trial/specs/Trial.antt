@@ -1,7 +1,6 @@
 -- 01, "A round": what the search for a move from a block answers, `model`'s `try_block`; the chain's words then stand for the plan, as
 -- `apply` takes it. Assumes nothing.
 use Rattle.std.specs.Prelude.{◌≡◌, ◌||◌, cond, List, ℕ, ◌+◌, ◌*◌, ◌-◌, ◌<◌, eqb, ltb, get_or, length, Option, Some, None}
-use Rattle.std.proofs.Math.Option.{none, some}
 use Rattle.words.specs.Lists.{count, mem}
 use Rattle.model.specs.Picture.{Picture, absent, size}
 use Rattle.model.specs.Analyse.{Facts}
@@ -21,8 +20,8 @@ use Rattle.sizes.specs.declared.Sizes.{Sizes}
 pub record Found (P : Picture) (G : Facts) (x : ℕ) (mv : Move) (w : List ℕ) : Type 0 where
   pub a : Plan
   pub c : Chain
-  pub is : try_block P G x ≡ some a
-  pub is_chain : chain P x ≡ some c
+  pub is : try_block P G x ≡ Some a
+  pub is_chain : chain P x ≡ Some c
   pub from_is : mv.from.0 ≡ x
   pub into_is : mv.into.0 ≡ a.into
   pub moved_is : mv.moved ≡ count a.set
@@ -34,7 +33,7 @@ pub record Found (P : Picture) (G : Facts) (x : ℕ) (mv : Move) (w : List ℕ) 
 
 abbrev pub IsTried : Picture → Facts → ℕ → Option Move → List ℕ → Type 0
 IsTried P G x (Some mv) w = Found P G x mv w
-IsTried P G x None w = try_block P G x ≡ none
+IsTried P G x None w = try_block P G x ≡ None
 
 -- ---- what the targets are tried with, and the answer of `found`
 

@@ -1,6 +1,5 @@
 -- Lists of numbers: what the other pages need and the library lacks. Assumes nothing.
-use Rattle.std.specs.Prelude.{◌≡◌, ◌⊎◌, Bool, true, false, ◌&&◌, ◌||◌, cond, List, [], ◌∷◌, ◌++◌, ℕ, zero, suc, ◌+◌, eqb, get_or, length}
-use Rattle.std.proofs.Math.Option.{Option, none, some}
+use Rattle.std.specs.Prelude.{◌≡◌, ◌⊎◌, Bool, true, false, ◌&&◌, ◌||◌, cond, List, [], ◌∷◌, ◌++◌, ℕ, zero, suc, ◌+◌, eqb, get_or, length, Option, None, Some}
 
 -- s, s + 1, .., n numbers in all
 abbrev pub range : ℕ → ℕ → List ℕ
@@ -48,8 +47,8 @@ module _ {A : Type 0} where
   concat (x ∷ xs) = x ++ concat xs
 
   abbrev pub head : List A → Option A
-  head [] = none
-  head (x ∷ xs) = some x
+  head [] = None
+  head (x ∷ xs) = Some x
 
 abbrev pub mem : ℕ → List ℕ → Bool
 mem r xs = any (λ x. eqb r x) xs

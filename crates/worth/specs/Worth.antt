@@ -1,6 +1,5 @@
 -- 01, "A round": whether a chain is looked at, as an answer on lent words. Assumes nothing.
-use Rattle.std.specs.Prelude.{◌≡◌, Bool, true, List, ℕ, ◌<◌}
-use Rattle.std.proofs.Math.Option.{some}
+use Rattle.std.specs.Prelude.{◌≡◌, Bool, true, List, ℕ, ◌<◌, Some}
 use Rattle.model.specs.Picture.{Picture, nblocks}
 use Rattle.model.specs.Move.{chain, worth_a_look}
 use Rattle.chains.specs.declared.chain.Chain.{Chain}
@@ -14,5 +13,5 @@ pub record Worth (bounds recs replay : List ℕ) (c : Chain) (x : ℕ) (r : Bool
 pub record Chosen (P : Picture) (x : ℕ) (c : Chain) : Type 0 where
   pub x_block : x < nblocks P
   pub sound : Sound c (nblocks P)
-  pub is_chain : chain P x ≡ some (chain_in c)
+  pub is_chain : chain P x ≡ Some (chain_in c)
   pub worth : worth_a_look P x (chain_in c) ≡ true

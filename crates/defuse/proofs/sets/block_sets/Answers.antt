@@ -15,7 +15,7 @@ add_front-requires c =
     let e = c.loop-p.invariant.2 in
     let t = c.loop-p-test.true in
     let p = c.loop-p.p - 1 in
-    (g.0, omega arith, omega arith, g.5.known p (omega arith), g.5.listed p (omega arith), read_low g.5 p (omega arith), written_low g.5 p (omega arith))
+    (omega arith, omega arith, g.4.known p (omega arith), g.4.listed p (omega arith), read_low g.4 p (omega arith), written_low g.4 p (omega arith))
 
 pub loop-p-preserved : goal.loop-p-preserved
 loop-p-preserved c = let a = c.args in let i = c.loop-p in (omega arith, omega arith, c.add_front.auto.bits ∙ i.invariant.2, run_more a.recs.now a.ops.now a.at.u a.at.d a.bits.now _ _ _ c.loop-p-test.true i.invariant.1 i.invariant.3 c.add_front.ensures)
