@@ -19,7 +19,7 @@ use Rattle.inst.specs.Table.{packed}
 use Rattle.inst.specs.Table as T
 use Rattle.inst.specs.declared.access.Firsts.{Firsts}
 use Rattle.inst.specs.Firsts.{Heads}
-use Rattle.inst.proofs.Firsts.{Some, all_written, all_read}
+use Rattle.inst.proofs.Firsts.{Present, all_written, all_read}
 use Rattle.effects.specs.Arms.{leads}
 use Rattle.effects.specs.declared.arms.Effect.{Effect}
 use Rattle.effects.specs.declared.arms.Input.{Input}
@@ -60,7 +60,7 @@ nothing_more x e = go (eqb x.d1 absent) (eqb x.r2 absent) refl refl e
     go true false p q z = clash refl z
     go false b p q z = clash refl z
 
-some_read : {recs ops : List ℕ} {R g : ℕ} → Learnable recs ops R g → Some (reads ops (inst recs g))
+some_read : {recs ops : List ℕ} {R g : ℕ} → Learnable recs ops R g → Present (reads ops (inst recs g))
 some_read good = record { each = λ k h e. omega (arith, good.good.each k h, good.good.fits.room, e) }
 
 -- ---- one position

@@ -45,7 +45,7 @@ settle_flags d false v = refl
 
 -- a word with no writer
 pub ranges_none : (n v : ℕ) → v < 16 → Ranges n v
-ranges_none n v h = record { writer = let z : v / 16 % 1024 ≡ 0 = omega arith in omega (arith, z); org = let z : v / 16384 % 2048 ≡ 0 = omega arith in omega (arith, z); None = λ e. h }
+ranges_none n v h = record { writer = let z : v / 16 % 1024 ≡ 0 = omega arith in omega (arith, z); org = let z : v / 16384 % 2048 ≡ 0 = omega arith in omega (arith, z); none = λ e. h }
 
 -- one that position p has written
 module _ (p o : ℕ) (l y : Bool) (few : p + 1 < 1000) (low : o < 6 + 2 * p) where
@@ -78,7 +78,7 @@ module _ (p o : ℕ) (l y : Bool) (few : p + 1 < 1000) (low : o < 6 + 2 * p) whe
   ranges_settle true v g = record {
     writer = let e = writer_new v in omega (arith, e);
     org = let e = org_new v in omega (arith, e, low);
-    None = λ z. let e = writer_new v in absurd (omega (arith, e, z));
+    none = λ z. let e = writer_new v in absurd (omega (arith, e, z));
   }
   ranges_settle false v g = record { writer = omega (arith, g.writer); org = omega (arith, g.org); None = g.none }
 

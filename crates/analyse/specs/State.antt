@@ -61,7 +61,7 @@ pub record State (G : Facts) (past : List Fact) (R : ℕ) (regs : List ℕ) (w :
 pub record Ranges (n v : ℕ) : Type 0 where
   pub writer : v / 16 % 1024 ≤ n
   pub org : v / 16384 % 2048 < 4 + 2 * n
-  pub None : v / 16 % 1024 ≡ 0 → v < 16
+  pub none : v / 16 % 1024 ≡ 0 → v < 16
 
 -- so do those of the first R registers; the sizes that the code needs
 pub record Ranged (R n : ℕ) (regs : List ℕ) : Type 0 where

@@ -1,7 +1,7 @@
 // Counting first (01, "Answers": "Short, exactly if the next round's move needs more registers or operands than the lent room"):
 // the registers and operands in use after a move. Only work words are written: the new registers, and names.
 ghost use Rattle.std.specs.Prelude.{◌≡◌, length};
-ghost use Rattle.rename.specs.Names.{Some};
+ghost use Rattle.rename.specs.Names.{Exists};
 ghost use Rattle.apply.specs.Apply.{Asks, Counted};
 
 use crate::moves::{Move, past, start};
@@ -29,7 +29,7 @@ pub fn needs(
     m: Move,
     c: Counts,
 ) -> Counts
-    requires { Some (λ N. Asks m.from.0 m.into.0 m.inside m.places c.regs c.opers (length names.old) N bounds.now recs.now types.now ops.now w.old) }
+    requires { Exists (λ N. Asks m.from.0 m.into.0 m.inside m.places c.regs c.opers (length names.old) N bounds.now recs.now types.now ops.now w.old) }
     ensures { Counted m.from.0 m.into.0 m.inside m.places c.regs c.opers bounds.now recs.now types.now ops.now w.old w.new result.regs result.opers }
 {
     let regs = allot(w, m.inside, c.regs, types);

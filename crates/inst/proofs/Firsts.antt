@@ -110,36 +110,36 @@ module _ (recs : List ℕ) (p u : ℕ) (g : Used recs p u) where
 -- ---- where no third is read, or no second written, these are all
 
 -- none of these is absent
-pub record Some (xs : List ℕ) : Type 0 where
+pub record Present (xs : List ℕ) : Type 0 where
   pub each : (k : ℕ) → k < length xs → get_or xs k absent ≡ absent → ⊥
 
 alone : {r : ℕ} → (r ≡ absent → ⊥) → present r ≡ r ∷ []
 unfolding present
 alone {r} n = ap (λ (b : Bool). cond b [] (r ∷ [])) (ne_eqb r absent n)
 
-one_of : (xs : List ℕ) → Some xs → get_or xs 1 absent ≡ absent → xs ≡ present (get_or xs 0 absent)
+one_of : (xs : List ℕ) → Present xs → get_or xs 1 absent ≡ absent → xs ≡ present (get_or xs 0 absent)
 unfolding present
 one_of [] n e = refl
 one_of (a ∷ []) n e = sym (alone (n.each 0 (omega arith)))
 one_of (a ∷ b ∷ xs) n e = absurd (n.each 1 (omega arith) e)
 
-two_of : (xs : List ℕ) → Some xs → get_or xs 2 absent ≡ absent → xs ≡ present (get_or xs 0 absent) ++ present (get_or xs 1 absent)
+two_of : (xs : List ℕ) → Present xs → get_or xs 2 absent ≡ absent → xs ≡ present (get_or xs 0 absent) ++ present (get_or xs 1 absent)
 unfolding present
 two_of [] n e = refl
 two_of (a ∷ []) n e = sym (present_some [] (n.each 0 (omega arith)))
 two_of (a ∷ b ∷ []) n e = sym (present_some (present b) (n.each 0 (omega arith)) ∙ ap (λ (l : List ℕ). a ∷ l) (alone (n.each 1 (omega arith))))
 two_of (a ∷ b ∷ d ∷ xs) n e = absurd (n.each 2 (omega arith) e)
 
-some_chosen : (f : Role → Bool) (os : List Role) (rs : List ℕ) → Some (chosen f os rs)
+some_chosen : (f : Role → Bool) (os : List Role) (rs : List ℕ) → Present (chosen f os rs)
 some_chosen f [] rs = record { each = λ k h e. not-suc-le-zero h }
 some_chosen f (o ∷ os) [] = record { each = λ k h e. not-suc-le-zero h }
 some_chosen f (o ∷ os) (r ∷ rs) = go (f o) (eqb r absent) refl (some_chosen f os rs)
   where
-    first : (r ≡ absent → ⊥) → (xs : List ℕ) → Some xs → (k : ℕ) → k < length (r ∷ xs) → get_or (r ∷ xs) k absent ≡ absent → ⊥
+    first : (r ≡ absent → ⊥) → (xs : List ℕ) → Present xs → (k : ℕ) → k < length (r ∷ xs) → get_or (r ∷ xs) k absent ≡ absent → ⊥
     first n xs s zero h e = n e
     first n xs s (suc k) h e = s.each k (le_of_suc-le-suc h) e
 
-    go : (b c : Bool) → eqb r absent ≡ c → {xs : List ℕ} → Some xs → Some (cond (b && not c) (r ∷ xs) xs)
+    go : (b c : Bool) → eqb r absent ≡ c → {xs : List ℕ} → Present xs → Present (cond (b && not c) (r ∷ xs) xs)
     go true true q s = s
     go true false q {xs} s = record { each = first (eqb-false r absent q) xs s }
     go false c q s = s
@@ -147,5 +147,5 @@ some_chosen f (o ∷ os) (r ∷ rs) = go (f o) (eqb r absent) refl (some_chosen 
 pub all_written : (i : Inst) {d0 d1 : ℕ} → d0 ≡ get_or (writes i) 0 absent → d1 ≡ get_or (writes i) 1 absent → d1 ≡ absent → writes i ≡ present d0
 all_written i h0 h1 e = one_of (writes i) (some_chosen writing (roles i) (slots i)) (sym h1 ∙ e) ∙ ap present (sym h0)
 
-pub all_read : {rs ds : List ℕ} {x : Firsts} → Heads rs ds x → Some rs → x.r2 ≡ absent → rs ≡ present x.r0 ++ present x.r1
+pub all_read : {rs ds : List ℕ} {x : Firsts} → Heads rs ds x → Present rs → x.r2 ≡ absent → rs ≡ present x.r0 ++ present x.r1
 all_read {rs} {ds} {x} h s e = two_of rs s (sym h.r2 ∙ e) ∙ ap (λ (r : ℕ). present r ++ present (get_or rs 1 absent)) (sym h.r0) ∙ ap (λ (r : ℕ). present x.r0 ++ present r) (sym h.r1)

@@ -61,13 +61,13 @@ writer_low defs r p = last_low (λ q. mem r (defs q)) p
 pub record Wrote (defs : ℕ → List ℕ) (r p d : ℕ) : Type 0 where
   pub before : d < p
   pub writes : mem r (defs d) ≡ true
-  pub None : (k : ℕ) → d < k → k < p → mem r (defs k) ≡ false
+  pub none : (k : ℕ) → d < k → k < p → mem r (defs k) ≡ false
 
 pub writer_wrote : (defs : ℕ → List ℕ) (r p d : ℕ) → writer defs r p ≡ suc d → Wrote defs r p d
 unfolding writer
 writer_wrote defs r p d e =
     let z = last_passes (λ q. mem r (defs q)) p d e in
-    record { before = z.0; writes = z.1; None = λ k a b. last_after (λ q. mem r (defs q)) p k (omega arith) b }
+    record { before = z.0; writes = z.1; none = λ k a b. last_after (λ q. mem r (defs q)) p k (omega arith) b }
 
 pub wrote_writer : (defs : ℕ → List ℕ) (r p d : ℕ) → Wrote defs r p d → writer defs r p ≡ suc d
 unfolding writer

@@ -130,7 +130,7 @@ module _ (C : View) (n : ℕ) (run : List Fact) (s : Stands C n run) (needed L :
           let w = writer_wrote C.defs z.0 q p z.2 in
           let lt = w.before in
           ⊎_elim (λ (t : L q ≡ true). t) (λ (f : L q ≡ false).
-          clash {b = pending C.defs C.reads L z.0 (p + 1) (n - (p + 1))} (T_true (pending C.defs C.reads L z.0 (p + 1) (n - (p + 1))) (of_awaits C n L z.0 (p + 1) (n - (p + 1)) q (record { from = omega arith; below = omega arith; kept = f; reads = z.1; None = λ j u v. w.none j (omega arith) v })))
+          clash {b = pending C.defs C.reads L z.0 (p + 1) (n - (p + 1))} (T_true (pending C.defs C.reads L z.0 (p + 1) (n - (p + 1))) (of_awaits C n L z.0 (p + 1) (n - (p + 1)) q (record { from = omega arith; below = omega arith; kept = f; reads = z.1; none = λ j u v. w.none j (omega arith) v })))
           (T_false (pending C.defs C.reads L z.0 (p + 1) (n - (p + 1))) (all_in _ z.0 (C.defs p) t (mem_in z.0 (C.defs p) w.writes)))) (bool? (L q))
 
   of_readers : T (all (rule1 run needed L p) (upto (length run))) → T (backward_ok C.defs C.reads n L p)
@@ -140,7 +140,7 @@ module _ (C : View) (n : ℕ) (run : List Fact) (s : Stands C n run) (needed L :
       let a = z.1.from in let b = z.1.below in
       let q : z.0 < n = omega arith in
       clash (one z.0 q (reads_from_of C n run s z.0 p q x z.1.reads
-      (wrote_writer C.defs x z.0 p (record { before = omega arith; writes = in_mem x (C.defs p) i; None = λ k u v. z.1.none k (omega arith) v })))) z.1.kept)))
+      (wrote_writer C.defs x z.0 p (record { before = omega arith; writes = in_mem x (C.defs p) i; none = λ k u v. z.1.none k (omega arith) v })))) z.1.kept)))
     where
       one : (q : ℕ) → q < n → reads_from run q p ≡ true → L q ≡ true
       one q m e = let l = s.long in T_true (L q) (implied (reads_from run q p) (L q) (subst (λ (x : ℕ). T (rule1 run needed L p x)) (zero-add q) (range_all (rule1 run needed L p) 0 (length run) t q (omega arith))) e)
@@ -158,7 +158,7 @@ module _ (C : View) (n : ℕ) (run : List Fact) (s : Stands C n run) (needed L :
       let w : writer C.defs x n ≡ suc p = wrote_writer C.defs x n p (record {
         before = h;
         writes = in_mem x (C.defs p) j;
-        None = λ k a b.
+        none = λ k a b.
             ap (mem x) (sym (s.defs k b)) ∙ T_false (mem x (fact_at run k).defs) (subst (λ (y : ℕ). T (not (mem x (fact_at run y).defs))) (omega arith)
             (range_all (λ q. not (mem x (fact_at run q).defs)) (suc p) (length run - suc p) (true_T (writes_last run p x) e) (k - suc p) (omega arith)));
       }) in

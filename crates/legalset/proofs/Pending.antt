@@ -24,7 +24,7 @@ module _ (C : View) (n : ℕ) (L : ℕ → Bool) (r : ℕ) where
     pub below : z < q + k
     pub kept : L z ≡ false
     pub reads : mem r (C.reads z) ≡ true
-    pub None : (j : ℕ) → q ≤ j → j < z → mem r (C.defs j) ≡ false
+    pub none : (j : ℕ) → q ≤ j → j < z → mem r (C.defs j) ≡ false
 
   pub awaits_of : (q k : ℕ) → T (pending C.defs C.reads L r q k) → (z : ℕ) × Awaits q k z
   unfolding pending
@@ -38,7 +38,7 @@ module _ (C : View) (n : ℕ) (L : ℕ → Bool) (r : ℕ) where
           below = omega arith;
           kept = T_false (L q) (left (not (L q)) (mem r (C.reads q)) a);
           reads = T_true (mem r (C.reads q)) (right (not (L q)) (mem r (C.reads q)) a);
-          None = λ j h l. absurd (omega arith);
+          none = λ j h l. absurd (omega arith);
         },
       ))
       (λ (a : T (not (mem r (C.defs q)) && pending C.defs C.reads L r (suc q) k)).
@@ -51,7 +51,7 @@ module _ (C : View) (n : ℕ) (L : ℕ → Bool) (r : ℕ) where
           below = omega arith;
           kept = y.1.kept;
           reads = y.1.reads;
-          None = λ j h l. ⊎_elim (λ (e : j ≡ q). ap (λ (x : ℕ). mem r (C.defs x)) e ∙ w) (λ (e : j ≡ q → ⊥). y.1.none j (omega arith) l) (eq? j q);
+          none = λ j h l. ⊎_elim (λ (e : j ≡ q). ap (λ (x : ℕ). mem r (C.defs x)) e ∙ w) (λ (e : j ≡ q → ⊥). y.1.none j (omega arith) l) (eq? j q);
         },
       ))
       (or_cases (not (L q) && mem r (C.reads q)) (not (mem r (C.defs q)) && pending C.defs C.reads L r (suc q) k) t)
@@ -68,7 +68,7 @@ module _ (C : View) (n : ℕ) (L : ℕ → Bool) (r : ℕ) where
           let f = a.from in let b = a.below in
           or_second (not (L q) && mem r (C.reads q)) (not (mem r (C.defs q)) && pending C.defs C.reads L r (suc q) k)
           (both (not (mem r (C.defs q))) (pending C.defs C.reads L r (suc q) k) (false_T (mem r (C.defs q)) (a.none q (omega arith) (omega arith)))
-          (i (record { from = omega arith; below = omega arith; kept = a.kept; reads = a.reads; None = λ j h l. a.none j (omega arith) l })))
+          (i (record { from = omega arith; below = omega arith; kept = a.kept; reads = a.reads; none = λ j h l. a.none j (omega arith) l })))
 
 -- a position that is not among those looked at does not matter
 pub pending_ext : (C : View) (n : ℕ) (L M : ℕ → Bool) (r q k : ℕ) → ((z : ℕ) → q ≤ z → L z ≡ M z) → pending C.defs C.reads L r q k ≡ pending C.defs C.reads M r q k

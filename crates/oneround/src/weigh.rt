@@ -1,7 +1,7 @@
 // What the move of a round comes to (01, "A round" and "Answers"): it fits the room that is lent, it needs more, or there is none. Of
 // what is lent, only work words are written.
 ghost use Rattle.std.specs.Prelude.{◌≡◌, ◌≤◌};
-ghost use Rattle.rename.specs.Names.{Some};
+ghost use Rattle.rename.specs.Names.{Exists};
 ghost use Rattle.oneround.specs.Weigh.{Needing, Needed, IsStepped, Ready, Weighed};
 
 use apply::moves::Move;
@@ -39,7 +39,7 @@ fn count_needs(
     s: Sizes,
     mv: Move,
 ) -> Counts
-    requires { Some (λ n. Needing bounds.now recs.now types.now ops.now s work64.old work32.old n mv) }
+    requires { Exists (λ n. Needing bounds.now recs.now types.now ops.now s work64.old work32.old n mv) }
     ensures { Needed bounds.now recs.now types.now ops.now s work64.old work32.old mv work64.new work32.new result }
 {
     let a = at_stamps(s);

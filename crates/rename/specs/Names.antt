@@ -7,7 +7,7 @@ use Rattle.inst.specs.Table.{two_bits}
 use Rattle.inst.specs.Record.{Used, write_at, present}
 
 -- what is asked for some number that the code does not need: the operands that were in use at first, or the instructions
-pub record Some (P : ℕ → Type 0) : Type 0 where
+pub record Exists (P : ℕ → Type 0) : Type 0 where
   pub u : ℕ
   pub is : P u
 

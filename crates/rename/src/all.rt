@@ -1,7 +1,7 @@
 // The whole walk, counted or done (01, "The move"): x, the rest of the chain, the target.
 ghost use Rattle.std.specs.Prelude.{◌≡◌, ◌+◌, ◌*◌, ◌≤◌, length};
 ghost use Rattle.model.specs.Move.{appended};
-ghost use Rattle.rename.specs.Names.{Some};
+ghost use Rattle.rename.specs.Names.{Exists};
 ghost use Rattle.rename.specs.Runs.{Run};
 ghost use Rattle.rename.specs.All.{AskAll, all_places, all_jobs};
 
@@ -22,7 +22,7 @@ pub fn count_all(
     names: &mut [u64],
     w: &[u32],
 ) -> usize
-    requires { Some (λ u. AskAll u x.from x.count n s.from s.past (length names.old) recs.now ops.now w.now) }
+    requires { Exists (λ u. AskAll u x.from x.count n s.from s.past (length names.old) recs.now ops.now w.now) }
     ensures { (result ≡ length (appended ops.now (all_jobs w.now recs.now x.from x.count n s.from s.past))) × (result ≤ 4294967295 * 131072) }
 {
     clear(names);

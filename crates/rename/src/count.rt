@@ -4,7 +4,7 @@ ghost use Rattle.std.specs.Prelude.{◌≡◌, ◌+◌, ◌*◌, ◌≤◌, ◌<
 ghost use Rattle.model.specs.Picture.{inst, absent};
 ghost use Rattle.model.specs.Move.{more_of, appended};
 ghost use Rattle.inst.specs.Index.{word_of, Among};
-ghost use Rattle.rename.specs.Names.{Some, job, named};
+ghost use Rattle.rename.specs.Names.{Exists, job, named};
 ghost use Rattle.rename.specs.Runs.{target_jobs};
 ghost use Rattle.rename.specs.Counts.{CountAsk, Counted, CountedOwn, CountX, CountedX, CountOwn};
 
@@ -17,7 +17,7 @@ use inst::table::Table;
 
 // How many operands record q would append.
 fn count_list(recs: &[u32], q: usize, ops: &[u32], names: &[u64]) -> usize
-    requires { Some (λ u. CountAsk q u names.now recs.now ops.now) }
+    requires { Exists (λ u. CountAsk q u names.now recs.now ops.now) }
     ensures { (result ≡ length (more_of ops.now (job (inst recs.now q) names.now absent))) × (result ≤ 4294967295) }
 {
     let s = list_start(recs, q);
@@ -37,7 +37,7 @@ fn count_pass(
     names: &mut [u64],
     k: Part,
 ) -> usize
-    requires { Some (λ u. CountAsk q u names.old recs.now ops.now) × Among (length names.old) k.def }
+    requires { Exists (λ u. CountAsk q u names.old recs.now ops.now) × Among (length names.old) k.def }
     ensures { Counted q k.mark (word_of k.def) k.new names.old names.new recs.now ops.now result }
 {
     let does = uses(t, recs, q);
@@ -60,7 +60,7 @@ pub fn count_x(
     names: &mut [u64],
     w: &[u32],
 ) -> usize
-    requires { Some (λ u. CountX u x.from x.count names.old recs.now ops.now w.now) }
+    requires { Exists (λ u. CountX u x.from x.count names.old recs.now ops.now w.now) }
     ensures { CountedX x.from x.count names.old names.new recs.now ops.now w.now result }
 {
     let mut n = 0usize;
@@ -75,7 +75,7 @@ pub fn count_x(
 
 // Record q of the target.
 fn count_own(t: &Table, recs: &[u32], q: usize, ops: &[u32], names: &mut [u64]) -> usize
-    requires { Some (λ u. CountAsk q u names.old recs.now ops.now) }
+    requires { Exists (λ u. CountAsk q u names.old recs.now ops.now) }
     ensures { CountedOwn q names.old names.new recs.now ops.now result }
 {
     let does = uses(t, recs, q);
@@ -93,7 +93,7 @@ pub fn count_target(
     names: &mut [u64],
     n: usize,
 ) -> usize
-    requires { Some (λ u. CountOwn u s.from s.past names.old recs.now ops.now) × (n ≤ 4294967295 * 65536) }
+    requires { Exists (λ u. CountOwn u s.from s.past names.old recs.now ops.now) × (n ≤ 4294967295 * 65536) }
     ensures { (result ≡ n + length (appended ops.now (target_jobs (named names.old) recs.now s.from s.past))) × (result ≤ 4294967295 * 131072) }
 {
     let mut k = n;

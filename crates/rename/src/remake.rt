@@ -1,7 +1,7 @@
 // One record made anew (01, "The move"): its reads by their names, its write by its new register, and its list, if that changes,
 // behind the operands in use.
 ghost use Rattle.std.specs.Prelude.{◌≡◌, ◌<◌};
-ghost use Rattle.rename.specs.Names.{Some, Fit, Remade};
+ghost use Rattle.rename.specs.Names.{Exists, Fit, Remade};
 
 use crate::lists::{append, changes};
 use crate::slots::rename_slots;
@@ -18,7 +18,7 @@ pub fn remake(
     names: &[u64],
     nw: u32,
 ) -> usize
-    requires { Some (λ u. Fit p uses u o names.now nw recs.old ops.old) }
+    requires { Exists (λ u. Fit p uses u o names.now nw recs.old ops.old) }
     ensures { Remade p o names.now nw recs.old recs.new ops.old ops.new result }
 {
     let s = list_start(recs, p);

@@ -4,7 +4,7 @@ ghost use Rattle.std.specs.Prelude.{◌≡◌, ◌-◌, length};
 ghost use Rattle.inst.specs.Index.{word_of, Among};
 ghost use Rattle.model.specs.Picture.{absent};
 ghost use Rattle.words.specs.Lists.{range};
-ghost use Rattle.rename.specs.Names.{Some, named};
+ghost use Rattle.rename.specs.Names.{Exists, named};
 ghost use Rattle.rename.specs.Runs.{Run, Pass, Passed, AskX, PassedX, AskRest, PassedRest, Owned, AskOwn, target_jobs};
 
 use crate::names::{forget, put};
@@ -27,7 +27,7 @@ fn pass(
     names: &mut [u64],
     k: Part,
 ) -> usize
-    requires { Some (λ u. Pass q u o names.old k.mark (word_of k.def) k.new recs.old ops.old) × Among (length names.old) k.def }
+    requires { Exists (λ u. Pass q u o names.old k.mark (word_of k.def) k.new recs.old ops.old) × Among (length names.old) k.def }
     ensures { Passed q o k.mark (word_of k.def) k.new names.old names.new recs.old recs.new ops.old ops.new result }
 {
     let does = uses(t, recs, q);
@@ -66,7 +66,7 @@ pub fn pass_all(
 
 // The positions s of the chain, all kept.
 pub fn skip_all(t: &Table, recs: &[u32], w: &[u32], s: Span, names: &mut [u64])
-    requires { Some (λ u. AskRest u s.from s.past names.old recs.now w.now) }
+    requires { Exists (λ u. AskRest u s.from s.past names.old recs.now w.now) }
     ensures { PassedRest s.from (s.past - s.from) names.old names.new recs.now w.now }
 {
     let mut p = s.from;
@@ -86,7 +86,7 @@ fn own(
     o: usize,
     names: &mut [u64],
 ) -> usize
-    requires { Some (λ u. Pass q u o names.old 1 absent absent recs.old ops.old) }
+    requires { Exists (λ u. Pass q u o names.old 1 absent absent recs.old ops.old) }
     ensures { Owned q o names.old names.new recs.old recs.new ops.old ops.new result }
 {
     let does = uses(t, recs, q);
@@ -104,7 +104,7 @@ pub fn own_all(
     o: usize,
     names: &mut [u64],
 ) -> usize
-    requires { Some (λ u. AskOwn u o s.from s.past names.old recs.old ops.old) }
+    requires { Exists (λ u. AskOwn u o s.from s.past names.old recs.old ops.old) }
     ensures { Run o (range s.from (s.past - s.from)) (target_jobs (named names.old) recs.old s.from s.past) recs.old recs.new ops.old ops.new result }
 {
     let mut n = o;

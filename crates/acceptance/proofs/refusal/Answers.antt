@@ -151,7 +151,7 @@ unfolding from3
 returns-then-gaps c = stop 3 (rest from4 (s2 (goal.at.returns-then-gaps c).Else-unlike)) c.gaps.ensures c.if-gaps.true ∙ past2 (goal.at.returns-then-gaps c).Else-unlike
 
 pub look-found-requires : goal.look-found-requires
-look-found-requires c = ((s3 (goal.at.look-found-requires c).Else-gaps).requires, whole_at (goal.at.look-found-requires c).Else-unlike)
+look-found-requires c = whole_at (goal.at.look-found-requires c).Else-unlike
 
 pub returns-then-found : goal.returns-then-found
 unfolding from4

@@ -23,7 +23,7 @@ pub to_head-requires : goal.to_head-requires
 to_head-requires c = head_fits (room_as c.width-w.ensures c.requires.1)
 
 pub solve-requires : goal.solve-requires
-solve-requires c = let p = c.requires in (p.0, p.1, live_room _ c.to_head.auto.bits (room_as c.width-w.ensures p.2))
+solve-requires c = let p = c.requires in (p.0, live_room _ c.to_head.auto.bits (room_as c.width-w.ensures p.1))
 
 pub shape_of-bits : goal.shape_of-bits
 shape_of-bits c = c.solve.ensures.size ∙ c.to_head.auto.bits
