@@ -15,7 +15,6 @@ use Rattle.chains.specs.declared.cursor.Cursor.{Cursor}
 use Rattle.chains.specs.Chain.{blocks_of}
 use Rattle.chains.specs.Cursor.{left_of, Standing}
 use Rattle.chains.proofs.Seeking.{next_left, nothing_left}
-use Rattle.inst.specs.Table.{rows}
 use Rattle.facts.specs.declared.Fact as F
 use Rattle.facts.specs.Marks.{fact_in, bare}
 use Rattle.facts.proofs.Bare.{bare_put, length_bare}

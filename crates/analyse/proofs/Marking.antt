@@ -80,7 +80,7 @@ module _ (p o : ℕ) (l y : Bool) (few : p + 1 < 1000) (low : o < 6 + 2 * p) whe
     org = let e = org_new v in omega (arith, e, low);
     none = λ z. let e = writer_new v in absurd (omega (arith, e, z));
   }
-  ranges_settle false v g = record { writer = omega (arith, g.writer); org = omega (arith, g.org); None = g.none }
+  ranges_settle false v g = record { writer = omega (arith, g.writer); org = omega (arith, g.org); none = g.none }
 
   pub opt_settle : (b : Bool) (v : ℕ) → place_at (settle (marked d) b v / 16 % 1024) ≡ cond b (Some p) (place_at (v / 16 % 1024))
   unfolding settle place_at

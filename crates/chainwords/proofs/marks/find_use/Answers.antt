@@ -13,7 +13,7 @@ pub bounds-work32-p : goal.bounds-work32-p
 bounds-work32-p c = omega (arith, c.requires.0.few, c.requires.0.room, c.requires.1)
 
 pub last_use-requires : goal.last_use-requires
-last_use-requires c = let p = c.requires in let a = c.args in (p.0, known_use p.1 p.2 c.wide-g.ensures, fits_use p.1 p.2 c.wide-g.ensures (part_long 8000 a.r a.work32.now p.1.room), p.2, p.1.few, p.1.row)
+last_use-requires c = let p = c.requires in let a = c.args in (known_use p.0 p.1 c.wide-g.ensures, fits_use p.0 p.1 c.wide-g.ensures (part_long 8000 a.r a.work32.now p.0.room), p.1, p.0.few, p.0.row)
 
 pub returns : goal.returns
 returns c = let a = c.args in use_part a.recs.now a.work64.now a.lasts.now a.o a.n a.p a.r a.work32.now c.wide-g.ensures c.last_use.ensures

@@ -10,7 +10,7 @@ pub loop-p-init : goal.loop-p-init
 loop-p-init c = (omega arith, lasting_none _ _ _ _ _ _ _)
 
 pub find_use-requires : goal.find_use-requires
-find_use-requires c = let p = c.requires in (p.0, use_now c.loop-p.invariant.1 (omega (arith, p.1.few, p.2, c.loop-p.invariant.0)) p.1, omega (arith, p.2, c.loop-p-test.true))
+find_use-requires c = let p = c.requires in (use_now c.loop-p.invariant.1 (omega (arith, p.0.few, p.1, c.loop-p.invariant.0)) p.0, omega (arith, p.1, c.loop-p-test.true))
 
 pub overflow_mul-work32 : goal.overflow_mul-work32
 overflow_mul-work32 c = omega (arith, c.requires.0.few, c.requires.1, c.loop-p-test.true)
@@ -22,10 +22,10 @@ pub offset_bounds-work32-p : goal.offset_bounds-work32-p
 offset_bounds-work32-p c = omega (arith, c.requires.0.few, c.requires.1, c.loop-p-test.true)
 
 pub bounds-work32-p : goal.bounds-work32-p
-bounds-work32-p c = let p = c.requires in omega (arith, p.1.few, p.1.room, p.2, c.loop-p-test.true, c.loop-p.invariant.1.size)
+bounds-work32-p c = let p = c.requires in omega (arith, p.0.few, p.0.room, p.1, c.loop-p-test.true, c.loop-p.invariant.1.size)
 
 pub loop-p-preserved : goal.loop-p-preserved
-loop-p-preserved c = let p = c.requires in (omega arith, lasting_more c.loop-p.invariant.1 (omega (arith, p.1.few, p.2, c.loop-p-test.true)) (omega (arith, p.1.room)) c.find_use.ensures)
+loop-p-preserved c = let p = c.requires in (omega arith, lasting_more c.loop-p.invariant.1 (omega (arith, p.0.few, p.1, c.loop-p-test.true)) (omega (arith, p.0.room)) c.find_use.ensures)
 
 pub shape_of-work32 : goal.shape_of-work32
 shape_of-work32 c = c.loop-p.invariant.1.size

@@ -15,7 +15,7 @@ find_readers-requires c =
     let p = c.requires in
     let st = c.at_stamps-st.ensures.0 in
     let r = c.wide-r.ensures in
-    (p.0, legible p.1.planning st r, readers_room p.1.planning st r, refl)
+    (legible p.planning st r, readers_room p.planning st r, refl)
 
 pub width-requires : goal.width-requires
 width-requires c = let f = plan_room c.requires.planning in omega (arith, f.few, f.lent, c.wide-r.ensures)
@@ -30,8 +30,8 @@ put_lasts-requires c =
     let p = c.requires in
     let st = c.at_stamps-st.ensures.0 in
     let r = c.wide-r.ensures in
-    let asked = use_asked p.1.planning st r c.at.ensures c.width.ensures c.find_readers.ensures.1 (p.1.numbered c.if-moved-eq0.false) in
-    (p.0, asked, p.1.planning.in_x)
+    let asked = use_asked p.planning st r c.at.ensures c.width.ensures c.find_readers.ensures.1 (p.numbered c.if-moved-eq0.false) in
+    (asked, p.planning.in_x)
 
 pub returns : goal.returns
 returns c =
@@ -39,4 +39,4 @@ returns c =
     let st = c.at_stamps-st.ensures.0 in
     let r = c.wide-r.ensures in
     let found = c.find_readers.ensures in
-    used p.1.planning st r c.at.ensures c.width.ensures found.1 found.0 c.put_lasts.ensures c.if-moved-eq0.false
+    used p.planning st r c.at.ensures c.width.ensures found.1 found.0 c.put_lasts.ensures c.if-moved-eq0.false

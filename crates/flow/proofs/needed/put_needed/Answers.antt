@@ -10,7 +10,7 @@ overflow_cast-n c = omega (arith, c.requires.0.blocks.few)
 pub put_row-requires : goal.put_row-requires
 put_row-requires c =
     let p = c.requires in
-    record { target = p.2; branch = p.3; next = next_block _ c.succs-list.ensures p.1 (omega (arith, p.2, p.3)); room = p.4 }
+    record { target = p.1; branch = p.2; next = next_block _ c.succs-list.ensures p.0 (omega (arith, p.1, p.2)); room = p.3 }
 
 pub returns : goal.returns
-returns c = let p = c.requires in needed_is c.succs-list.result.now c.succs-list.ensures p.1 p.2 p.3 c.put_row.ensures
+returns c = let p = c.requires in needed_is c.succs-list.result.now c.succs-list.ensures p.0 p.1 p.2 c.put_row.ensures

@@ -22,7 +22,7 @@ block_rows-requires c =
     let p = c.requires in
     let i = c.loop-k.invariant in
     let h = is_block _ _ _ (sym c.in-Some.ensures) in
-    (p.0, p.1, p.2, room_made i.2 p.3, omega (arith, h.0, h.1, i.0))
+    (p.0, p.1, room_made i.2 p.2, omega (arith, h.0, h.1, i.0))
 
 pub overflow_add-k : goal.overflow_add-k
 overflow_add-k c = omega (arith, c.loop-k-test.true, c.loop-k.invariant.0, c.requires.0.few)

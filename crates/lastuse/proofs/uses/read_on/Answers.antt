@@ -8,11 +8,11 @@ pub uses-u-requires : goal.uses-u-requires
 uses-u-requires c = (c.requires.0.known)
 
 pub note_places-requires : goal.note_places-requires
-note_places-requires c = let p = c.requires in (used_at p.1 c.uses-u.ensures, p.1, p.2, p.3)
+note_places-requires c = let p = c.requires in (used_at p.0 c.uses-u.ensures, p.0, p.1, p.2)
 
 pub put_slots-requires : goal.put_slots-requires
 put_slots-requires c =
-    let p = c.requires in (used_at p.1 c.uses-u.ensures, p.1.fits, whole_stamp _ (omega (arith, p.4)))
+    let p = c.requires in (used_at p.0 c.uses-u.ensures, p.0.fits, whole_stamp _ (omega (arith, p.3)))
 
 pub returns : goal.returns
 returns c = record { noticed = c.note_places.ensures; stamped = c.put_slots.ensures }

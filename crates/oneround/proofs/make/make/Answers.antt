@@ -14,16 +14,16 @@ slice_bounds-apply-end-2 c = chain_long c.requires
 pub apply-requires : goal.apply-requires
 apply-requires c =
     let p = c.requires in
-    let z = asked p.1 c.in-Goes.is c.at_stamps-a.ensures.0 c.wide.ensures in
+    let z = asked p c.in-Goes.is c.at_stamps-a.ensures.0 c.wide.ensures in
     record {
-      t_value = (p.0, z.0);
+      t_value = (z.0);
       fits = z.1;
     }
 
 pub renew-requires : goal.renew-requires
 renew-requires c =
     let p = c.requires in
-    (p.0, renewing p.1 c.in-Goes.is c.at_stamps-a.ensures.0 c.wide.ensures c.apply.new.names c.apply.auto.names c.apply.ensures)
+    (renewing p c.in-Goes.is c.at_stamps-a.ensures.0 c.wide.ensures c.apply.new.names c.apply.auto.names c.apply.ensures)
 
 pub returns : goal.returns
 returns c =

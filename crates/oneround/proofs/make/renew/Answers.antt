@@ -8,20 +8,20 @@ use Rattle.oneround.proofs.make.renew.Goals as goal
 pub all_rows-requires : goal.all_rows-requires
 all_rows-requires c =
     let p = c.requires in
-    let z = renew_ask p.1 _ refl c.wide-k.ensures in
-    (p.0, z.0, z.1, z.2)
+    let z = renew_ask p _ refl c.wide-k.ensures in
+    (z.0, z.1, z.2)
 
 pub block_rows-requires : goal.block_rows-requires
 block_rows-requires c =
     let p = c.requires in
-    let z = renew_ask p.1 _ refl c.wide-k.ensures in
-    (p.0, z.0, z.1, z.2, p.1.from_block)
+    let z = renew_ask p _ refl c.wide-k.ensures in
+    (z.0, z.1, z.2, p.from_block)
 
 pub block_rows-requires-2 : goal.block_rows-requires-2
 block_rows-requires-2 c =
     let p = c.requires in
-    let z = renew_ask p.1 _ c.block_rows.auto.bits c.wide-k.ensures in
-    (p.0, z.0, z.1, z.2, omega (arith, p.1.from_block, p.1.into_block))
+    let z = renew_ask p _ c.block_rows.auto.bits c.wide-k.ensures in
+    (z.0, z.1, z.2, omega (arith, p.from_block, p.into_block))
 
 pub returns : goal.returns
 returns c =
