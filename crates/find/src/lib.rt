@@ -7,6 +7,7 @@ pub mod stand; // stand.rt: where the search stands
 ghost use Rattle.std.specs.Prelude.{◌≡◌, ◌≤◌, length};
 ghost use Rattle.find.specs.Find.{Finding, Searched};
 
+use apply::moves::Move;
 use crate::stand::{Stand, go_on, open, outcome};
 use facts::Fact;
 use inst::table::Table;

@@ -11,7 +11,6 @@ use lib.ListN.{length, take, drop}
 use Rattle.words.specs.Lists.{hit}
 use Rattle.words.proofs.Bools.{clash}
 use Rattle.words.proofs.Parts.{put_part}
-use Rattle.inst.specs.Table.{rows}
 use Rattle.facts.specs.declared.Fact.{Fact}
 use Rattle.plan.specs.declared.sweep.Sweep.{Sweep}
 use Rattle.plan.specs.declared.sweep.Tally.{Tally}

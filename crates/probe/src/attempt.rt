@@ -6,6 +6,7 @@ ghost use Rattle.inst.specs.declared.index.Option<BlockId>.TheVariants.{Not};
 ghost use Rattle.probe.specs.Heads.{with_four};
 ghost use Rattle.probe.specs.Attempt.{move_number, with_move, attempt, with_attempt, Left, Listed, Judges, Asking, Seen, MaySeek, Sets};
 
+use apply::moves::Move;
 use acceptance::refusal;
 use facts::Fact;
 use flow::live::live_in;

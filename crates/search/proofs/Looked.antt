@@ -156,7 +156,7 @@ module _ {bounds recs replay : List ℕ} {s : Sizes} {work32 : List ℕ} (g : Se
   pub bounds_order : (x k : ℕ) → k ≡ x → x < s.blocks → get_or bounds (2 * k) 0 ≤ get_or bounds (2 * k + 1) 0
   bounds_order x k e h = (pair_ask k (omega arith)).order
 
-  pub worth_asks : (x : ℕ) {r : Option Chain} {c : Chain} → x < s.blocks → SoundOf r s.blocks → r ≡ IsChain c
+  pub worth_asks : (x : ℕ) {r : Option Chain} {c : Chain} → x < s.blocks → SoundOf r s.blocks → r ≡ Some c
       → Laid bounds c × Pair bounds x × (16 * end_past bounds x ≤ length recs)
   worth_asks x h u f = (laid_in (subst (λ (y : Option Chain). SoundOf y s.blocks) f u) pair_ask, pair_ask x h, (chain_asks.block x h).whole)
 
@@ -176,21 +176,21 @@ module _ {bounds recs replay : List ℕ} {s : Sizes} {work32 : List ℕ} (x k : 
   chain_is P v f =
       f.is P (record { bounds_are = sym v.shown.lists.bounds_are; recs_are = sym v.shown.lists.recs_are; preds_are = preds_lent work32 v.shown.lists v.preds })
 
-  pub looked_none : {r : Option Chain} → Chains bounds recs s work32 x r → r ≡ NoChain → Looked bounds recs replay s work32 x None
+  pub looked_none : {r : Option Chain} → Chains bounds recs s work32 x r → r ≡ None → Looked bounds recs replay s work32 x None
   unfolding chain_of
   looked_none f e = record { is = λ P v G. no_chain P G x (sym (chain_is P v f) ∙ ap chain_of e) }
 
-  this_chain : {r : Option Chain} {c : Chain} (P : Picture) → Sees P bounds recs replay s work32 → Chains bounds recs s work32 x r → r ≡ IsChain c → chain P x ≡ Some (chain_in c)
+  this_chain : {r : Option Chain} {c : Chain} (P : Picture) → Sees P bounds recs replay s work32 → Chains bounds recs s work32 x r → r ≡ Some c → chain P x ≡ Some (chain_in c)
   unfolding chain_of ended
   this_chain P v f e = sym (chain_is P v f) ∙ ap chain_of e
 
   worth_is : {c : Chain} {b : Bool} (P : Picture) → Sees P bounds recs replay s work32 → Worth bounds recs replay c x b → b ≡ worth_a_look P x (chain_in c)
   worth_is {c} P v w = w.is P (sym v.shown.lists.bounds_are) (sym v.shown.lists.recs_are) (sym v.shown.replay_are)
 
-  pub looked_low : {r : Option Chain} {c : Chain} {b : Bool} → Chains bounds recs s work32 x r → r ≡ IsChain c → Worth bounds recs replay c x b → b ≡ false → Looked bounds recs replay s work32 x None
+  pub looked_low : {r : Option Chain} {c : Chain} {b : Bool} → Chains bounds recs s work32 x r → r ≡ Some c → Worth bounds recs replay c x b → b ≡ false → Looked bounds recs replay s work32 x None
   looked_low {r} {c} f e w z = record { is = λ P v G. not_worth P G x (chain_in c) (this_chain P v f e) (sym (worth_is P v w) ∙ z) }
 
-  pub looked_here : {r : Option Chain} {c : Chain} {b : Bool} {y : BlockId} → y.0 ≡ x → x < s.blocks → Chains bounds recs s work32 x r → r ≡ IsChain c → Worth bounds recs replay c x b → b ≡ true
+  pub looked_here : {r : Option Chain} {c : Chain} {b : Bool} {y : BlockId} → y.0 ≡ x → x < s.blocks → Chains bounds recs s work32 x r → r ≡ Some c → Worth bounds recs replay c x b → b ≡ true
       → Looked bounds recs replay s work32 x (Some (record { x = y; c = c }))
   looked_here {r} {c} {b} {y} ey h f e w z = record {
     is = λ P v. (

@@ -13,7 +13,6 @@ use Rattle.model.specs.Analyse.{Facts, Fact}
 use Rattle.model.specs.Move.{run_of}
 use Rattle.laws.proofs.Accepted as laws
 use Rattle.laws.proofs.Sizes.{regs_lent}
-use Rattle.inst.specs.Table.{rows}
 use Rattle.chains.specs.declared.chain.Chain.{Chain}
 use Rattle.chains.specs.Chain.{blocks_of}
 use Rattle.chains.proofs.Laid.{laid_in}

@@ -21,10 +21,9 @@ ready-g-requires c = ready_may c.requires c.loop-c.invariant
 
 pub run-b-requires : goal.run-b-requires
 run-b-requires c =
-    let a = c.args in (
+    let a = c.args in
       subst (λ (x : Sweep). Sweepable a.recs.now a.ops.now a.regs.now c.ready-g.new.work c.loop-c.facts x c.zero-a.result x.k) (sym c.ready-g.ensures.0)
-          (sweep_may c.requires c.loop-c.invariant c.ready-g.ensures.1 c.zero-a.ensures.1),
-    )
+          (sweep_may c.requires c.loop-c.invariant c.ready-g.ensures.1 c.zero-a.ensures.1)
 
 pub next-d-requires : goal.next-d-requires
 next-d-requires c = next_may c.requires c.loop-c.invariant c.ready-g.ensures.1 c.zero-a.ensures.1 (swept c.ready-g.ensures.0 c.run-b.ensures)

@@ -35,11 +35,10 @@ fact_at-f-requires c =
 pub visit-b-requires : goal.visit-b-requires
 visit-b-requires c =
     let a = c.args in
-    let i = c.loop-i in (
+    let i = c.loop-i in
       subst (λ (f : Fact). Visitable a.recs.now a.ops.now a.regs.now i.work a.g f i.b c.place-p.result) (sym c.fact_at-f.ensures)
           (subst (λ (p : ℕ). Visitable a.recs.now a.ops.now a.regs.now i.work a.g (get_or i.facts p no_fact) i.b p) (sym c.place-p.ensures)
-          (visitable c.requires c.loop-i-test.true i.invariant.ran)),
-    )
+          (visitable c.requires c.loop-i-test.true i.invariant.ran))
 
 pub set_member-requires : goal.set_member-requires
 set_member-requires c =
