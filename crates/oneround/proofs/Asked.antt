@@ -229,7 +229,7 @@ module _ {P : Picture} (ok : Accepted P) {G : Facts} {x : ℕ} {mv : Move} {w : 
     x_in = x_block;
     t_in = into_block;
     apart = apart;
-    Some = let a = f.in_x in let b = many in omega arith;
+    some = let a = f.in_x in let b = many in omega arith;
     inside = let a = f.in_x in omega arith;
     few = let a = in_chain in let b = places_few in omega arith;
     chain = in_chain;

@@ -16,14 +16,14 @@ apply-requires c =
     let p = c.requires in
     let z = asked p c.in-Goes.is c.at_stamps-a.ensures.0 c.wide.ensures in
     record {
-      t_value = (z.0);
+      t_value = z.0;
       fits = z.1;
     }
 
 pub renew-requires : goal.renew-requires
 renew-requires c =
     let p = c.requires in
-    (renewing p c.in-Goes.is c.at_stamps-a.ensures.0 c.wide.ensures c.apply.new.names c.apply.auto.names c.apply.ensures)
+    renewing p c.in-Goes.is c.at_stamps-a.ensures.0 c.wide.ensures c.apply.new.names c.apply.auto.names c.apply.ensures
 
 pub returns : goal.returns
 returns c =
