@@ -17,7 +17,7 @@ all_rows-requires c =
     let P = picture_of a.bounds.now a.recs.now a.locs.now a.vias.now a.types.now a.registers a.ops.now a.operands a.pairs.now a.targets.now [] in
     let z = none P (length a.bits.now) a.w32 a.records c.refusal-r.ensures c.if-r-ne0.false in
     let k = rows_asked P a.w32 a.bits.now (needed_records P (length a.bits.now) a.w32 a.records z) refl refl refl c.wide-k.ensures in
-    (c.table-t.ensures, k.0, k.1, k.2)
+    (k.0, k.1, k.2)
 
 pub live_in-requires : goal.live_in-requires
 live_in-requires c =
@@ -26,7 +26,6 @@ live_in-requires c =
     let z = none P (length a.bits.now) a.w32 a.records c.refusal-r.ensures c.if-r-ne0.false in
     let w = c.wide-k in
     let k = rows_asked P a.w32 a.bits.now (needed_records P (length a.bits.now) a.w32 a.records z) refl refl refl w.ensures in (
-      c.table-t.ensures,
       graph_given P (accepted P (length a.bits.now) a.w32 a.records z),
       record { fits = rw c.all_rows.ensures.bits_len_unchanged k.2.fits },
       k.1.few,

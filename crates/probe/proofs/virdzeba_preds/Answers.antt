@@ -12,4 +12,4 @@ find_preds-requires c =
     let a = c.args in
     let P = picture_of a.bounds.now a.recs.now a.locs.now a.vias.now a.types.now a.registers a.ops.now a.operands a.pairs.now a.targets.now [] in
     let z = none P a.w64 (length a.words.now) a.records c.refusal-r.ensures c.if-r-ne0.false in
-    (c.table-t.ensures, graph_given P (accepted P a.w64 (length a.words.now) a.records z), words_room P a.w64 (length a.words.now) a.records z)
+    (graph_given P (accepted P a.w64 (length a.words.now) a.records z), words_room P a.w64 (length a.words.now) a.records z)

@@ -8,7 +8,7 @@ pub set_out-k-requires : goal.set_out-k-requires
 set_out-k-requires c =
     let a = c.args in
     let P = picture_of a.bounds.now a.recs.now a.locs.now a.vias.now a.types.now a.registers a.ops.now a.operands a.pairs.now a.targets.now a.replay.now in
-    (c.table-t.ensures, may_set P a.x (length a.facts.now) a.work64.now a.work32.now (c.judge-j.ensures a.replay.now))
+    may_set P a.x (length a.facts.now) a.work64.now a.work32.now (c.judge-j.ensures a.replay.now)
 
 pub returns-in_default : goal.returns-in_default
 returns-in_default c =
@@ -21,7 +21,7 @@ try_chain-r-requires c =
     let a = c.args in
     let P = picture_of a.bounds.now a.recs.now a.locs.now a.vias.now a.types.now a.registers a.ops.now a.operands a.pairs.now a.targets.now a.replay.now in
     let so = out_set P a.x (length a.facts.now) a.work64.now a.work32.now (c.judge-j.ensures a.replay.now) c.set_out-k.ensures in
-    (c.table-t.ensures, asked P a.x a.work64.now a.work32.now a.facts.now so c.in-Some.is, many P a.x a.work64.now a.work32.now a.facts.now so c.in-Some.is)
+    (asked P a.x a.work64.now a.work32.now a.facts.now so c.in-Some.is, many P a.x a.work64.now a.work32.now a.facts.now so c.in-Some.is)
 
 pub returns : goal.returns
 returns c =
