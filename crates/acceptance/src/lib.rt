@@ -8,6 +8,7 @@ pub mod gates; // gates.rt: the three gates
 
 ghost use Rattle.std.specs.Prelude.{◌≡◌, []};
 ghost use Rattle.model.specs.Refusal.{refusal};
+ghost use Rattle.model.specs.Numbered.{verdict};
 ghost use Rattle.inst.specs.Table.{rows};
 ghost use Rattle.checks.specs.Causes.{picture_of};
 
@@ -16,11 +17,12 @@ use crate::lengths::{too_many, too_short, unlike};
 use checks::branches::bad_targets;
 use checks::lists::{bad_lists, bad_types};
 use checks::look::look;
+use model::Refusal;
 use sizes::{InUse, Room};
 
-// The lowest number whose cause is present in the picture, or 0, given the lengths of the two work slices and the records
-// lent. Cause 11 needs no test: it is absent wherever cause 4 is (proofs/Writes).
-pub fn refusal(
+// Is the picture accepted, given the lengths of the two work slices and the records lent? Else the first cause of the table that is
+// present. The last cause needs no test: it is absent wherever that of kinds is (proofs/Writes).
+pub fn accept(
     bounds: &[u32],
     recs: &[u32],
     locs: &[u32],
@@ -32,9 +34,9 @@ pub fn refusal(
     used: InUse,
     room: Room,
     table: &[u32; 202],
-) -> u32
+) -> Result<(), Refusal>
     requires { table.now ≡ rows }
-    ensures { result ≡ refusal (picture_of bounds.now recs.now locs.now vias.now types.now used.regs ops.now used.opers pairs.now targets.now []) room.w64 room.w32 room.records }
+    ensures { result ≡ verdict (refusal (picture_of bounds.now recs.now locs.now vias.now types.now used.regs ops.now used.opers pairs.now targets.now []) room.w64 room.w32 room.records) }
 {
     let b = bounds.len();
     let n = locs.len();
@@ -42,35 +44,35 @@ pub fn refusal(
     let regs = used.regs;
     let opers = used.opers;
     if too_many(b, n, k, ops.len(), pairs.len(), targets.len(), used) {
-        return 1;
+        return Err(Refusal::Large);
     }
     if unlike(recs.len(), n, vias.len(), b, pairs.len()) {
-        return 2;
+        return Err(Refusal::Uneven);
     }
     if gaps(bounds, n) {
-        return 3;
+        return Err(Refusal::Blocks);
     }
     let found = look(table, recs, n, regs, opers, b / 2);
     if found.kinds {
-        return 4;
+        return Err(Refusal::Kind);
     }
     if found.regs {
-        return 5;
+        return Err(Refusal::Slot);
     }
     if bad_lists(found.lists, ops, opers, regs) {
-        return 6;
+        return Err(Refusal::List);
     }
     if bad_targets(found.branches, targets, pairs, b / 2) {
-        return 7;
+        return Err(Refusal::Branch);
     }
     if found.cats {
-        return 8;
+        return Err(Refusal::Cat);
     }
     if bad_types(types, regs) {
-        return 9;
+        return Err(Refusal::Type);
     }
     if too_short(b, k, room) {
-        return 10;
+        return Err(Refusal::Work);
     }
-    0
+    Ok(())
 }

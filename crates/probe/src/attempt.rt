@@ -7,7 +7,7 @@ ghost use Rattle.inst.specs.Table.{rows};
 ghost use Rattle.probe.specs.Heads.{with_four};
 ghost use Rattle.probe.specs.Attempt.{move_number, with_move, attempt, with_attempt, Left, Listed, Judges, Asking, Seen, MaySeek, Sets};
 
-use acceptance::refusal;
+use acceptance::accept;
 use facts::Fact;
 use flow::live::live_in;
 use inst::index::{BlockId, MaybeBlock};
@@ -95,11 +95,10 @@ fn judge<'a>(
     requires { t.now ≡ rows }
     ensures { (replay : List ℕ) → Judges (picture_of bounds.now recs.now locs.now vias.now types.now used.regs ops.now used.opers pairs.now targets.now replay) room x result }
 {
-    let n = refusal(
+    if let Err(cause) = accept(
         bounds, recs, locs, vias, types, ops, pairs, targets, used, room, t,
-    );
-    if n != 0 {
-        return stop(200 + n);
+    ) {
+        return stop(200 + cause.number());
     }
     let blocks = (bounds.len() / 2) as u32;
     let b = BlockId::new(x, blocks);

@@ -12,7 +12,7 @@ ghost use Rattle.checks.specs.Causes.{picture_of};
 ghost use Rattle.flow.specs.Live.{Live};
 ghost use Rattle.cfg.specs.Preds.{Preds};
 
-use acceptance::refusal;
+use acceptance::accept;
 use cfg::graph::find_preds;
 use flow::live::live_in;
 use flow::rows::all_rows;
@@ -20,7 +20,7 @@ use inst::table::table;
 use sizes::{InUse, Room};
 use words::numbers::wide;
 
-// The lowest number whose cause is present, or 0: `acceptance::refusal`, the table of roles made for this one call.
+// The lowest number whose cause is present, or 0: `acceptance::accept`, the table of roles made for this one call.
 pub fn virdzeba_refusal(
     bounds: &[u32],
     recs: &[u32],
@@ -48,9 +48,12 @@ pub fn virdzeba_refusal(
         w32: w32,
         records: records,
     };
-    refusal(
+    match accept(
         bounds, recs, locs, vias, types, ops, pairs, targets, used, room, &t,
-    )
+    ) {
+        Ok(()) => 0,
+        Err(cause) => cause.number(),
+    }
 }
 
 // Predecessors of an accepted picture, two words a block: how many there are, up to two, and the first. The slice is as long
@@ -84,11 +87,10 @@ pub fn virdzeba_preds<'a>(
         w32: words.len(),
         records: records,
     };
-    let r = refusal(
+    if let Err(cause) = accept(
         bounds, recs, locs, vias, types, ops, pairs, targets, used, room, &t,
-    );
-    if r != 0 {
-        return r;
+    ) {
+        return cause.number();
     }
     find_preds(words, &t, bounds, recs, pairs, targets);
     0
@@ -125,11 +127,10 @@ pub fn virdzeba_live<'a>(
         w32: w32,
         records: records,
     };
-    let r = refusal(
+    if let Err(cause) = accept(
         bounds, recs, locs, vias, types, ops, pairs, targets, used, room, &t,
-    );
-    if r != 0 {
-        return r;
+    ) {
+        return cause.number();
     }
     let k = wide(registers);
     all_rows(bits, &t, bounds, recs, ops, k);

@@ -3,18 +3,12 @@ ghost use Rattle.std.specs.Prelude.{◌≡◌};
 ghost use Rattle.inst.specs.Table.{rows};
 ghost use Rattle.rounds.specs.Judge.{Judged};
 
+use acceptance::accept;
 use acceptance::gates::gated;
-use acceptance::refusal;
 use model::{Answer, Used};
 use sizes::{InUse, Room};
 
 // The answer, where no round is tried.
-#[derive(Clone, Copy)]
-pub enum Verdict {
-    Ends(Answer),
-    Opens,
-}
-
 #[tactic(auto, using(crate::proofs::Opening::judge_refused))]
 pub fn judge(
     t: &[u32; 202],
@@ -28,22 +22,21 @@ pub fn judge(
     targets: &[u32],
     used: InUse,
     room: Room,
-) -> Verdict
+) -> Option<Answer>
     requires { t.now ≡ rows }
     ensures { Judged bounds.now recs.now locs.now vias.now types.now ops.now pairs.now targets.now used room result }
 {
-    let n = refusal(
+    if let Err(cause) = accept(
         bounds, recs, locs, vias, types, ops, pairs, targets, used, room, t,
-    );
-    if n != 0 {
-        return Verdict::Ends(Answer::Refused(n));
+    ) {
+        return Some(Answer::Refused(cause));
     }
     if gated(bounds, recs, locs, used.regs) {
-        return Verdict::Ends(Answer::Done(Used {
+        return Some(Answer::Done(Used {
             rounds: 0,
             registers: used.regs,
             operands: used.opers,
         }));
     }
-    Verdict::Opens
+    None
 }

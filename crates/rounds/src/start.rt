@@ -5,7 +5,7 @@ ghost use Rattle.checks.specs.Causes.{picture_of};
 ghost use Rattle.rounds.specs.State.{first_at};
 ghost use Rattle.rounds.specs.Going.{Started};
 
-use crate::judge::{Verdict, judge};
+use crate::judge::judge;
 use crate::state::At;
 use model::{Answer, Used};
 use search::begin::begin;
@@ -47,10 +47,9 @@ pub fn start<'a>(
         w32: work32.len(),
         records: records,
     };
-    let v = judge(
+    if let Some(a) = judge(
         t, bounds, recs, locs, vias, types, ops, pairs, targets, used, room,
-    );
-    if let Verdict::Ends(a) = v {
+    ) {
         let none = Sizes {
             blocks: 0,
             insts: 0,

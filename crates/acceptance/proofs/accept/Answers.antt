@@ -1,4 +1,4 @@
--- `acceptance::refusal` meets its contract: past each test the answer is what the rest of the causes say. Assumes nothing.
+-- `acceptance::accept` meets its contract: past each test the answer is what the rest of the causes say. Assumes nothing.
 use mathlib.Core.Path.{◌≡◌, sym, ap, ◌∙◌}
 use mathlib.Core.Bool.{Bool, false}
 use mathlib.Core.List.{List, []}
@@ -7,14 +7,15 @@ use lib.ListN.{length}
 use Rattle.words.specs.Lists.{any}
 use Rattle.model.specs.Picture.{Picture}
 use Rattle.model.specs.Refusal.{bad_kind, bad_list, bad_branch, lowest, refusal}
+use Rattle.model.specs.Numbered.{verdict}
 use Rattle.checks.specs.declared.look.Found.{Found}
 use Rattle.checks.specs.Causes.{picture_of, code, bad_regs, bad_lists, bad_targets, long_cat}
 use Rattle.checks.specs.Found.{others}
 use Rattle.checks.proofs.Given.{Few, few, whole}
 use Rattle.checks.proofs.Seen.{kinds_of, others_of}
 use Rattle.acceptance.proofs.Chain.{from1, from2, from3, from4, from5, from6, from7, from8, from9, from10, from11, whole_chain, end, stop, on}
-use Rattle.acceptance.proofs.refusal.Goals as goal
-use Rattle.acceptance.proofs.refusal.Goals.{After-bad_lists, After-bad_targets, After-look-found, Else-bad_lists, Else-bad_targets, Else-bad_types, Else-found, Else-found-2, Else-found-3, Else-gaps, Else-too_many, Else-too_short, Else-unlike, Start}
+use Rattle.acceptance.proofs.accept.Goals as goal
+use Rattle.acceptance.proofs.accept.Goals.{After-bad_lists, After-bad_targets, After-look-found, Else-bad_lists, Else-bad_targets, Else-bad_types, Else-found, Else-found-2, Else-found-3, Else-gaps, Else-too_many, Else-too_short, Else-unlike, Start}
 
 -- the picture that is lent, what is left of its causes, and the answer
 abbrev pic : Start → Picture
@@ -137,58 +138,58 @@ kinds_at c = sym (kinds_in (goal.at-Else-found c).After-look-found) ∙ c.if-fou
 
 pub returns-then-too_many : goal.returns-then-too_many
 unfolding from1
-returns-then-too_many c = stop 1 (rest from2 (goal.at.returns-then-too_many c).Start) c.too_many.ensures c.if-too_many.true ∙ whole_chain (pic (goal.at.returns-then-too_many c).Start) c.args.room.w64 c.args.room.w32 c.args.room.records
+returns-then-too_many c = ap verdict (stop 1 (rest from2 (goal.at.returns-then-too_many c).Start) c.too_many.ensures c.if-too_many.true ∙ whole_chain (pic (goal.at.returns-then-too_many c).Start) c.args.room.w64 c.args.room.w32 c.args.room.records)
 
 pub unlike-requires : goal.unlike-requires
 unlike-requires c = (few_at (goal.at.unlike-requires c).Else-too_many).locs
 
 pub returns-then-unlike : goal.returns-then-unlike
 unfolding from2
-returns-then-unlike c = stop 2 (rest from3 (s1 (goal.at.returns-then-unlike c).Else-too_many)) c.unlike.ensures c.if-unlike.true ∙ past1 (goal.at.returns-then-unlike c).Else-too_many
+returns-then-unlike c = ap verdict (stop 2 (rest from3 (s1 (goal.at.returns-then-unlike c).Else-too_many)) c.unlike.ensures c.if-unlike.true ∙ past1 (goal.at.returns-then-unlike c).Else-too_many)
 
 pub returns-then-gaps : goal.returns-then-gaps
 unfolding from3
-returns-then-gaps c = stop 3 (rest from4 (s2 (goal.at.returns-then-gaps c).Else-unlike)) c.gaps.ensures c.if-gaps.true ∙ past2 (goal.at.returns-then-gaps c).Else-unlike
+returns-then-gaps c = ap verdict (stop 3 (rest from4 (s2 (goal.at.returns-then-gaps c).Else-unlike)) c.gaps.ensures c.if-gaps.true ∙ past2 (goal.at.returns-then-gaps c).Else-unlike)
 
 pub look-found-requires : goal.look-found-requires
 look-found-requires c = ((s3 (goal.at.look-found-requires c).Else-gaps).requires, whole_at (goal.at.look-found-requires c).Else-unlike)
 
 pub returns-then-found : goal.returns-then-found
 unfolding from4
-returns-then-found c = stop 4 (rest from5 (s3 (goal.at.returns-then-found c).Else-gaps)) (kinds_in (goal.at.returns-then-found c).After-look-found) c.if-found.true ∙ past3 (goal.at.returns-then-found c).Else-gaps
+returns-then-found c = ap verdict (stop 4 (rest from5 (s3 (goal.at.returns-then-found c).Else-gaps)) (kinds_in (goal.at.returns-then-found c).After-look-found) c.if-found.true ∙ past3 (goal.at.returns-then-found c).Else-gaps)
 
 pub returns-then-found-2 : goal.returns-then-found-2
 unfolding from5
-returns-then-found-2 c = stop 5 (rest from6 (s4 (goal.at.returns-then-found-2 c).Else-found)) (regs_in (goal.at.returns-then-found-2 c).Else-found) c.if-found-2.true ∙ past4 (goal.at.returns-then-found-2 c).Else-found
+returns-then-found-2 c = ap verdict (stop 5 (rest from6 (s4 (goal.at.returns-then-found-2 c).Else-found)) (regs_in (goal.at.returns-then-found-2 c).Else-found) c.if-found-2.true ∙ past4 (goal.at.returns-then-found-2 c).Else-found)
 
 pub bad_lists-requires : goal.bad_lists-requires
 bad_lists-requires c = (few_at (goal.at.bad_lists-requires c).Else-too_many).opers
 
 pub returns-then-bad_lists : goal.returns-then-bad_lists
 unfolding from6
-returns-then-bad_lists c = stop 6 (rest from7 (s5 (goal.at.returns-then-bad_lists c).Else-found-2)) (lists_in (goal.at.returns-then-bad_lists c).After-bad_lists) c.if-bad_lists.true ∙ past5 (goal.at.returns-then-bad_lists c).Else-found-2
+returns-then-bad_lists c = ap verdict (stop 6 (rest from7 (s5 (goal.at.returns-then-bad_lists c).Else-found-2)) (lists_in (goal.at.returns-then-bad_lists c).After-bad_lists) c.if-bad_lists.true ∙ past5 (goal.at.returns-then-bad_lists c).Else-found-2)
 
 pub returns-then-bad_targets : goal.returns-then-bad_targets
 unfolding from7
-returns-then-bad_targets c = stop 7 (rest from8 (s6 (goal.at.returns-then-bad_targets c).Else-bad_lists)) (branches_in (goal.at.returns-then-bad_targets c).After-bad_targets) c.if-bad_targets.true ∙ past6 (goal.at.returns-then-bad_targets c).Else-bad_lists
+returns-then-bad_targets c = ap verdict (stop 7 (rest from8 (s6 (goal.at.returns-then-bad_targets c).Else-bad_lists)) (branches_in (goal.at.returns-then-bad_targets c).After-bad_targets) c.if-bad_targets.true ∙ past6 (goal.at.returns-then-bad_targets c).Else-bad_lists)
 
 pub returns-then-found-3 : goal.returns-then-found-3
 unfolding from8
-returns-then-found-3 c = stop 8 (rest from9 (s7 (goal.at.returns-then-found-3 c).Else-bad_targets)) (cats_in (goal.at.returns-then-found-3 c).Else-found) c.if-found-3.true ∙ past7 (goal.at.returns-then-found-3 c).Else-bad_targets
+returns-then-found-3 c = ap verdict (stop 8 (rest from9 (s7 (goal.at.returns-then-found-3 c).Else-bad_targets)) (cats_in (goal.at.returns-then-found-3 c).Else-found) c.if-found-3.true ∙ past7 (goal.at.returns-then-found-3 c).Else-bad_targets)
 
 pub bad_types-requires : goal.bad_types-requires
 bad_types-requires c = (few_at (goal.at.bad_types-requires c).Else-too_many).regs
 
 pub returns-then-bad_types : goal.returns-then-bad_types
 unfolding from9
-returns-then-bad_types c = stop 9 (rest from10 (s8 (goal.at.returns-then-bad_types c).Else-found-3)) c.bad_types.ensures c.if-bad_types.true ∙ past8 (goal.at.returns-then-bad_types c).Else-found-3
+returns-then-bad_types c = ap verdict (stop 9 (rest from10 (s8 (goal.at.returns-then-bad_types c).Else-found-3)) c.bad_types.ensures c.if-bad_types.true ∙ past8 (goal.at.returns-then-bad_types c).Else-found-3)
 
 pub too_short-requires : goal.too_short-requires
 too_short-requires c = let f = few_at (goal.at.too_short-requires c).Else-too_many in (f.bounds, f.types)
 
 pub returns-then-too_short : goal.returns-then-too_short
 unfolding from10
-returns-then-too_short c = stop 10 (rest from11 (s9 (goal.at.returns-then-too_short c).Else-bad_types)) c.too_short.ensures c.if-too_short.true ∙ past9 (goal.at.returns-then-too_short c).Else-bad_types
+returns-then-too_short c = ap verdict (stop 10 (rest from11 (s9 (goal.at.returns-then-too_short c).Else-bad_types)) c.too_short.ensures c.if-too_short.true ∙ past9 (goal.at.returns-then-too_short c).Else-bad_types)
 
 pub returns : goal.returns
-returns c = end (pic (s10 (goal.at.returns c).Else-too_short)) (s10 (goal.at.returns c).Else-too_short).args.room.w64 (s10 (goal.at.returns c).Else-too_short).args.room.w32 (s10 (goal.at.returns c).Else-too_short).args.room.records (kinds_at (goal.at.returns c).Else-found) ∙ past10 (goal.at.returns c).Else-too_short
+returns c = ap verdict (end (pic (s10 (goal.at.returns c).Else-too_short)) (s10 (goal.at.returns c).Else-too_short).args.room.w64 (s10 (goal.at.returns c).Else-too_short).args.room.w32 (s10 (goal.at.returns c).Else-too_short).args.room.records (kinds_at (goal.at.returns c).Else-found) ∙ past10 (goal.at.returns c).Else-too_short)
