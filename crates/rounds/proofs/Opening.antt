@@ -21,8 +21,9 @@ use Rattle.laws.proofs.Accepted.{accepted, needed_records}
 use Rattle.laws.proofs.Sizes.{few_blocks}
 use Rattle.laws.proofs.Rounds.{sink_refused, sink_gated, sink_through}
 use Rattle.checks.specs.Causes.{picture_of}
+use Rattle.acceptance.specs.declared.lent.Lent.{Lent}
+use Rattle.acceptance.specs.Lent.{picture}
 use Rattle.acceptance.proofs.Chain.{whatever_replay}
-use Rattle.sizes.specs.declared.InUse.{InUse}
 use Rattle.sizes.specs.declared.Room.{Room}
 use Rattle.sizes.specs.Parts.{sizes_of}
 use Rattle.search.specs.Search.{Beginning, Began}
@@ -34,15 +35,15 @@ use Rattle.rounds.specs.Judge.{IsJudged, Judged}
 
 -- ---- refusals and gates
 
-module _ (bounds recs locs vias types ops pairs targets : List ℕ) (u : InUse) (room : Room) where
+module _ (l : Lent) (room : Room) where
   abbrev lent : List ℕ → Picture
-  lent replay = picture_of bounds recs locs vias types u.regs ops u.opers pairs targets replay
+  lent replay = picture l replay
 
   abbrev cause : ℕ
   cause = refusal (lent []) room.w64 room.w32 room.records
 
   abbrev Says : Option Answer → Type 0
-  Says v = Judged bounds recs locs vias types ops pairs targets u room v
+  Says v = Judged l room v
 
   -- acceptance answers r
   module _ {r : Result Unit Refusal} (e : r ≡ verdict cause) where
@@ -58,34 +59,34 @@ module _ (bounds recs locs vias types ops pairs targets : List ℕ) (u : InUse) 
         }
 
     -- accepted: the gates answer g
-    module _ {v : Unit {0}} (h : r ≡ Ok v) {g : Bool} (f : g ≡ gated (picture_of bounds recs locs [] [] u.regs [] 0 [] [] [])) where
+    module _ {v : Unit {0}} (h : r ≡ Ok v) {g : Bool} (f : g ≡ gated (picture_of l.bounds.now l.recs.now l.locs.now [] [] l.used.regs [] 0 [] [] [])) where
       none : cause ≡ 0
       none = verdict_none cause (sym e ∙ h)
 
-      pub judge_gated : g ≡ true → Says (Some (answer.Done (record { rounds = 0; registers = u.regs; operands = u.opers })))
+      pub judge_gated : g ≡ true → Says (Some (answer.Done (record { rounds = 0; registers = l.used.regs; operands = l.used.opers })))
       judge_gated t = record { is = λ replay. (sink_gated (lent replay) room.w64 room.w32 room.records none (sym f ∙ t), refl) }
 
       pub judge_opens : g ≡ false → Says None
       judge_opens t = record { is = λ replay. (none, sym f ∙ t) }
 
--- ---- the start of the call on P
+-- ---- the start of the call on what is lent, with this replay
 
-module _ (P : Picture) (work64 work32 : List ℕ) (nf : ℕ) where
+module _ (l : Lent) (replay work64 work32 : List ℕ) (nf : ℕ) where
+  abbrev P : Picture
+  P = picture l replay
+
   -- what `judge` is asked
-  abbrev in_use : InUse
-  in_use = record { regs = P.regs; opers = P.opers }
-
   abbrev lent_room : Room
   lent_room = record { w64 = length work64; w32 = length work32; records = nf }
 
-  module _ {v : Option Answer} (j : Judged P.bounds P.recs P.locs P.vias P.types P.ops P.pairs P.targets in_use lent_room v) where
+  module _ {v : Option Answer} (j : Judged l lent_room v) where
     abbrev CameBy : Option Answer → Type 0
     CameBy = IsJudged P (length work64) (length work32) nf
 
     -- no round is tried
     pub started_ends : {a : Answer} {q : At} → v ≡ Some a → q ≡ first_at false a (record { blocks = 0; insts = 0; regs = P.regs; lent = 0; opers = P.opers }) → Started P work64 work32 nf q work64 work32
     started_ends {a} {q} e f =
-        let s : CameBy (Some a) = subst CameBy e (j.is P.replay) in
+        let s : CameBy (Some a) = subst CameBy e (j.is replay) in
         subst (λ (z : At). Started P work64 work32 nf z work64 work32) (sym f)
         (record {
           work = record { size64 = refl; size32 = refl; kept = λ h. (refl, refl) };
@@ -105,7 +106,7 @@ module _ (P : Picture) (work64 work32 : List ℕ) (nf : ℕ) where
     -- the rounds are run
     module _ (e : v ≡ None) where
       opens : CameBy None
-      opens = subst CameBy e (j.is P.replay)
+      opens = subst CameBy e (j.is replay)
 
       -- with as many records as are needed
       enough : refusal P (length work64) (length work32) records ≡ 0

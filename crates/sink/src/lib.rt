@@ -13,6 +13,7 @@ ghost use Rattle.sink.specs.Sink.{Lent, Coming, Finished, registers, operands};
 ghost use Rattle.rounds.specs.Ended.{Work};
 ghost use Rattle.oneround.specs.Kept.{Kept};
 
+use acceptance::lent;
 use facts::Fact;
 use inst::table::table;
 use oneround::round::round;
@@ -92,12 +93,7 @@ pub fn sink_all(
         × (cause ≡ 0 → Kept P Q (rounds result.answer)) }
 {
     let t = table();
-    let used = InUse {
-        regs: regs,
-        opers: opers,
-    };
-    let m = start(
-        &t,
+    let lent = lent::Lent {
         bounds,
         recs,
         locs,
@@ -106,11 +102,9 @@ pub fn sink_all(
         ops,
         pairs,
         targets,
-        work64,
-        work32,
-        used,
-        facts.len(),
-    );
+        used: InUse { regs, opers },
+    };
+    let m = start(&t, lent, work64, work32, facts.len());
     run(
         &t, bounds, recs, locs, vias, types, ops, pairs, targets, replay, work64, work32, facts, m,
     )

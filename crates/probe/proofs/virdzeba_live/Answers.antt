@@ -1,5 +1,5 @@
 -- `virdzeba_live` meets its contract. Assumes nothing.
-use mathlib.Core.Path.{refl, sym, ap}
+use mathlib.Core.Path.{refl, sym}
 use mathlib.Core.List.{[]}
 use lib.ListN.{length}
 use Rattle.words.specs.Bits.{width}
@@ -16,7 +16,7 @@ all_rows-requires c =
     let a = c.args in
     let P = picture_of a.bounds.now a.recs.now a.locs.now a.vias.now a.types.now a.registers a.ops.now a.operands a.pairs.now a.targets.now [] in
     let z = none P (length a.bits.now) a.w32 a.records c.accept.ensures c.in_default.is in
-    let k = rows_asked P a.w32 a.bits.now (needed_records P (length a.bits.now) a.w32 a.records z) refl refl refl c.wide-k.ensures in
+    let k = rows_asked P a.w32 a.bits.now (needed_records P (length a.bits.now) a.w32 a.records z) refl refl refl refl in
     (c.table-t.ensures, k.0, k.1, k.2)
 
 pub live_in-requires : goal.live_in-requires
@@ -24,8 +24,7 @@ live_in-requires c =
     let a = c.args in
     let P = picture_of a.bounds.now a.recs.now a.locs.now a.vias.now a.types.now a.registers a.ops.now a.operands a.pairs.now a.targets.now [] in
     let z = none P (length a.bits.now) a.w32 a.records c.accept.ensures c.in_default.is in
-    let w = c.wide-k in
-    let k = rows_asked P a.w32 a.bits.now (needed_records P (length a.bits.now) a.w32 a.records z) refl refl refl w.ensures in (
+    let k = rows_asked P a.w32 a.bits.now (needed_records P (length a.bits.now) a.w32 a.records z) refl refl refl refl in (
       c.table-t.ensures,
       graph_given P (accepted P (length a.bits.now) a.w32 a.records z),
       record { fits = rw c.all_rows.ensures.bits_len_unchanged k.2.fits },
@@ -35,14 +34,13 @@ live_in-requires c =
 pub returns-clause-live : goal.returns-clause-live
 returns-clause-live c =
     let a = c.args in
-    let w = c.wide-k in
     λ e. live_of
     (picture_of a.bounds.now a.recs.now a.locs.now a.vias.now a.types.now a.registers a.ops.now a.operands a.pairs.now a.targets.now [])
-    (width w.result)
+    (width a.registers)
     (width a.registers)
     _
-    (ap width w.ensures)
-    (c.live_in.ensures.by_index a.ops.now (λ i h. rows_tables a.bounds.now a.recs.now a.ops.now a.pairs.now a.targets.now (width w.result) i _ (c.all_rows.ensures.by_index i h)))
+    refl
+    (c.live_in.ensures.by_index a.ops.now (λ i h. rows_tables a.bounds.now a.recs.now a.ops.now a.pairs.now a.targets.now (width a.registers) i _ (c.all_rows.ensures.by_index i h)))
 
 pub returns-in-Err-clause-value : goal.returns-in-Err-clause-value
 returns-in-Err-clause-value c =

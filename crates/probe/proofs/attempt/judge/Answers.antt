@@ -3,7 +3,7 @@ use mathlib.Core.Path.{ap, ◌∙◌}
 use mathlib.Core.List.{List}
 use Prim.Native.Nat.{ℕ, ◌+◌}
 use native.Mathlib.Omega.{arith}
-use Rattle.checks.specs.Causes.{picture_of}
+use Rattle.acceptance.specs.Lent.{picture}
 use Rattle.model.proofs.Numbers.{number_low}
 use Rattle.probe.specs.Attempt.{refused}
 use Rattle.probe.proofs.Given.{none, some_cause, its_number}
@@ -15,17 +15,16 @@ overflow_add-number c = let h = number_low c.in-Err.cause in let e = c.number.en
 
 pub returns-in-Err : goal.returns-in-Err
 returns-in-Err c =
-    let a = c.args in
+    let r = c.args.room in
     λ (replay : List ℕ).
-    let P = picture_of a.bounds.now a.recs.now a.locs.now a.vias.now a.types.now a.used.regs a.ops.now a.used.opers a.pairs.now a.targets.now replay in
+    let P = picture c.args.lent replay in
     record {
-      is = rw c.stop.ensures.0 (refused (some_cause P a.room.w64 a.room.w32 a.room.records c.accept.ensures c.in-Err.is)
-          (c.stop.ensures.1 ∙ ap (λ (n : ℕ). 200 + n) (its_number P a.room.w64 a.room.w32 a.room.records c.accept.ensures c.in-Err.is c.number.ensures)));
+      is = rw c.stop.ensures.0
+          (refused (some_cause P r.w64 r.w32 r.records c.accept.ensures c.in-Err.is)
+          (c.stop.ensures.1 ∙ ap (λ (n : ℕ). 200 + n) (its_number P r.w64 r.w32 r.records c.accept.ensures c.in-Err.is c.number.ensures)));
     }
 
 pub returns : goal.returns
 returns c =
-    let a = c.args in
-    λ (replay : List ℕ).
-    let P = picture_of a.bounds.now a.recs.now a.locs.now a.vias.now a.types.now a.used.regs a.ops.now a.used.opers a.pairs.now a.targets.now replay in
-    block_judges P a.room a.x (none P a.room.w64 a.room.w32 a.room.records c.accept.ensures c.in_default.is) c.new-b.ensures
+    let r = c.args.room in
+    λ (replay : List ℕ). let P = picture c.args.lent replay in block_judges P r c.args.x (none P r.w64 r.w32 r.records c.accept.ensures c.in_default.is) c.new-b.ensures
