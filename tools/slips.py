@@ -28,7 +28,7 @@ import time
 TOP = os.path.dirname(os.path.dirname(os.path.abspath(__file__)))
 SLIPS = os.path.join(TOP, "tools", "slips.txt")
 # the pages that are definitions: an error there is the slip's own, not a row's
-DEFINITIONS = {"Kinds", "Picture", "Refusal", "Live", "Analyse", "Legal", "Move", "Pass", "Build"}
+DEFINITIONS = {"Kinds", "Picture", "Refusal", "Numbered", "Live", "Analyse", "Legal", "Move", "Pass", "Build"}
 CRATES = "words:\nmodel: words\ncrossed: words model\nkept: words model\n"
 # a table's theorem, in a page of rows
 TABLE = re.compile(r"^pub (\S+_cases) : .*\n\1 = refl\n", re.M)

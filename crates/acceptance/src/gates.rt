@@ -9,7 +9,6 @@ ghost use Rattle.checks.specs.Causes.{code, plain_cat, picture_of};
 
 use inst::kinds::CAT;
 use inst::record::{form, kind};
-use words::numbers::wide;
 
 // Registers times blocks above which nothing is tried.
 const BUDGET: usize = 2097152;
@@ -23,26 +22,25 @@ pub fn plain_cat(recs: &[u32], p: usize) -> bool
 }
 
 // One of the n records is such a Cat.
+#[tactic(auto, using(checks::proofs::Insts::code_none, checks::proofs::Insts::code_yes, checks::proofs::Insts::code_on, checks::proofs::Insts::code_no, checks::proofs::Given::within))]
 fn has_plain_cat(recs: &[u32], n: usize) -> bool
     requires { 16 * n ≤ length recs.now }
     ensures { result ≡ any plain_cat (code recs.now n) }
 {
-    let mut p = 0usize;
-    while p < n {
+    for p in 0..n {
         if plain_cat(recs, p) {
             return true;
         }
-        p += 1;
     }
     false
 }
 
-// Is nothing tried? The gates look at bounds, records, locs and the registers in use alone.
+// Is nothing tried? The gates look at bounds, records, locs and the registers in use alone, so they ask for no more.
+#[tactic(auto, unfolding(checks::specs::Causes::code))]
 pub fn gated(bounds: &[u32], recs: &[u32], locs: &[u32], regs: u32) -> bool
     requires { (length bounds.now / 2 ≤ 4096) × (16 * length locs.now ≤ length recs.now) }
     ensures { result ≡ gated (picture_of bounds.now recs.now locs.now [] [] regs [] 0 [] [] []) }
 {
     let blocks = bounds.len() / 2;
-    let r = wide(regs);
-    (blocks == 0) | (BUDGET < r * blocks) | !has_plain_cat(recs, locs.len())
+    (blocks == 0) | (BUDGET < regs as usize * blocks) | !has_plain_cat(recs, locs.len())
 }

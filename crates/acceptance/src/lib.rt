@@ -2,74 +2,61 @@
 // changed. Crate `checks` has causes 4 to 9.
 #![tactic(auto)]
 
+pub mod lent; // lent.rt: a picture as its slices are lent
 pub mod lengths; // lengths.rt: causes 1, 2 and 10
 pub mod blocks; // blocks.rt: cause 3
 pub mod gates; // gates.rt: the three gates
 
 ghost use Rattle.std.specs.Prelude.{◌≡◌, []};
 ghost use Rattle.model.specs.Refusal.{refusal};
-ghost use Rattle.checks.specs.Causes.{picture_of};
+ghost use Rattle.model.specs.Numbered.{verdict};
+ghost use Rattle.acceptance.specs.Lent.{picture};
 
 use crate::blocks::gaps;
-use crate::lengths::{too_many, too_short, unlike};
+use crate::lengths::{too_large, too_short, uneven};
+use crate::lent::Lent;
 use checks::branches::bad_targets;
 use checks::lists::{bad_lists, bad_types};
 use checks::look::look;
 use inst::table::Table;
+use model::Refusal;
 use sizes::{InUse, Room};
 
-// The lowest number whose cause is present in the picture, or 0, given the lengths of the two work slices and the records
-// lent. Cause 11 needs no test: it is absent wherever cause 4 is (proofs/Writes).
-pub fn refusal(
-    bounds: &[u32],
-    recs: &[u32],
-    locs: &[u32],
-    vias: &[u32],
-    types: &[u32],
-    ops: &[u32],
-    pairs: &[u32],
-    targets: &[u32],
-    used: InUse,
-    room: Room,
-    table: &Table,
-) -> u32
-    ensures { result ≡ refusal (picture_of bounds.now recs.now locs.now vias.now types.now used.regs ops.now used.opers pairs.now targets.now []) room.w64 room.w32 room.records }
+// Is the picture accepted, given the lengths of the two work slices and the records lent? Else the first cause of the table that is
+// present. The last cause needs no test: it is absent wherever that of kinds is (proofs/Writes).
+pub fn accept(lent: Lent, room: Room, table: &Table) -> Result<(), Refusal>
+    ensures { result ≡ verdict (refusal (picture lent.entry []) room.w64 room.w32 room.records) }
 {
-    let b = bounds.len();
-    let n = locs.len();
-    let k = types.len();
-    let regs = used.regs;
-    let opers = used.opers;
-    if too_many(b, n, k, ops.len(), pairs.len(), targets.len(), used) {
-        return 1;
+    let blocks = lent.bounds.len() / 2;
+    let insts = lent.locs.len();
+    let InUse { regs, opers } = lent.used;
+    if too_large(lent) {
+        return Err(Refusal::Large);
     }
-    if unlike(recs.len(), n, vias.len(), b, pairs.len()) {
-        return 2;
+    if uneven(lent) {
+        return Err(Refusal::Uneven);
     }
-    if gaps(bounds, n) {
-        return 3;
+    if gaps(lent.bounds, insts) {
+        return Err(Refusal::Blocks);
     }
-    let found = look(table, recs, n, regs, opers, b / 2);
-    if found.kinds {
-        return 4;
-    }
+    let found = look(table, lent.recs, insts, regs, opers, blocks)?;
     if found.regs {
-        return 5;
+        return Err(Refusal::Slot);
     }
-    if bad_lists(found.lists, ops, opers, regs) {
-        return 6;
+    if bad_lists(found.lists, lent.ops, opers, regs) {
+        return Err(Refusal::List);
     }
-    if bad_targets(found.branches, targets, pairs, b / 2) {
-        return 7;
+    if bad_targets(found.branches, lent.targets, lent.pairs, blocks) {
+        return Err(Refusal::Branch);
     }
     if found.cats {
-        return 8;
+        return Err(Refusal::Cat);
     }
-    if bad_types(types, regs) {
-        return 9;
+    if bad_types(lent.types, regs) {
+        return Err(Refusal::Type);
     }
-    if too_short(b, k, room) {
-        return 10;
+    if too_short(lent, room) {
+        return Err(Refusal::Work);
     }
-    0
+    Ok(())
 }

@@ -182,5 +182,11 @@ module _ (R : ℕ) (recs : List ℕ) (n p : ℕ) where
   pub skip_stop : (q : ℕ) {b : Bool} → Passed R recs n p q → b ≡ plain R (inst recs q) → not b ≡ true → Skipped R recs n p q
   skip_stop q {b} s e t = record { from = s.from; upto = s.upto; plain = s.plain; stops = λ h. sym e ∙ not-true b t }
 
-  pub skip_end : (q : ℕ) → Passed R recs n p q → n ≤ q → Skipped R recs n p q
-  skip_end q s h = record { from = s.from; upto = s.upto; plain = s.plain; stops = λ l. absurd (omega arith) }
+  pub skip_end : (q : ℕ) → Passed R recs n p q → n ≤ q → Skipped R recs n p n
+  skip_end q s h =
+      record {
+        from = let z = s.from in let y = s.upto in omega arith;
+        upto = omega arith;
+        plain = λ j l m. s.plain j l (omega arith);
+        stops = λ l. absurd (omega arith);
+      }

@@ -1,15 +1,24 @@
 -- Tests over the first n instructions: the fixed answers of the loops that decide them. Assumes nothing.
-use mathlib.Core.Path.{◌≡◌, sym, ap, ◌∙◌}
+use mathlib.Core.Path.{◌≡◌, refl, sym, ap, ◌∙◌}
 use mathlib.Core.Bool.{Bool, true, false, ◌||◌, or-false}
-use mathlib.Core.List.{List}
+use mathlib.Core.List.{List, [], ◌∷◌}
 use Prim.Native.Nat.{ℕ, zero, suc, ◌+◌, ◌-◌, ◌≤◌, ◌<◌}
 use native.Mathlib.Omega.{arith}
+use Rattle.std.specs.List.{list_any}
 use Rattle.words.specs.Lists.{range, upto, any}
 use native.Mathlib.Nat.{zero-add}
 use Rattle.words.proofs.Lists.{range_append}
 use Rattle.words.proofs.Alls.{any_map, any_append, any_at, any_below, find_yes, find_on, find_no}
 use Rattle.model.specs.Picture.{Inst, inst}
 use Rattle.checks.specs.Causes.{code}
+
+same : {A : Type 0} (f : A → Bool) (xs : List A) → list_any f xs ≡ any f xs
+same f [] = refl
+same f (x ∷ xs) = ap (λ (b : Bool). f x || b) (same f xs)
+
+-- what an iterator's `any` answers
+pub any_is : {A : Type 0} {r : Bool} (f : A → Bool) (xs : List A) → r ≡ list_any (λ x. f x) xs → r ≡ any f xs
+any_is f xs e = e ∙ same f xs
 
 module _ (f : Inst → Bool) (recs : List ℕ) where
   abbrev at : ℕ → Bool

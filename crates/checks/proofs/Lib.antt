@@ -4,4 +4,3 @@ pub mod Insts
 pub mod Looked
 pub mod Seen
 pub mod Slots
-pub mod Twos

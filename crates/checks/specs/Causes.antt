@@ -1,11 +1,11 @@
--- 01, "The call": `model`'s picture from what is lent, and each cause of the table by what it looks at. (`model`'s Refusal
--- and Pass state them of a picture; proofs/Chain shows that these are the same.) Assumes nothing.
-use Rattle.std.specs.Prelude.{Bool, not, ◌&&◌, ◌||◌, List, map, ℕ, ◌+◌, ◌*◌, ◌/◌, ◌%◌, eqb, ltb, leb, get_or, length, take}
+-- 01, "The call": `model`'s picture from what is lent, and causes 5 to 9 of the table by what each looks at. (`model`'s Refusal
+-- and Pass state them of a picture; proofs/Chain of `acceptance` shows that these are the same.) Assumes nothing.
+use Rattle.std.specs.Prelude.{Bool, ◌&&◌, ◌||◌, List, map, ℕ, eqb, ltb, leb, get_or, length, take}
 use Rattle.words.specs.Lists.{upto, any}
 use Rattle.model.specs.Kinds.{row, Cat}
 use Rattle.model.specs.Picture.{Picture, Inst, inst, absent, kind, form, is_kind, slots, roles}
 use Rattle.model.specs.Picture as Pic
-use Rattle.model.specs.Refusal.{bad_slots, half_part, bad_pairs, may_move, records}
+use Rattle.model.specs.Refusal.{bad_slots, half_part, bad_pairs, may_move}
 
 -- bounds, records, locs, vias, types and registers in use, operands and those in use, case pairs, targets, replay
 abbrev pub picture_of : List ℕ → List ℕ → List ℕ → List ℕ → List ℕ → ℕ → List ℕ → ℕ → List ℕ → List ℕ → List ℕ → Picture
@@ -15,21 +15,6 @@ picture_of bounds recs locs vias types regs ops opers pairs targets replay =
 -- the first n instructions
 unfoldable pub code : List ℕ → ℕ → List Inst
 code recs n = map (inst recs) (upto n)
-
--- ---- sizes, by the lengths of bounds, locs, types, operands, pairs and targets, and the counts in use
-
--- 1
-unfoldable pub too_many : ℕ → ℕ → ℕ → ℕ → ℕ → ℕ → ℕ → ℕ → Bool
-too_many nb nl nt nq np ng regs opers =
-    ltb 4096 (nb / 2) || ltb 32768 nl || ltb 65536 nt || ltb 131072 nq || ltb 65536 np || ltb 65536 ng || ltb nt regs || ltb nq opers
-
--- 2, by the lengths of records, locs, vias, bounds and pairs
-unfoldable pub unlike : ℕ → ℕ → ℕ → ℕ → ℕ → Bool
-unlike nr nl nv nb np = not (eqb nr (16 * nl)) || not (eqb nv 0 || eqb nv nl) || eqb (nb % 2) 1 || eqb (np % 2) 1
-
--- 10, by the lengths of bounds and types
-unfoldable pub too_short : ℕ → ℕ → ℕ → ℕ → ℕ → Bool
-too_short nb nt w64 w32 nf = ltb w64 (4 * (nb / 2) * ((nt + 63) / 64) + 2 * nt) || ltb w32 (8 * nt + 16 * (nb / 2) + 8000) || ltb nf records
 
 -- ---- one instruction
 

@@ -9,7 +9,6 @@ ghost use Rattle.checks.specs.Causes.{bad_targets};
 use crate::lists::any_from;
 use inst::kinds::{BR, COND_BR};
 use inst::record::{kind, word};
-use words::numbers::wide;
 
 // A branch to no block.
 pub fn bad_branch(recs: &[u32], p: usize, blocks: usize) -> bool
@@ -17,31 +16,29 @@ pub fn bad_branch(recs: &[u32], p: usize, blocks: usize) -> bool
     ensures { result ≡ bad_branch blocks (inst recs.now p) }
 {
     let k = kind(recs, p);
-    let t = wide(word(recs, p, 9));
-    let f = wide(word(recs, p, 10));
+    let t = word(recs, p, 9) as usize;
+    let f = word(recs, p, 10) as usize;
     (k == BR) & (blocks <= t) | (k == COND_BR) & ((blocks <= t) | (blocks <= f))
 }
 
-// A case pair that is empty or past its n targets.
+// A case pair, its start and its length, that is empty or past its n targets.
 fn bad_pairs(pairs: &[u32], n: usize) -> bool
     ensures { result ≡ bad_pairs n pairs.now }
 {
-    let len = pairs.len();
-    let mut k = 0usize;
-    while k + 1 < len {
-        let s = wide(pairs[k]);
-        let l = wide(pairs[k + 1]);
-        if (l == 0) | (n < s + l) {
+    for pair in pairs.chunks_exact(2) {
+        let start = pair[0] as usize;
+        let len = pair[1] as usize;
+        if (len == 0) | (n < start + len) {
             return true;
         }
-        k += 2;
     }
     false
 }
 
 // 7: a record's branch is bad, or a case target or pair is.
+#[tactic(auto, using(crate::proofs::Insts::any_is), unfolding(crate::specs::Causes::bad_targets))]
 pub fn bad_targets(branches: bool, targets: &[u32], pairs: &[u32], blocks: usize) -> bool
     ensures { result ≡ bad_targets branches targets.now pairs.now blocks }
 {
-    branches | any_from(targets, blocks) | bad_pairs(pairs, targets.len())
+    branches || any_from(targets, blocks) || bad_pairs(pairs, targets.len())
 }

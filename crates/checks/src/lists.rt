@@ -1,7 +1,7 @@
 // Causes 6 and 9 (01, "The call", the table): lists and operands, and the types in use. Every operand in use is tested,
 // listed or not.
 ghost use Rattle.std.specs.Prelude.{◌≡◌, ◌≤◌, leb, length};
-ghost use Rattle.words.specs.Lists.{any};
+ghost use Rattle.std.specs.List.{list_any};
 ghost use Rattle.model.specs.Picture.{inst};
 ghost use Rattle.model.specs.Refusal.{bad_list};
 ghost use Rattle.inst.specs.Record.{Known};
@@ -9,10 +9,9 @@ ghost use Rattle.checks.specs.Causes.{bad_lists, bad_types};
 
 use inst::record::{kind, list_len, list_start};
 use inst::table::{Table, has_list};
-use words::numbers::wide;
-use words::slices::first;
 
 // A list past the operands in use, or on a kind without one.
+#[tactic(auto, using(crate::proofs::Looked::has_one, crate::proofs::Looked::has_none))]
 pub fn bad_list(t: &Table, recs: &[u32], p: usize, opers: usize) -> bool
     requires { Known recs.now p }
     ensures { result ≡ bad_list opers (inst recs.now p) }
@@ -27,30 +26,25 @@ pub fn bad_list(t: &Table, recs: &[u32], p: usize, opers: usize) -> bool
 
 // Is one of these words m or more?
 pub fn any_from(xs: &[u32], m: usize) -> bool
-    ensures { result ≡ any (leb m) xs.now }
+    ensures { result ≡ list_any (λ x. leb m x) xs.now }
 {
-    let mut i = 0usize;
-    while i < xs.len() {
-        if m <= wide(xs[i]) {
-            return true;
-        }
-        i += 1;
-    }
-    false
+    xs.iter().any(|x| m <= *x as usize)
 }
 
 // 6: a record's list is bad, or an operand in use is no register.
+#[tactic(auto, using(crate::proofs::Insts::any_is), unfolding(crate::specs::Causes::bad_lists))]
 pub fn bad_lists(lists: bool, ops: &[u32], opers: u32, regs: u32) -> bool
     requires { opers ≤ length ops.now }
     ensures { result ≡ bad_lists lists ops.now opers regs }
 {
-    lists | any_from(first(ops, wide(opers)), wide(regs))
+    lists || any_from(&ops[..opers as usize], regs as usize)
 }
 
 // 9: a type in use above 7.
+#[tactic(auto, using(crate::proofs::Insts::any_is), unfolding(crate::specs::Causes::bad_types))]
 pub fn bad_types(types: &[u32], regs: u32) -> bool
     requires { regs ≤ length types.now }
     ensures { result ≡ bad_types types.now regs }
 {
-    any_from(first(types, wide(regs)), 8)
+    any_from(&types[..regs as usize], 8)
 }

@@ -9,51 +9,48 @@ use crate::lists::bad_list;
 use crate::plain::skip;
 use crate::records::{bad_kind, bad_regs_at, long_cat};
 use inst::table::Table;
-use words::numbers::wide;
+use model::Refusal;
 
-// Whether one of the records is bad in its kind (4), registers (5), list (6), branch (7), or is a long Cat (8).
-#[derive(Clone, Copy)]
+// Where no kind is bad: whether one of the records is bad in its registers (5), list (6) or branch (7), or is a long Cat (8).
+#[derive(Clone, Copy, PartialEq, Eq, Debug)]
 pub struct Found {
-    pub kinds: bool,
     pub regs: bool,
     pub lists: bool,
     pub branches: bool,
     pub cats: bool,
 }
 
-// Of n records.
-#[tactic(auto, using(crate::proofs::Given::within))]
-pub fn look(t: &Table, recs: &[u32], n: usize, r: u32, opers: u32, blocks: usize) -> Found
+// Of n records. Causes 6 and 7 are of lists and targets too, which are looked at elsewhere; so what is found is not one cause, but
+// each by itself.
+#[tactic(auto, using(crate::proofs::Given::within, crate::proofs::Given::known))]
+pub fn look(
+    t: &Table,
+    recs: &[u32],
+    n: usize,
+    r: u32,
+    opers: u32,
+    blocks: usize,
+) -> Result<Found, Refusal>
     requires { 16 * n ≤ length recs.now }
     ensures { result ≡ found r opers blocks (code recs.now n) }
 {
-    let used = wide(opers);
-    let mut p = 0usize;
-    let mut regs = false;
-    let mut lists = false;
-    let mut branches = false;
-    let mut cats = false;
+    let used = opers as usize;
+    let mut found = Found {
+        regs: false,
+        lists: false,
+        branches: false,
+        cats: false,
+    };
+    let mut p = 0;
     while p < n {
         if bad_kind(t, recs, p) {
-            return Found {
-                kinds: true,
-                regs: false,
-                lists: false,
-                branches: false,
-                cats: false,
-            };
+            return Err(Refusal::Kind);
         }
-        regs = regs | bad_regs_at(t, recs, p, r);
-        lists = lists | bad_list(t, recs, p, used);
-        branches = branches | bad_branch(recs, p, blocks);
-        cats = cats | long_cat(recs, p);
+        found.regs |= bad_regs_at(t, recs, p, r);
+        found.lists |= bad_list(t, recs, p, used);
+        found.branches |= bad_branch(recs, p, blocks);
+        found.cats |= long_cat(recs, p);
         p = skip(t, recs, n, r, p + 1);
     }
-    Found {
-        kinds: false,
-        regs: regs,
-        lists: lists,
-        branches: branches,
-        cats: cats,
-    }
+    Ok(found)
 }

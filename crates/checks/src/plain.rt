@@ -40,6 +40,7 @@ fn odd_slot(recs: &[u32], p: usize, regs: u32, uses: u32, s: usize) -> bool
 }
 
 // None of the first four slots is so, and nothing is done with the last, which is absent.
+#[tactic(auto, unfolding(crate::specs::Plain::usual))]
 fn usual(recs: &[u32], p: usize, regs: u32, uses: u32) -> bool
     requires { Within recs.now p }
     ensures { result ≡ usual regs uses (inst recs.now p) }
@@ -52,6 +53,7 @@ fn usual(recs: &[u32], p: usize, regs: u32, uses: u32) -> bool
 }
 
 // Is nothing found in record p?
+#[tactic(auto, using(crate::proofs::Freed::not_known, crate::proofs::Freed::plain_by, crate::proofs::Freed::not_simple))]
 pub fn plain(t: &Table, recs: &[u32], p: usize, regs: u32) -> bool
     requires { Within recs.now p }
     ensures { result ≡ plain regs (inst recs.now p) }
@@ -66,16 +68,15 @@ pub fn plain(t: &Table, recs: &[u32], p: usize, regs: u32) -> bool
 }
 
 // Past such records: of n, all from p up to the answer are so, and the next one, if there is one, is not.
+#[tactic(auto, using(crate::proofs::Freed::skip_none, crate::proofs::Freed::skip_more, crate::proofs::Freed::skip_stop, crate::proofs::Freed::skip_end, crate::proofs::Given::within))]
 pub fn skip(t: &Table, recs: &[u32], n: usize, regs: u32, p: usize) -> usize
     requires { (16 * n ≤ length recs.now) × (p ≤ n) }
     ensures { Skipped regs recs.now n p result }
 {
-    let mut q = p;
-    while q < n {
+    for q in p..n {
         if !plain(t, recs, q, regs) {
             return q;
         }
-        q += 1;
     }
-    q
+    n
 }

@@ -20,6 +20,7 @@ const SCALARS: u32 = 65535;
 const CAT_LIST: usize = 33;
 
 // 4: its kind, form or scalars are not allowed.
+#[tactic(auto, using(crate::proofs::Looked::no_kind, crate::proofs::Looked::kind_by))]
 pub fn bad_kind(t: &Table, recs: &[u32], p: usize) -> bool
     requires { Within recs.now p }
     ensures { result ≡ bad_kind (inst recs.now p) }
@@ -37,16 +38,15 @@ pub fn bad_kind(t: &Table, recs: &[u32], p: usize) -> bool
 fn bad_at(regs: u32, ask: u32, r: u32) -> bool
     ensures { result ≡ bad_at regs ask r }
 {
-    if ask == 0 {
-        return r != ABSENT;
+    match ask {
+        0 => r != ABSENT,
+        1 => regs <= r,
+        _ => (regs <= r) & (r != ABSENT),
     }
-    if ask == 1 {
-        return regs <= r;
-    }
-    (regs <= r) & (r != ABSENT)
 }
 
 // 5: slot s of record p, whose slots ask this.
+#[tactic(auto, using(crate::proofs::Slots::asked))]
 fn bad_slot(recs: &[u32], p: usize, regs: u32, asks: u32, s: usize) -> bool
     requires { Within recs.now p × (asks ≡ asks_of (inst recs.now p)) × (s < 5) }
     ensures { result ≡ bad_slot regs (get_or (roles (inst recs.now p)) s off) (get_or (inst recs.now p) (2 + s) 0) }
@@ -80,6 +80,7 @@ fn half_part(recs: &[u32], p: usize) -> bool
 }
 
 // 5: a slot is no register below R, or wrongly absent or present.
+#[tactic(auto, unfolding(crate::specs::Causes::bad_regs))]
 pub fn bad_regs_at(t: &Table, recs: &[u32], p: usize, regs: u32) -> bool
     requires { Known recs.now p }
     ensures { result ≡ bad_regs regs (inst recs.now p) }

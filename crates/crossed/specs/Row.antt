@@ -7,6 +7,7 @@ use Rattle.model.specs.declared.Answer.TheVariants.{Done, Short, Refused}
 use Rattle.model.specs.Kinds.{Kind, Br, CondBr, Const}
 use Rattle.model.specs.Picture.{Picture, Inst}
 use Rattle.model.specs.Build.{op}
+use Rattle.model.specs.Numbered.{refusal_of}
 use Rattle.model.specs.Pass.{Outcome, ends_in}
 
 -- the picture lent, the lengths of the two work slices, the records lent, and what the call gives: the answer, the lines, and the
@@ -134,7 +135,7 @@ abbrev pub short : ℕ → ℕ → ℕ → Answer
 short n regs opers = Short (record { rounds = n; registers = regs; operands = opers })
 
 abbrev pub refused : ℕ → Answer
-refused n = Refused n
+refused n = Refused (refusal_of n)
 
 -- some rounds: the answer, the lines, and what is left
 abbrev pub moves : Picture → ℕ → ℕ → ℕ → Answer → List (List ℕ) → Picture → Row

@@ -14,7 +14,10 @@ use Rattle.words.proofs.Each.{Each}
 use Rattle.model.specs.declared.Answer.{Answer}
 use Rattle.model.specs.declared.Answer.TheVariants.{Done, Short, Refused}
 use Rattle.model.specs.Picture.{Picture}
-use Rattle.model.specs.Refusal.{lowest, causes, refusal}
+use Rattle.model.specs.Refusal.{refusal}
+use Rattle.model.specs.declared.Refusal.{Refusal}
+use Rattle.model.specs.Numbered.{refusal_of}
+use Rattle.model.proofs.Numbers.{number_low}
 use Rattle.model.specs.Analyse.{Facts, facts}
 use Rattle.model.specs.Move.{Plan, apply}
 use Rattle.model.specs.Pass.{Outcome, used, rounds, number, ends_in, sink_all, most_rounds, gated, sink}
@@ -89,27 +92,19 @@ all_went (suc k) n G P ok = go (λ a r. all_went k (suc n) G (apply P a) r) (nex
 
 -- ---- the call
 
-lowest_low : (n : ℕ) (cs : List Bool) → lowest n cs ≤ n + length cs
-lowest_low n [] = omega arith
-lowest_low n (true ∷ cs) = omega arith
-lowest_low n (false ∷ cs) = let h = lowest_low (suc n) cs in omega arith
-
 -- the rounds went, or the picture was refused
 pub data Came (P : Picture) (o : Outcome) : Type 0 where
   went : Went 8 0 P o → Came P o
-  stopped : (n : ℕ) → n ≤ 12 → o ≡ ends_in (Refused n) P → Came P o
+  stopped : (r : Refusal) → o ≡ ends_in (Refused r) P → Came P o
 
 module _ (P : Picture) (w64 w32 nf : ℕ) where
   through : refusal P w64 w32 nf ≡ 0 → (gated P ≡ true) ⊎ (gated P ≡ false) → Came P (sink P w64 w32 nf)
   through z (inl e) = subst (Came P) (sym (sink_gated P w64 w32 nf z e)) (went (ends 8 0 P (accepted P w64 w32 nf z) (Done (used 0 P)) (inl refl)))
   through z (inr e) = subst (Came P) (sym (sink_through P w64 w32 nf z e)) (went (all_went most_rounds 0 (facts P) P (accepted P w64 w32 nf z)))
 
-  refused_low : (n : ℕ) → refusal P w64 w32 nf ≡ n → n ≤ 12
-  refused_low n z = subst (λ (m : ℕ). m ≤ 12) z (lowest_low 1 (causes P w64 w32 nf))
-
   by_number : (n : ℕ) → refusal P w64 w32 nf ≡ n → Came P (sink P w64 w32 nf)
   by_number zero z = through z (bool? (gated P))
-  by_number (suc n) z = stopped (suc n) (refused_low (suc n) z) (sink_refused P w64 w32 nf (suc n) (sym z) (λ (q : suc n ≡ 0). omega arith))
+  by_number (suc n) z = stopped (refusal_of (suc n)) (sink_refused P w64 w32 nf (suc n) (sym z) (λ (q : suc n ≡ 0). omega arith))
 
   pub came : Came P (sink P w64 w32 nf)
   came = by_number (refusal P w64 w32 nf) refl
@@ -123,19 +118,19 @@ module _ {P : Picture} {o : Outcome} where
 
   pub small : Came P o → number o.answer ≤ 300
   small (went w) = let h = w.few in said (λ a. number a ≤ 300) w (omega arith) (omega arith)
-  small (stopped n h e) = subst (λ (o : Outcome). number o.answer ≤ 300) (sym e) (omega arith)
+  small (stopped r e) = subst (λ (o : Outcome). number o.answer ≤ 300) (sym e) (let h = number_low r in omega arith)
 
   pub few_rounds : Came P o → rounds o.answer ≤ 8
   few_rounds (went w) = let h = w.few in said (λ a. rounds a ≤ 8) w (omega arith) (omega arith)
-  few_rounds (stopped n h e) = subst (λ (o : Outcome). rounds o.answer ≤ 8) (sym e) (omega arith)
+  few_rounds (stopped r e) = subst (λ (o : Outcome). rounds o.answer ≤ 8) (sym e) (omega arith)
 
   pub as_many : Came P o → length o.lines ≡ rounds o.answer
   as_many (went w) = let h = w.many in said (λ a. length o.lines ≡ rounds a) w (omega arith) (omega arith)
-  as_many (stopped n h e) = subst (λ (o : Outcome). length o.lines ≡ rounds o.answer) (sym e) refl
+  as_many (stopped r e) = subst (λ (o : Outcome). length o.lines ≡ rounds o.answer) (sym e) refl
 
   pub sixes_each : Came P o → Each SixAre o.lines
   sixes_each (went w) = w.sixes
-  sixes_each (stopped n h e) = subst (λ (o : Outcome). Each SixAre o.lines) (sym e) tt
+  sixes_each (stopped r e) = subst (λ (o : Outcome). Each SixAre o.lines) (sym e) tt
 
   regs_said : (w : Went 8 0 P o) → registers o.answer ≡ o.left.regs
   regs_said w = said (λ a. registers a ≡ o.left.regs) w refl refl
@@ -146,11 +141,11 @@ module _ {P : Picture} {o : Outcome} where
   module _ {bounds recs locs vias types ops : List ℕ} (h : Holds o.left bounds recs locs vias types ops) where
     regs_room : Came P o → registers o.answer ≤ length types
     regs_room (went w) = let e = regs_said w in let f = w.regs_fit in let t = ap length h.types_are in omega arith
-    regs_room (stopped n m e) = subst (λ (o : Outcome). registers o.answer ≤ length types) (sym e) (omega arith)
+    regs_room (stopped r e) = subst (λ (o : Outcome). registers o.answer ≤ length types) (sym e) (omega arith)
 
     opers_room : Came P o → operands o.answer ≤ length ops
     opers_room (went w) = let e = opers_said w in let f = w.opers_fit in let t = ap length h.ops_are in omega arith
-    opers_room (stopped n m e) = subst (λ (o : Outcome). operands o.answer ≤ length ops) (sym e) (omega arith)
+    opers_room (stopped r e) = subst (λ (o : Outcome). operands o.answer ≤ length ops) (sym e) (omega arith)
 
     -- what the call leaves can be written
     pub fitting : Came P o → {a : Answer} → a ≡ o.answer → {n : ℕ} → Roomy bounds recs locs vias types ops P.pairs P.targets P.replay n
@@ -191,7 +186,7 @@ module _ {P : Picture} {o : Outcome} where
 
     put_is : Came P o → (result : List ℕ) → put_by o.answer (picture_bytes (left_by o.answer bounds recs locs vias types ops P.pairs P.targets P.replay)) result ≡ put_left o result
     put_is (went w) result = ap (λ (Q : Picture). put_by o.answer (picture_bytes Q) result) (left_is w)
-    put_is (stopped n m e) result =
+    put_is (stopped r e) result =
         let bs = picture_bytes (left_by o.answer bounds recs locs vias types ops P.pairs P.targets P.replay) in
         subst (λ (o : Outcome). put_by o.answer bs result ≡ put_left o result) (sym e) refl
 

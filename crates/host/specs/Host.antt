@@ -40,7 +40,7 @@ returned bs n registers operands = elim (within_bounds bs n registers operands) 
 abbrev pub put_by : Answer → List ℕ → List ℕ → List ℕ
 put_by (Done u) bytes result = sets result 0 bytes
 put_by (Short u) bytes result = sets result 0 bytes
-put_by (Refused n) bytes result = result
+put_by (Refused r) bytes result = result
 
 abbrev pub put_left : Outcome → List ℕ → List ℕ
 put_left o result = put_by o.answer (picture_bytes o.left) result
@@ -57,7 +57,7 @@ ran_by o = record { answer = o.answer; lines = concat o.lines ++ replicate (48 -
 
 -- what stands where nothing is run
 abbrev pub unread : Reply
-unread = record { read = false; ran = record { answer = Refused 0; lines = replicate 48 0 } }
+unread = record { read = false; ran = record { answer = Done (record { rounds = 0; registers = 0; operands = 0 }); lines = replicate 48 0 } }
 
 -- the call's answer and lines, if all is within the bounds
 abbrev pub replied : List ℕ → ℕ → ℕ → ℕ → Reply

@@ -23,7 +23,7 @@ fn number(answer: Answer) -> u32
     match answer {
         Answer::Done(u) => u.rounds,
         Answer::Short(u) => 100 + u.rounds,
-        Answer::Refused(n) => 200 + n,
+        Answer::Refused(r) => 200 + r.number(),
     }
 }
 

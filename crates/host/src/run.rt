@@ -9,7 +9,7 @@ use crate::load::{load_bounds, load_locs, load_ops, load_pairs, load_recs, load_
 use layout::read::{counts, readable};
 use layout::write::write_picture;
 use layout::{BLOCKS, OPERANDS, PICTURE_BYTES, RECS, REGISTERS, TARGETS};
-use model::{Answer, CHAIN_WORDS};
+use model::{Answer, CHAIN_WORDS, Used};
 use rounds::state::Ran;
 use sink::here::sink_here;
 use sizes::InUse;
@@ -173,7 +173,11 @@ fn unread() -> Reply
     ensures { result ≡ unread }
 {
     let ran = Ran {
-        answer: Answer::Refused(0),
+        answer: Answer::Done(Used {
+            rounds: 0,
+            registers: 0,
+            operands: 0,
+        }),
         lines: [0u32; 48],
     };
     Reply {

@@ -7,6 +7,7 @@ use Prim.Native.Nat.{ℕ, zero, suc}
 use Rattle.words.specs.Lists.{count}
 use Rattle.model.specs.Picture.{Picture}
 use Rattle.model.specs.Refusal.{refusal}
+use Rattle.model.specs.Numbered.{refusal_of}
 use Rattle.model.specs.Analyse.{Facts, facts}
 use Rattle.model.specs.Move.{Plan, apply}
 use Rattle.model.specs.declared.Answer.TheVariants.{Done, Short, Refused}
@@ -55,14 +56,14 @@ module _ (P : Picture) where
   gates b = elim b as (λ z. Outcome) [ true ↦ ends_in (Done (used 0 P)) P | false ↦ sink_all most_rounds 0 (facts P) P ]
 
   abbrev by_refusal : ℕ → Outcome
-  by_refusal n = elim n as (λ z. Outcome) [ suc n ↦ ends_in (Refused (suc n)) P | zero ↦ gates (gated P) ]
+  by_refusal n = elim n as (λ z. Outcome) [ suc n ↦ ends_in (Refused (refusal_of (suc n))) P | zero ↦ gates (gated P) ]
 
-  by_cause : (n : ℕ) → (n ≡ 0 → ⊥) → by_refusal n ≡ ends_in (Refused n) P
+  by_cause : (n : ℕ) → (n ≡ 0 → ⊥) → by_refusal n ≡ ends_in (Refused (refusal_of n)) P
   by_cause zero h = absurd (h refl)
   by_cause (suc n) h = refl
 
   module _ (w64 w32 nf : ℕ) where
-    pub sink_refused : (n : ℕ) → n ≡ refusal P w64 w32 nf → (n ≡ 0 → ⊥) → sink P w64 w32 nf ≡ ends_in (Refused n) P
+    pub sink_refused : (n : ℕ) → n ≡ refusal P w64 w32 nf → (n ≡ 0 → ⊥) → sink P w64 w32 nf ≡ ends_in (Refused (refusal_of n)) P
     sink_refused n e h = ap by_refusal (sym e) ∙ by_cause n h
 
     module _ (ok : refusal P w64 w32 nf ≡ 0) where

@@ -4,6 +4,7 @@ use Rattle.std.proofs.lemmas.List.Edits.{sets}
 use Rattle.words.specs.Lists.{concat}
 use Rattle.model.specs.declared.Answer.{Answer}
 use Rattle.model.specs.declared.Answer.TheVariants.{Done, Short, Refused}
+use Rattle.model.specs.Numbered.{number_of}
 use Rattle.model.specs.Pass.{Outcome}
 
 -- vs stand from place `at` on, all else is as it was, and r is the place behind them
@@ -39,7 +40,7 @@ answer_heading = 97 ∷ 110 ∷ 115 ∷ 119 ∷ 101 ∷ 114 ∷ 32 ∷ 114 ∷ 1
 abbrev pub last_line : Answer → List ℕ
 last_line (Done u) = 100 ∷ 111 ∷ 110 ∷ 101 ∷ 32 ∷ line (u.rounds ∷ [])
 last_line (Short u) = 115 ∷ 104 ∷ 111 ∷ 114 ∷ 116 ∷ 32 ∷ line (u.rounds ∷ [])
-last_line (Refused n) = 114 ∷ 101 ∷ 102 ∷ 117 ∷ 115 ∷ 101 ∷ 100 ∷ 32 ∷ line (n ∷ [])
+last_line (Refused r) = 114 ∷ 101 ∷ 102 ∷ 117 ∷ 115 ∷ 101 ∷ 100 ∷ 32 ∷ line (number_of r ∷ [])
 
 -- "unread 0"
 abbrev pub unread_line : List ℕ

@@ -103,9 +103,9 @@ pub fn put_last(out: &mut [u8], at: usize, answer: Answer) -> usize
             let p = put_bytes(out, at, b"short ");
             put_cell(out, p, u.rounds, b'\n')
         }
-        Answer::Refused(n) => {
+        Answer::Refused(r) => {
             let p = put_bytes(out, at, b"refused ");
-            put_cell(out, p, n, b'\n')
+            put_cell(out, p, r.number(), b'\n')
         }
     }
 }

@@ -1,2 +1,3 @@
 pub mod Table
 pub mod Sizes
+pub mod Numbers

@@ -1,6 +1,7 @@
 pub mod Kinds
 pub mod Picture
 pub mod Refusal
+pub mod Numbered
 pub mod Live
 pub mod Analyse
 pub mod Legal

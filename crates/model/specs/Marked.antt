@@ -7,6 +7,7 @@ use Rattle.model.specs.declared.Answer.TheVariants.{Done, Short, Refused}
 use Rattle.model.specs.Kinds.{Const, AddrOf, Alloc, Cmp, Cat, CondBr, Br, Output, Ret, Stmt, Suspend}
 use Rattle.model.specs.Picture.{Picture, Inst}
 use Rattle.model.specs.Refusal.{records}
+use Rattle.model.specs.Numbered.{refusal_of}
 use Rattle.model.specs.Pass.{Outcome, ends_in, used, sink}
 use Rattle.model.specs.Build.{op, Room, shows}
 
@@ -86,7 +87,7 @@ abbrev pub stays : List (List Inst) → Row
 stays bs = let P = lent bs (nine []) [] in record { what = P; gives = ends_in (Done (used 0 P)) P }
 
 abbrev pub refused : ℕ → Picture → Row
-refused n P = record { what = P; gives = ends_in (Refused n) P }
+refused n P = record { what = P; gives = ends_in (Refused (refusal_of n)) P }
 
 abbrev pub short : Picture → Row
 short P = record { what = P; gives = ends_in (Short (used 0 P)) P }

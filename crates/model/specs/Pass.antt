@@ -7,6 +7,7 @@ use Rattle.model.specs.declared.Answer.TheVariants.{Done, Short, Refused}
 use Rattle.model.specs.Kinds.{Cat}
 use Rattle.model.specs.Picture.{Picture, is_kind, form, nblocks, size}
 use Rattle.model.specs.Refusal.{refusal, all_code}
+use Rattle.model.specs.Numbered.{number_of, refusal_of}
 use Rattle.model.specs.Analyse.{Facts, facts}
 use Rattle.model.specs.Move.{Plan, min_replay, try_block, apply}
 
@@ -20,19 +21,19 @@ used n P = record { rounds = n; registers = P.regs; operands = P.opers }
 abbrev pub values : Answer → List ℕ
 values (Done u) = u.rounds ∷ u.registers ∷ u.operands ∷ []
 values (Short u) = u.rounds ∷ u.registers ∷ u.operands ∷ []
-values (Refused n) = n ∷ []
+values (Refused r) = number_of r ∷ []
 
 -- the rounds of Done and Short; a refused picture had none
 abbrev pub rounds : Answer → ℕ
 rounds (Done u) = u.rounds
 rounds (Short u) = u.rounds
-rounds (Refused n) = 0
+rounds (Refused r) = 0
 
 -- the number that the host is given: "the rounds for done, 100 more for short, 200 plus the number for a refusal"
 abbrev pub number : Answer → ℕ
 number (Done u) = u.rounds
 number (Short u) = 100 + u.rounds
-number (Refused n) = 200 + n
+number (Refused r) = 200 + number_of r
 
 -- ---- a round
 
@@ -95,6 +96,6 @@ gated P = eqb (nblocks P) 0 || ltb budget (P.regs * nblocks P) || not (any (λ i
 abbrev pub sink : Picture → ℕ → ℕ → ℕ → Outcome
 sink P w64 w32 nf =
     elim (refusal P w64 w32 nf) [
-      | suc n ↦ ends_in (Refused (suc n)) P
+      | suc n ↦ ends_in (Refused (refusal_of (suc n))) P
       | zero ↦ elim (gated P) [ true ↦ ends_in (Done (used 0 P)) P | false ↦ sink_all most_rounds 0 (facts P) P ]
     ]

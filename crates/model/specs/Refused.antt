@@ -1,9 +1,12 @@
 -- 01, "The call": each cause of refusal, at both sides of its bound, and the gates. The sizes of cause 1 and the budget are laws, in
 -- proofs/Sizes. Assumes nothing.
-use Rattle.std.specs.Prelude.{◌≡◌, refl, List, [], ◌∷◌, ◌++◌, map, ℕ, replicate}
+use Rattle.std.specs.Prelude.{◌≡◌, refl, List, [], ◌∷◌, ◌++◌, map, ℕ, replicate, Ok, Err}
+use Rattle.words.specs.Lists.{range}
 use Rattle.model.specs.declared.Answer.TheVariants.{Done, Refused}
+use Rattle.model.specs.declared.Refusal.TheVariants as cause
 use Rattle.model.specs.Kinds.{AddrOf, Alloc, Bin, BoolOp, Call, CallNative, CallProt, Cat, Check, Drive, LayoutOf, LNum, Load, LogicOp, Ret, SigGather, Stmt, Store, Zero}
 use Rattle.model.specs.Picture.{Picture, Inst, absent}
+use Rattle.model.specs.Numbered.{refusals, number_of, refusal_of, verdict}
 use Rattle.model.specs.Pass.{Outcome, ends_in, used, sink}
 use Rattle.model.specs.Build.{op, pad}
 use Rattle.model.specs.Marked.{Row, cmp, cat, branch, jump, ret, stmt, lent, refused}
@@ -180,7 +183,7 @@ roomy = words (0 ∷ 1 ∷ []) [] [] (replicate 65 0) 0 [] 0 [] []
 abbrev pub works : List Outcome
 works = sink roomy 138 8536 800 ∷ sink roomy 137 8536 800 ∷ sink roomy 138 8535 800 ∷ sink roomy 138 8536 799 ∷ []
 
-pub works_cases : works ≡ ends_in (Done (used 0 roomy)) roomy ∷ ends_in (Refused 10) roomy ∷ ends_in (Refused 10) roomy ∷ ends_in (Refused 10) roomy ∷ []
+pub works_cases : works ≡ ends_in (Done (used 0 roomy)) roomy ∷ ends_in (Refused cause.Work) roomy ∷ ends_in (Refused cause.Work) roomy ∷ ends_in (Refused cause.Work) roomy ∷ []
 works_cases = refl
 
 -- ---- the gates: three Cmps with replay, which would move
@@ -198,3 +201,14 @@ gates =
 
 pub gates_cases : map answered gates ≡ map given gates
 gates_cases = refl
+
+-- ---- the causes by name: each one's number, and back; and what acceptance answers
+
+pub number_cases : map number_of refusals ≡ range 1 11
+number_cases = refl
+
+pub cause_cases : map refusal_of (range 1 11) ≡ refusals
+cause_cases = refl
+
+pub verdict_cases : map verdict (0 ∷ 1 ∷ 7 ∷ 11 ∷ []) ≡ Ok tt ∷ Err cause.Large ∷ Err cause.Branch ∷ Err cause.Writes ∷ []
+verdict_cases = refl

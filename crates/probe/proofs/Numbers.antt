@@ -1,26 +1,18 @@
--- The numbers that the call and a refusal come to are small. Assumes nothing.
+-- The number that the call comes to is small. Assumes nothing.
 use mathlib.Core.Path.{◌≡◌, sym, subst}
 use mathlib.Core.Bool.{Bool, true, false}
-use mathlib.Core.List.{List, [], ◌∷◌}
 use Prim.Native.Nat.{ℕ, zero, suc, ◌+◌, ◌≤◌}
 use native.Mathlib.Omega.{arith}
-use lib.ListN.{length}
 use Rattle.model.specs.declared.Answer.{Answer}
 use Rattle.model.specs.declared.Answer.TheVariants.{Done, Refused}
 use Rattle.model.specs.Picture.{Picture}
-use Rattle.model.specs.Refusal.{lowest, causes, refusal}
+use Rattle.model.specs.Refusal.{refusal}
+use Rattle.model.specs.Numbered.{refusal_of}
+use Rattle.model.proofs.Numbers.{number_low}
 use Rattle.model.specs.Analyse.{Facts, facts}
 use Rattle.model.specs.Move.{Plan, apply}
 use Rattle.model.specs.Pass.{Outcome, used, number, ends_in, sink_all, most_rounds, gated, sink}
 use Rattle.laws.proofs.Rounds.{Next, no_move, no_room, goes_on, next, sink_done, sink_short, sink_more}
-
-lowest_low : (n : ℕ) (cs : List Bool) → lowest n cs ≤ n + length cs
-lowest_low n [] = omega arith
-lowest_low n (true ∷ cs) = omega arith
-lowest_low n (false ∷ cs) = let h = lowest_low (suc n) cs in omega arith
-
-pub refusal_low : (P : Picture) (w64 w32 nf : ℕ) → refusal P w64 w32 nf ≤ 12
-refusal_low P w64 w32 nf = lowest_low 1 (causes P w64 w32 nf)
 
 -- at most k rounds more
 rounds_low : (k n : ℕ) (G : Facts) (P : Picture) → number (sink_all k n G P).answer ≤ 100 + n + k
@@ -37,16 +29,16 @@ module _ (P : Picture) (w64 w32 nf : ℕ) where
   by_gates b = elim b as (λ z. Outcome) [ true ↦ ends_in (Done (used 0 P)) P | false ↦ sink_all most_rounds 0 (facts P) P ]
 
   abbrev by_refusal : ℕ → Outcome
-  by_refusal n = elim n as (λ z. Outcome) [ suc n ↦ ends_in (Refused (suc n)) P | zero ↦ by_gates (gated P) ]
+  by_refusal n = elim n as (λ z. Outcome) [ suc n ↦ ends_in (Refused (refusal_of (suc n))) P | zero ↦ by_gates (gated P) ]
 
   gates_low : (b : Bool) → number (by_gates b).answer ≤ 300
   gates_low true = omega arith
   gates_low false = let h = rounds_low 8 0 (facts P) P in omega arith
 
-  refusals_low : (n : ℕ) → n ≤ 12 → number (by_refusal n).answer ≤ 300
-  refusals_low zero h = gates_low (gated P)
-  refusals_low (suc n) h = omega arith
+  refusals_low : (n : ℕ) → number (by_refusal n).answer ≤ 300
+  refusals_low zero = gates_low (gated P)
+  refusals_low (suc n) = let h = number_low (refusal_of (suc n)) in omega arith
 
   -- the answer of the call
   pub answer_low : (r : Answer) → r ≡ (sink P w64 w32 nf).answer → number r ≤ 300
-  answer_low r e = subst (λ (a : Answer). number a ≤ 300) (sym e) (refusals_low (refusal P w64 w32 nf) (refusal_low P w64 w32 nf))
+  answer_low r e = subst (λ (a : Answer). number a ≤ 300) (sym e) (refusals_low (refusal P w64 w32 nf))

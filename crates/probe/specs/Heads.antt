@@ -22,7 +22,7 @@ with_four (x ∷ y ∷ z ∷ w ∷ l) a b c d = a ∷ b ∷ c ∷ d ∷ l
 abbrev pub with_used : List ℕ → Answer → List ℕ
 with_used out (Done u) = with_two out u.registers u.operands
 with_used out (Short u) = with_two out u.registers u.operands
-with_used out (Refused n) = out
+with_used out (Refused r) = out
 
 -- the outcome o of the call: its number, the six slices, and the counts in use at the head of `out`
 pub record Told (o : Outcome) (n : ℕ) (bounds recs locs vias types ops out out' : List ℕ) : Type 0 where

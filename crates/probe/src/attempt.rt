@@ -2,12 +2,13 @@
 // a move the chain's words.
 ghost use Rattle.std.specs.Prelude.{◌≡◌, List, ℕ, length};
 ghost use Rattle.checks.specs.Causes.{picture_of};
+ghost use Rattle.acceptance.specs.Lent.{picture};
 ghost use Rattle.inst.specs.declared.index.Option<BlockId>.TheVariants.{Not};
 ghost use Rattle.probe.specs.Heads.{with_four};
 ghost use Rattle.probe.specs.Attempt.{move_number, with_move, attempt, with_attempt, Left, Listed, Judges, Asking, Seen, MaySeek, Sets};
 
-use apply::moves::Move;
-use acceptance::refusal;
+use acceptance::accept;
+use acceptance::lent::Lent;
 use facts::Fact;
 use flow::live::live_in;
 use inst::index::BlockId;
@@ -16,7 +17,6 @@ use search::begin::begin;
 use search::find::{Look, look_from};
 use sizes::{InUse, Room, Sizes};
 use trial::block::try_chain;
-use words::numbers::wide;
 
 // Block x of an accepted picture, if it is one; the answer where nothing is sought; the picture's sizes.
 #[derive(Clone, Copy)]
@@ -55,7 +55,7 @@ fn put_move(out: &mut [usize], r: Option<Move>) -> u32
         return 0;
     };
     let into = mv.into;
-    put_four(out, into.at(), mv.inside, mv.places, wide(mv.moved));
+    put_four(out, into.at(), mv.inside, mv.places, mv.moved as usize);
     1
 }
 
@@ -78,35 +78,20 @@ fn stop(n: u32) -> Judged
 }
 
 // Refused; no block; or block x.
-fn judge<'a>(
-    t: &Table,
-    bounds: &[u32],
-    recs: &'a [u32],
-    locs: &[u32],
-    vias: &[u32],
-    types: &[u32],
-    ops: &[u32],
-    pairs: &[u32],
-    targets: &'a [u32],
-    used: InUse,
-    room: Room,
-    x: u32,
-) -> Judged
-    ensures { (replay : List ℕ) → Judges (picture_of bounds.now recs.now locs.now vias.now types.now used.regs ops.now used.opers pairs.now targets.now replay) room x result }
+fn judge(t: &Table, lent: Lent, room: Room, x: u32) -> Judged
+    ensures { (replay : List ℕ) → Judges (picture lent.entry replay) room x result }
 {
-    let n = refusal(
-        bounds, recs, locs, vias, types, ops, pairs, targets, used, room, t,
-    );
-    if n != 0 {
-        return stop(200 + n);
+    if let Err(cause) = accept(lent, room, t) {
+        return stop(200 + cause.number());
     }
-    let blocks = (bounds.len() / 2) as u32;
+    let used = lent.used;
+    let blocks = (lent.bounds.len() / 2) as u32;
     let b = BlockId::new(x, blocks);
     let s = Sizes {
         blocks: blocks,
-        insts: locs.len(),
+        insts: lent.locs.len(),
         regs: used.regs,
-        lent: types.len(),
+        lent: lent.types.len(),
         opers: used.opers,
     };
     Judged {
@@ -134,7 +119,7 @@ fn seek<'a>(
     ensures { Seen bounds.now recs.now ops.now pairs.now targets.now replay.now s work64.old work32.old work64.new work32.new x.0 result }
 {
     begin(t, bounds, recs, ops, pairs, targets, work64, work32, s);
-    live_in(work64, t, bounds, recs, pairs, targets, wide(s.regs));
+    live_in(work64, t, bounds, recs, pairs, targets, s.regs as usize);
     look_from(bounds, recs, replay, work32, s, x)
 }
 
@@ -201,18 +186,26 @@ pub fn virdzeba_try<'a>(
         (result ≡ attempt P n64 n32 lent x) × (out.new ≡ with_attempt out.old P n64 n32 lent x) × Left P x lent work64.old work32.old work64.new work32.new × Listed P x n64 n32 facts.old facts.new }
 {
     let t = Table::new();
-    let used = InUse {
-        regs: registers,
-        opers: operands,
+    let lent = Lent {
+        bounds,
+        recs,
+        locs,
+        vias,
+        types,
+        ops,
+        pairs,
+        targets,
+        used: InUse {
+            regs: registers,
+            opers: operands,
+        },
     };
     let room = Room {
         w64: work64.len(),
         w32: work32.len(),
         records: facts.len(),
     };
-    let j = judge(
-        &t, bounds, recs, locs, vias, types, ops, pairs, targets, used, room, x,
-    );
+    let j = judge(&t, lent, room, x);
     let k = set_out(
         &t, bounds, recs, ops, pairs, targets, replay, work64, work32, j,
     );

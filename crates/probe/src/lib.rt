@@ -12,15 +12,15 @@ ghost use Rattle.checks.specs.Causes.{picture_of};
 ghost use Rattle.flow.specs.Live.{Live};
 ghost use Rattle.cfg.specs.Preds.{Preds};
 
-use acceptance::refusal;
+use acceptance::accept;
+use acceptance::lent::Lent;
 use cfg::graph::find_preds;
 use flow::live::live_in;
 use flow::rows::all_rows;
 use inst::table::Table;
 use sizes::{InUse, Room};
-use words::numbers::wide;
 
-// The lowest number whose cause is present, or 0: `acceptance::refusal`, the table of roles made for this one call.
+// The lowest number whose cause is present, or 0: `acceptance::accept`, the table of roles made for this one call.
 pub fn virdzeba_refusal(
     bounds: &[u32],
     recs: &[u32],
@@ -39,18 +39,29 @@ pub fn virdzeba_refusal(
     ensures { result ≡ refusal (picture_of bounds.now recs.now locs.now vias.now types.now registers ops.now operands pairs.now targets.now []) w64 w32 records }
 {
     let t = Table::new();
-    let used = InUse {
-        regs: registers,
-        opers: operands,
+    let lent = Lent {
+        bounds,
+        recs,
+        locs,
+        vias,
+        types,
+        ops,
+        pairs,
+        targets,
+        used: InUse {
+            regs: registers,
+            opers: operands,
+        },
     };
     let room = Room {
         w64: w64,
         w32: w32,
         records: records,
     };
-    refusal(
-        bounds, recs, locs, vias, types, ops, pairs, targets, used, room, &t,
-    )
+    match accept(lent, room, &t) {
+        Ok(()) => 0,
+        Err(cause) => cause.number(),
+    }
 }
 
 // Predecessors of an accepted picture, two words a block: how many there are, up to two, and the first. The slice is as long
@@ -75,20 +86,27 @@ pub fn virdzeba_preds<'a>(
     ensures preds { result ≡ 0 → Preds (picture_of bounds.now recs.now locs.now vias.now types.now registers ops.now operands pairs.now targets.now []) words.new }
 {
     let t = Table::new();
-    let used = InUse {
-        regs: registers,
-        opers: operands,
+    let lent = Lent {
+        bounds,
+        recs,
+        locs,
+        vias,
+        types,
+        ops,
+        pairs,
+        targets,
+        used: InUse {
+            regs: registers,
+            opers: operands,
+        },
     };
     let room = Room {
         w64: w64,
         w32: words.len(),
         records: records,
     };
-    let r = refusal(
-        bounds, recs, locs, vias, types, ops, pairs, targets, used, room, &t,
-    );
-    if r != 0 {
-        return r;
+    if let Err(cause) = accept(lent, room, &t) {
+        return cause.number();
     }
     find_preds(words, &t, bounds, recs, pairs, targets);
     0
@@ -116,22 +134,29 @@ pub fn virdzeba_live<'a>(
     ensures live { result ≡ 0 → Live (picture_of bounds.now recs.now locs.now vias.now types.now registers ops.now operands pairs.now targets.now []) (width registers) bits.new }
 {
     let t = Table::new();
-    let used = InUse {
-        regs: registers,
-        opers: operands,
+    let lent = Lent {
+        bounds,
+        recs,
+        locs,
+        vias,
+        types,
+        ops,
+        pairs,
+        targets,
+        used: InUse {
+            regs: registers,
+            opers: operands,
+        },
     };
     let room = Room {
         w64: bits.len(),
         w32: w32,
         records: records,
     };
-    let r = refusal(
-        bounds, recs, locs, vias, types, ops, pairs, targets, used, room, &t,
-    );
-    if r != 0 {
-        return r;
+    if let Err(cause) = accept(lent, room, &t) {
+        return cause.number();
     }
-    let k = wide(registers);
+    let k = registers as usize;
     all_rows(bits, &t, bounds, recs, ops, k);
     live_in(bits, &t, bounds, recs, pairs, targets, k);
     0

@@ -15,7 +15,7 @@ ghost use Rattle.probe.specs.Attempt.{attempt, with_attempt, Left, Listed};
 
 use facts::Fact;
 
-// The lowest number whose cause is present, or 0: `acceptance::refusal`, the table of roles made for this one call.
+// The lowest number whose cause is present, or 0: `acceptance::accept`, the table of roles made for this one call.
 #[unsafe(no_mangle)]
 pub extern "C" fn virdzeba_refusal(
     bounds: &[u32],

@@ -15,6 +15,7 @@ use Rattle.words.proofs.Bools.{clash}
 use Rattle.words.proofs.Each.{Each}
 use Rattle.model.specs.declared.Answer.{Answer}
 use Rattle.model.specs.declared.Answer.TheVariants.{Done, Short, Refused}
+use Rattle.model.specs.Numbered.{number_of}
 use Rattle.model.specs.Pass.{Outcome, rounds}
 use Rattle.layout.specs.Layout.{readable, padded, picture_in}
 use Rattle.layout.specs.Text.{Put, digits, line, round_heading, answer_heading, last_line, text, unread_text}
@@ -47,7 +48,7 @@ line_low a b c d e f =
 pub answer_low : (a : Answer) → length (last_line a) ≤ 19
 answer_low (Done u) = let h = last_low u.rounds in omega arith
 answer_low (Short u) = let h = last_low u.rounds in omega arith
-answer_low (Refused n) = let h = last_low n in omega arith
+answer_low (Refused r) = let h = last_low (number_of r) in omega arith
 
 -- ---- one line more
 

@@ -1,29 +1,32 @@
 -- The start of the call (01, "The call"): refusals and gates, then what the rounds begin with. Assumes nothing.
 use mathlib.Core.Path.{◌≡◌, refl, sym, ap, ap₂, ◌∙◌, subst}
-use mathlib.Core.Bool.{true, false}
+use mathlib.Core.Bool.{Bool, true, false}
 use mathlib.Core.List.{List, []}
 use Prim.Native.Nat.{ℕ, ◌-◌, ◌*◌, ◌≤◌}
 use native.Mathlib.Omega.{arith}
 use lib.ListN.{length, replicate}
 use Rattle.words.specs.Lists.{concat}
 use Rattle.words.proofs.Bools.{clash}
+use Rattle.std.specs.Prelude.{Option, Some, None, Result, Ok, Err}
+use Rattle.model.specs.declared.Refusal.{Refusal}
+use Rattle.model.specs.Numbered.{verdict}
+use Rattle.model.proofs.Numbers.{verdict_none, verdict_some}
 use Rattle.model.specs.declared.Answer.{Answer}
 use Rattle.model.specs.declared.Answer.TheVariants as answer
 use Rattle.model.specs.Picture.{Picture, nblocks}
 use Rattle.model.specs.Refusal.{refusal, records}
 use Rattle.model.specs.Analyse.{facts}
-use Rattle.model.specs.Pass.{Outcome, used, sink, sink_all, most_rounds}
+use Rattle.model.specs.Pass.{Outcome, used, ends_in, gated, sink, sink_all, most_rounds}
 use Rattle.laws.proofs.Accepted.{accepted, needed_records}
 use Rattle.laws.proofs.Sizes.{few_blocks}
-use Rattle.laws.proofs.Rounds.{sink_refused, sink_through}
+use Rattle.laws.proofs.Rounds.{sink_refused, sink_gated, sink_through}
 use Rattle.checks.specs.Causes.{picture_of}
+use Rattle.acceptance.specs.declared.lent.Lent.{Lent}
+use Rattle.acceptance.specs.Lent.{picture}
 use Rattle.acceptance.proofs.Chain.{whatever_replay}
-use Rattle.sizes.specs.declared.InUse.{InUse}
 use Rattle.sizes.specs.declared.Room.{Room}
 use Rattle.sizes.specs.Parts.{sizes_of}
 use Rattle.search.specs.Search.{Beginning, Began}
-use Rattle.rounds.specs.declared.judge.Verdict.{Verdict}
-use Rattle.rounds.specs.declared.judge.Verdict.TheVariants.{Ends, Opens}
 use Rattle.rounds.specs.declared.state.At.{At}
 use Rattle.rounds.specs.Ended.{Did}
 use Rattle.rounds.specs.State.{first_at}
@@ -32,43 +35,58 @@ use Rattle.rounds.specs.Judge.{IsJudged, Judged}
 
 -- ---- refusals and gates
 
-module _ (bounds recs locs vias types ops pairs targets : List ℕ) (u : InUse) (room : Room) where
+module _ (l : Lent) (room : Room) where
   abbrev lent : List ℕ → Picture
-  lent replay = picture_of bounds recs locs vias types u.regs ops u.opers pairs targets replay
+  lent replay = picture l replay
 
   abbrev cause : ℕ
   cause = refusal (lent []) room.w64 room.w32 room.records
 
-  -- the cause found is n
-  module _ (n : ℕ) (e : n ≡ cause) where
-    abbrev Says : Verdict → Type 0
-    Says v = Judged bounds recs locs vias types ops pairs targets u room v
+  abbrev Says : Option Answer → Type 0
+  Says v = Judged l room v
 
-    -- whatever replay is
-    is_cause : (replay : List ℕ) → n ≡ refusal (lent replay) room.w64 room.w32 room.records
-    is_cause replay = e ∙ whatever_replay (lent replay) room.w64 room.w32 room.records
+  -- acceptance answers r
+  module _ {r : Result Unit Refusal} (e : r ≡ verdict cause) where
+    pub judge_refused : {c : Refusal} → r ≡ Err c → Says (Some (answer.Refused c))
+    judge_refused {c} h =
+        let z = verdict_some cause (sym e ∙ h) in
+        record {
+          is = λ replay. (
+            sink_refused (lent replay) room.w64 room.w32 room.records cause (whatever_replay (lent replay) room.w64 room.w32 room.records) z.0
+                ∙ ap (λ (c : Refusal). ends_in (answer.Refused c) (lent replay)) (sym z.1),
+            refl,
+          );
+        }
 
-    pub judge_refused : (n ≡ 0 → ⊥) → Says (Ends (answer.Refused n))
-    judge_refused h = record { is = λ replay. (sink_refused (lent replay) room.w64 room.w32 room.records n (is_cause replay) h, refl) }
+    -- accepted: the gates answer g
+    module _ {v : Unit {0}} (h : r ≡ Ok v) {g : Bool} (f : g ≡ gated (picture_of l.bounds.now l.recs.now l.locs.now [] [] l.used.regs [] 0 [] [] [])) where
+      none : cause ≡ 0
+      none = verdict_none cause (sym e ∙ h)
 
--- ---- the start of the call on P
+      pub judge_gated : g ≡ true → Says (Some (answer.Done (record { rounds = 0; registers = l.used.regs; operands = l.used.opers })))
+      judge_gated t = record { is = λ replay. (sink_gated (lent replay) room.w64 room.w32 room.records none (sym f ∙ t), refl) }
 
-module _ (P : Picture) (work64 work32 : List ℕ) (nf : ℕ) where
+      pub judge_opens : g ≡ false → Says None
+      judge_opens t = record { is = λ replay. (none, sym f ∙ t) }
+
+-- ---- the start of the call on what is lent, with this replay
+
+module _ (l : Lent) (replay work64 work32 : List ℕ) (nf : ℕ) where
+  abbrev P : Picture
+  P = picture l replay
+
   -- what `judge` is asked
-  abbrev in_use : InUse
-  in_use = record { regs = P.regs; opers = P.opers }
-
   abbrev lent_room : Room
   lent_room = record { w64 = length work64; w32 = length work32; records = nf }
 
-  module _ {v : Verdict} (j : Judged P.bounds P.recs P.locs P.vias P.types P.ops P.pairs P.targets in_use lent_room v) where
-    abbrev CameBy : Verdict → Type 0
+  module _ {v : Option Answer} (j : Judged l lent_room v) where
+    abbrev CameBy : Option Answer → Type 0
     CameBy = IsJudged P (length work64) (length work32) nf
 
     -- no round is tried
-    pub started_ends : {a : Answer} {q : At} → v ≡ Ends a → q ≡ first_at false a (record { blocks = 0; insts = 0; regs = P.regs; lent = 0; opers = P.opers }) → Started P work64 work32 nf q work64 work32
+    pub started_ends : {a : Answer} {q : At} → v ≡ Some a → q ≡ first_at false a (record { blocks = 0; insts = 0; regs = P.regs; lent = 0; opers = P.opers }) → Started P work64 work32 nf q work64 work32
     started_ends {a} {q} e f =
-        let s : CameBy (Ends a) = subst CameBy e (j.is P.replay) in
+        let s : CameBy (Some a) = subst CameBy e (j.is replay) in
         subst (λ (z : At). Started P work64 work32 nf z work64 work32) (sym f)
         (record {
           work = record { size64 = refl; size32 = refl; kept = λ h. (refl, refl) };
@@ -86,9 +104,9 @@ module _ (P : Picture) (work64 work32 : List ℕ) (nf : ℕ) where
         })
 
     -- the rounds are run
-    module _ (e : v ≡ Opens) where
-      opens : CameBy Opens
-      opens = subst CameBy e (j.is P.replay)
+    module _ (e : v ≡ None) where
+      opens : CameBy None
+      opens = subst CameBy e (j.is replay)
 
       -- with as many records as are needed
       enough : refusal P (length work64) (length work32) records ≡ 0

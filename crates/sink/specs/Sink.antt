@@ -14,12 +14,12 @@ use Rattle.rounds.specs.Going.{Going}
 abbrev pub registers : Answer → ℕ
 registers (Done u) = u.registers
 registers (Short u) = u.registers
-registers (Refused n) = 0
+registers (Refused r) = 0
 
 abbrev pub operands : Answer → ℕ
 operands (Done u) = u.operands
 operands (Short u) = u.operands
-operands (Refused n) = 0
+operands (Refused r) = 0
 
 -- the list of records keeps its length, and where the picture is refused, by cause n, its contents
 pub record Lent (n : ℕ) (facts facts' : List Fact) : Type 0 where

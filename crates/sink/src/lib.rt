@@ -12,6 +12,7 @@ ghost use Rattle.sink.specs.Sink.{Lent, Coming, Finished, registers, operands};
 ghost use Rattle.rounds.specs.Ended.{Work};
 ghost use Rattle.oneround.specs.Kept.{Kept};
 
+use acceptance::lent;
 use facts::Fact;
 use inst::table::Table;
 use oneround::round::round;
@@ -91,12 +92,7 @@ pub fn sink_all(
         × (cause ≡ 0 → Kept P Q (rounds result.answer)) }
 {
     let t = Table::new();
-    let used = InUse {
-        regs: regs,
-        opers: opers,
-    };
-    let m = start(
-        &t,
+    let lent = lent::Lent {
         bounds,
         recs,
         locs,
@@ -105,11 +101,9 @@ pub fn sink_all(
         ops,
         pairs,
         targets,
-        work64,
-        work32,
-        used,
-        facts.len(),
-    );
+        used: InUse { regs, opers },
+    };
+    let m = start(&t, lent, work64, work32, facts.len());
     run(
         &t, bounds, recs, locs, vias, types, ops, pairs, targets, replay, work64, work32, facts, m,
     )

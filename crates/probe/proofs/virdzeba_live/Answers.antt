@@ -1,5 +1,5 @@
 -- `virdzeba_live` meets its contract. Assumes nothing.
-use mathlib.Core.Path.{refl, ap}
+use mathlib.Core.Path.{refl, sym}
 use mathlib.Core.List.{[]}
 use lib.ListN.{length}
 use Rattle.words.specs.Bits.{width}
@@ -8,24 +8,23 @@ use Rattle.laws.proofs.Accepted.{accepted, needed_records}
 use Rattle.flow.proofs.Accepted.{graph_given}
 use Rattle.flow.proofs.Whole.{rows_tables}
 use Rattle.search.proofs.Start.{rows_asked}
-use Rattle.probe.proofs.Given.{none, live_of}
+use Rattle.probe.proofs.Given.{none, its_number, live_of}
 use Rattle.probe.proofs.virdzeba_live.Goals as goal
 
 pub all_rows-requires : goal.all_rows-requires
 all_rows-requires c =
     let a = c.args in
     let P = picture_of a.bounds.now a.recs.now a.locs.now a.vias.now a.types.now a.registers a.ops.now a.operands a.pairs.now a.targets.now [] in
-    let z = none P (length a.bits.now) a.w32 a.records c.refusal-r.ensures c.if-r-ne0.false in
-    let k = rows_asked P a.w32 a.bits.now (needed_records P (length a.bits.now) a.w32 a.records z) refl refl refl c.wide-k.ensures in
+    let z = none P (length a.bits.now) a.w32 a.records c.accept.ensures c.in_default.is in
+    let k = rows_asked P a.w32 a.bits.now (needed_records P (length a.bits.now) a.w32 a.records z) refl refl refl refl in
     (k.0, k.1, k.2)
 
 pub live_in-requires : goal.live_in-requires
 live_in-requires c =
     let a = c.args in
     let P = picture_of a.bounds.now a.recs.now a.locs.now a.vias.now a.types.now a.registers a.ops.now a.operands a.pairs.now a.targets.now [] in
-    let z = none P (length a.bits.now) a.w32 a.records c.refusal-r.ensures c.if-r-ne0.false in
-    let w = c.wide-k in
-    let k = rows_asked P a.w32 a.bits.now (needed_records P (length a.bits.now) a.w32 a.records z) refl refl refl w.ensures in (
+    let z = none P (length a.bits.now) a.w32 a.records c.accept.ensures c.in_default.is in
+    let k = rows_asked P a.w32 a.bits.now (needed_records P (length a.bits.now) a.w32 a.records z) refl refl refl refl in (
       graph_given P (accepted P (length a.bits.now) a.w32 a.records z),
       record { fits = rw c.all_rows.ensures.bits_len_unchanged k.2.fits },
       k.1.few,
@@ -34,11 +33,20 @@ live_in-requires c =
 pub returns-clause-live : goal.returns-clause-live
 returns-clause-live c =
     let a = c.args in
-    let w = c.wide-k in
     λ e. live_of
     (picture_of a.bounds.now a.recs.now a.locs.now a.vias.now a.types.now a.registers a.ops.now a.operands a.pairs.now a.targets.now [])
-    (width w.result)
+    (width a.registers)
     (width a.registers)
     _
-    (ap width w.ensures)
-    (c.live_in.ensures.by_index a.ops.now (λ i h. rows_tables a.bounds.now a.recs.now a.ops.now a.pairs.now a.targets.now (width w.result) i _ (c.all_rows.ensures.by_index i h)))
+    refl
+    (c.live_in.ensures.by_index a.ops.now (λ i h. rows_tables a.bounds.now a.recs.now a.ops.now a.pairs.now a.targets.now (width a.registers) i _ (c.all_rows.ensures.by_index i h)))
+
+pub returns-in-Err-clause-value : goal.returns-in-Err-clause-value
+returns-in-Err-clause-value c =
+    let a = c.args in
+    its_number (picture_of a.bounds.now a.recs.now a.locs.now a.vias.now a.types.now a.registers a.ops.now a.operands a.pairs.now a.targets.now []) (length a.bits.now) a.w32 a.records c.accept.ensures c.in-Err.is c.number.ensures
+
+pub returns-clause-value : goal.returns-clause-value
+returns-clause-value c =
+    let a = c.args in
+    sym (none (picture_of a.bounds.now a.recs.now a.locs.now a.vias.now a.types.now a.registers a.ops.now a.operands a.pairs.now a.targets.now []) (length a.bits.now) a.w32 a.records c.accept.ensures c.in_default.is)

@@ -1,42 +1,22 @@
 -- `checks::look::look` meets its contract: among the records passed none is of a bad kind, and the rest is found. Assumes
 -- nothing.
 use borrow.Author.Rules.{rules}
-use mathlib.Core.Path.{ap, ◌∙◌}
-use Prim.Native.Nat.{ℕ}
 use native.Mathlib.Omega.{arith}
-use Rattle.model.specs.Picture.{inst}
-use Rattle.model.specs.Refusal.{bad_list}
-use Rattle.checks.proofs.Given.{within, known}
 use Rattle.checks.proofs.Seen.{seen_none, seen_more, seen_past, seen_bad, seen_all}
 use Rattle.checks.proofs.look.look.Goals as goal
 
 pub loop-p-init : goal.loop-p-init
 loop-p-init c = (search rules, seen_none _ _ _ _)
 
-pub bad_kind-requires : goal.bad_kind-requires
-bad_kind-requires c = (within _ _ _ c.requires c.loop-p-test.true)
-
 pub returns-then-bad_kind : goal.returns-then-bad_kind
 returns-then-bad_kind c = seen_bad _ _ _ _ c.loop-p-test.true c.bad_kind.ensures c.if-bad_kind.true
-
-pub bad_regs_at-regs-requires : goal.bad_regs_at-regs-requires
-bad_regs_at-regs-requires c = (known _ _ (within _ _ _ c.requires c.loop-p-test.true) c.bad_kind.ensures c.if-bad_kind.false)
-
-pub bad_list-lists-requires : goal.bad_list-lists-requires
-bad_list-lists-requires c = (known _ _ (within _ _ _ c.requires c.loop-p-test.true) c.bad_kind.ensures c.if-bad_kind.false)
-
-pub bad_branch-branches-requires : goal.bad_branch-branches-requires
-bad_branch-branches-requires c = within _ _ _ c.requires c.loop-p-test.true
-
-pub skip-p-requires : goal.skip-p-requires
-skip-p-requires c = (c.requires, search rules)
 
 pub loop-p-smaller : goal.loop-p-smaller
 loop-p-smaller c = let z = c.skip-p.ensures.from in omega arith
 
 pub loop-p-preserved : goal.loop-p-preserved
-loop-p-preserved c = let a = c.args in let i = inst a.recs.now c.loop-p.p in
-    (c.skip-p.ensures.upto, seen_past _ _ _ _ c.requires (seen_more _ _ _ _ _ c.loop-p.invariant.1 c.bad_kind.ensures c.if-bad_kind.false c.bad_regs_at-regs.ensures (c.bad_list-lists.ensures ∙ ap (λ (o : ℕ). bad_list o i) c.wide-used.ensures) c.bad_branch-branches.ensures (cc)) c.skip-p.ensures)
+loop-p-preserved c = let a = c.args in
+    (c.skip-p.ensures.upto, seen_past _ _ _ _ c.requires (seen_more _ _ _ _ _ c.loop-p.invariant.1 c.bad_kind.ensures c.if-bad_kind.false c.bad_regs_at.ensures c.bad_list.ensures c.bad_branch.ensures (cc)) c.skip-p.ensures)
 
 pub returns : goal.returns
 returns c = seen_all _ _ _ _ c.loop-p.invariant.0 c.loop-p-test.false c.loop-p.invariant.1

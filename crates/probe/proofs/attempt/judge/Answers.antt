@@ -1,23 +1,30 @@
 -- `attempt::judge` meets its contract. Assumes nothing.
-use mathlib.Core.List.{List, []}
-use Prim.Native.Nat.{ℕ}
+use mathlib.Core.Path.{ap, ◌∙◌}
+use mathlib.Core.List.{List}
+use Prim.Native.Nat.{ℕ, ◌+◌}
 use native.Mathlib.Omega.{arith}
-use Rattle.checks.specs.Causes.{picture_of}
-use Rattle.probe.proofs.Given.{none}
-use Rattle.probe.proofs.Numbers.{refusal_low}
+use Rattle.acceptance.specs.Lent.{picture}
+use Rattle.model.proofs.Numbers.{number_low}
+use Rattle.probe.specs.Attempt.{refused}
+use Rattle.probe.proofs.Given.{none, some_cause, its_number}
 use Rattle.probe.proofs.Attempts.{block_judges}
 use Rattle.probe.proofs.attempt.judge.Goals as goal
 
-pub overflow_add-n : goal.overflow_add-n
-overflow_add-n c =
-    let a = c.args in
-    let P = picture_of a.bounds.now a.recs.now a.locs.now a.vias.now a.types.now a.used.regs a.ops.now a.used.opers a.pairs.now a.targets.now [] in
-    let h = refusal_low P a.room.w64 a.room.w32 a.room.records in
-    let e = c.refusal-n.ensures in omega (arith, h, e)
+pub overflow_add-number : goal.overflow_add-number
+overflow_add-number c = let h = number_low c.in-Err.cause in let e = c.number.ensures in omega arith
+
+pub returns-in-Err : goal.returns-in-Err
+returns-in-Err c =
+    let r = c.args.room in
+    λ (replay : List ℕ).
+    let P = picture c.args.lent replay in
+    record {
+      is = rw c.stop.ensures.0
+          (refused (some_cause P r.w64 r.w32 r.records c.accept.ensures c.in-Err.is)
+          (c.stop.ensures.1 ∙ ap (λ (n : ℕ). 200 + n) (its_number P r.w64 r.w32 r.records c.accept.ensures c.in-Err.is c.number.ensures)));
+    }
 
 pub returns : goal.returns
 returns c =
-    let a = c.args in
-    λ (replay : List ℕ).
-    let P = picture_of a.bounds.now a.recs.now a.locs.now a.vias.now a.types.now a.used.regs a.ops.now a.used.opers a.pairs.now a.targets.now replay in
-    block_judges P a.room a.x (none P a.room.w64 a.room.w32 a.room.records c.refusal-n.ensures c.if-n-ne0.false) c.new-b.ensures
+    let r = c.args.room in
+    λ (replay : List ℕ). let P = picture c.args.lent replay in block_judges P r c.args.x (none P r.w64 r.w32 r.records c.accept.ensures c.in_default.is) c.new-b.ensures
