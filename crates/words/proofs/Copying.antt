@@ -5,10 +5,12 @@ use Prim.Native.Nat.{ℕ, zero, suc, ◌+◌, ◌-◌, ◌≤◌, ◌<◌}
 use native.Mathlib.Nat.{add-zero, add-suc, suc-add}
 use native.Mathlib.Numerals.{add-one}
 use native.Mathlib.Omega.{arith}
+use borrow.Rule.Slice.PartMut.{put_mid}
+use Rattle.std.specs.List.{copy_within}
 use Rattle.words.specs.Lists.{upto}
 use Rattle.words.proofs.Lists.{length_made, made_snoc}
 use lib.ListN.{length, take, drop, get_or, set, length-set, length-drop, length-take, drop_of_length-le, length-append}
-use lib.Seq.{sets, sets-eq, length-take-le, set_comm, get_or-set_same, get_or-set_other, take-set-le, drop-set-lt, take-suc, drop-cons, get_or-drop, get_or-take, take_at, drop_at}
+use lib.Seq.{paste, drop-drop, sets, sets-eq, length-take-le, set_comm, get_or-set_same, get_or-set_other, take-set-le, drop-set-lt, take-suc, drop-cons, get_or-drop, get_or-take, take_at, drop_at}
 
 module _ {A : Type 0} where
   -- a run of stores is one run and then another
@@ -68,6 +70,19 @@ module _ {A : Type 0} where
   pub sets_all : (l vs : List A) → length vs ≡ length l → sets l 0 vs ≡ vs
   sets_all l vs e =
       sets-eq vs l 0 (omega arith) ∙ ap (λ (t : List A). vs ++ t) (drop_of_length-le l {i = 0 + length vs} (omega arith)) ∙ append-nil vs
+
+  -- ---- what the library's methods leave
+
+  -- xs after `xs[a..a + k].copy_from_slice(..)`, which wrote vs
+  pub put_sets : (a k : ℕ) (xs vs : List A) → a + k ≤ length xs → length vs ≡ k → put_mid a k xs vs ≡ sets xs a vs
+  put_sets a k xs vs h e = ap (λ (l : List A). take a xs ++ (vs ++ l)) (drop-drop k a xs ∙ ap (λ (n : ℕ). drop (a + n) xs) (sym e)) ∙ sym (append_assoc (take a xs) vs (drop (a + length vs) xs)) ∙ sym (sets-eq vs xs a (omega arith))
+
+  -- xs after `xs.copy_within(s..s + n, d)`
+  pub within_sets : (xs : List A) (s n d : ℕ) → s + n ≤ length xs → d + n ≤ length xs → copy_within xs s (s + n) d ≡ sets xs d (take n (drop s xs))
+  within_sets xs s n d h k =
+      let m : s + n - s ≡ n = omega arith in
+      let e : length (take n (drop s xs)) ≡ n = length-take-le n (drop s xs) (simp length-drop (omega arith)) in
+      ap (λ (i : ℕ). paste xs d (drop s xs) i) m ∙ ap (λ (i : ℕ). take d xs ++ take n (drop s xs) ++ drop (d + i) xs) (sym e) ∙ sym (sets-eq (take n (drop s xs)) xs d (omega arith))
 
 -- ---- loops that copy words: ys is what they have made of xs
 

@@ -12,7 +12,7 @@ pub fn width(n: usize) -> usize
     requires { n ≤ 65536 }
     ensures { result ≡ width n }
 {
-    (n + 63) / 64
+    n.div_ceil(64)
 }
 
 // Is r in the row that begins at word `at`?
