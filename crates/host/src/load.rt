@@ -10,7 +10,6 @@ use layout::read::{
     get_vias,
 };
 use layout::{BOUNDS, INSTS, OPERANDS, PAIRS, RECS, REGISTERS, REPLAY, TARGETS, VIAS};
-use words::copy::fill;
 
 // The block bounds, n words.
 pub fn load_bounds(bytes: &[u8], n: usize) -> [u32; BOUNDS]
@@ -27,7 +26,7 @@ pub fn load_recs(bytes: &[u8], n: usize, out: &mut [u32; RECS])
     requires { (readable bytes.now ≡ true) × (n ≡ 16 * (held bytes.now).insts) }
     ensures { Loaded n 8192 (picture_in (words_of bytes.now) 0 0).recs out.new }
 {
-    fill(out, 0);
+    out.fill(0);
     get_recs(bytes, &mut out[..n]);
 }
 
@@ -66,7 +65,7 @@ pub fn load_ops(bytes: &[u8], n: usize, out: &mut [u32; OPERANDS])
     requires { (readable bytes.now ≡ true) × (n ≤ 2048) }
     ensures { Loaded n 2048 (picture_in (words_of bytes.now) 0 n).ops out.new }
 {
-    fill(out, 0);
+    out.fill(0);
     get_ops(bytes, &mut out[..n]);
 }
 
@@ -85,7 +84,7 @@ pub fn load_targets(bytes: &[u8], n: usize, out: &mut [u32; TARGETS])
     requires { (readable bytes.now ≡ true) × (n ≡ (held bytes.now).targets) }
     ensures { Loaded n 1024 (picture_in (words_of bytes.now) 0 0).targets out.new }
 {
-    fill(out, 0);
+    out.fill(0);
     get_targets(bytes, &mut out[..n]);
 }
 

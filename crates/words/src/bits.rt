@@ -4,7 +4,7 @@
 // The rows of several blocks lie in one slice, a block's row from word `at` on. Bit r of that row is bit 64 * at + r of the
 // slice, so the definitions speak of one row, and every law holds for each. A caller of `set_in` needs no proof file for it; a part
 // lent as `&mut words[a..e]` leaves the caller its start, end and sizes to show, and the whole to put together again.
-ghost use Rattle.std.specs.Prelude.{◌≡◌, ◌+◌, ◌*◌, ◌^◌, ◌≤◌, length, replicate};
+ghost use Rattle.std.specs.Prelude.{◌≡◌, ◌+◌, ◌*◌, ◌^◌, ◌≤◌, length};
 ghost use Rattle.words.specs.Bits.{width, is_in, set_bit, unset_bit, ones_in};
 
 // The words of a row of n numbers.
@@ -48,13 +48,6 @@ pub fn unset_in(words: &mut [u64], at: usize, r: usize)
     if i < words.len() {
         words[i] &= !(1 << (r % 64));
     }
-}
-
-// Takes everything out of the row.
-pub fn clear(row: &mut [u64])
-    ensures { row.new ≡ replicate (length row.old) 0 }
-{
-    row.fill(0);
 }
 
 // How many numbers are in the row. The bound is there for the sum: 2^58 full words have 2^64 bits.
