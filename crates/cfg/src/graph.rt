@@ -12,7 +12,6 @@ use inst::access::row_at;
 use inst::index::BlockId;
 use inst::record::word;
 use inst::table::{Table, shape};
-use words::copy::fill;
 use words::numbers::wide;
 
 // The targets of case table k, none past the last.
@@ -141,7 +140,7 @@ pub fn find_preds<'a>(
     ensures { Preds (drawn bounds.now recs.now [] pairs.now targets.now) words.new }
 {
     let n = (bounds.len() / 2) as u32;
-    fill(words, 0);
+    words.fill(0);
     let mut k: u32 = 0;
     while k < n {
         let Some(c) = BlockId::new(k, n) else {

@@ -7,7 +7,6 @@ ghost use Rattle.host.specs.Host.{Loaded};
 
 use layout::read::{get_bounds, get_locs, get_ops, get_pairs, get_recs, get_replay, get_targets, get_types, get_vias};
 use layout::{BOUNDS, INSTS, OPERANDS, PAIRS, RECS, REGISTERS, REPLAY, TARGETS, VIAS};
-use words::copy::fill;
 
 // The block bounds, n words.
 pub fn load_bounds(bytes: &[u8], n: usize) -> [u32; BOUNDS]
@@ -24,7 +23,7 @@ pub fn load_recs(bytes: &[u8], n: usize, out: &mut [u32; RECS])
     requires { (readable bytes.now ≡ true) × (n ≡ 16 * (held bytes.now).insts) }
     ensures { Loaded n 8192 (picture_in (words_of bytes.now) 0 0).recs out.new }
 {
-    fill(out, 0);
+    out.fill(0);
     get_recs(bytes, &mut out[..n]);
 }
 
@@ -63,7 +62,7 @@ pub fn load_ops(bytes: &[u8], n: usize, out: &mut [u32; OPERANDS])
     requires { (readable bytes.now ≡ true) × (n ≤ 2048) }
     ensures { Loaded n 2048 (picture_in (words_of bytes.now) 0 n).ops out.new }
 {
-    fill(out, 0);
+    out.fill(0);
     get_ops(bytes, &mut out[..n]);
 }
 
@@ -82,7 +81,7 @@ pub fn load_targets(bytes: &[u8], n: usize, out: &mut [u32; TARGETS])
     requires { (readable bytes.now ≡ true) × (n ≡ (held bytes.now).targets) }
     ensures { Loaded n 1024 (picture_in (words_of bytes.now) 0 0).targets out.new }
 {
-    fill(out, 0);
+    out.fill(0);
     get_targets(bytes, &mut out[..n]);
 }
 

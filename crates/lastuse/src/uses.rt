@@ -93,7 +93,7 @@ pub fn last_readers(
     requires { Legible recs.now ops.now bounds.now c (length st.old) × (length lasts.old ≡ 800) × ((p : ℕ) → p < 800 → get_or lasts.old p 0 ≡ p) }
     ensures { ReadersAlong recs.now ops.now bounds.now c lasts.new × (length st.new ≡ length st.old) }
 {
-    words::bits::clear(st);
+    st.fill(0);
     let mut at = first(bounds, c);
     let mut q = 0usize;
     while at.g < at.past {

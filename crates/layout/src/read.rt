@@ -7,7 +7,6 @@ ghost use Rattle.layout.specs.Layout.{counts, within, places, held, readable, pa
 
 use crate::{BLOCKS, Counts, HEAD, HEAD_BYTES, INSTS, OPERANDS, PAIRS, Places, REGISTERS, REPLAY, TARGETS, VIAS};
 use words::bytes::{get_words, word_at};
-use words::copy::fill;
 
 // Word i of the bytes.
 fn count(bytes: &[u8], i: usize) -> usize
@@ -115,7 +114,7 @@ fn get_room(bytes: &[u8], at: usize, n: usize, out: &mut [u32])
     requires { 4 * at + 4 * n ≤ length bytes.now }
     ensures { out.new ≡ room (length out.old) (part (words_of bytes.now) at n) }
 {
-    fill(out, 0);
+    out.fill(0);
     let m = least(n, out.len());
     get_first(bytes, 4 * at, m, out);
 }

@@ -4,8 +4,9 @@ use mathlib.Core.List.{List, ◌++◌, append_assoc}
 use Prim.Native.Nat.{ℕ, ◌+◌, ◌-◌, ◌*◌, ◌≤◌, ◌<◌}
 use native.Mathlib.Nat.{mul-zero, mul-add, mul-sub}
 use native.Mathlib.Omega.{arith}
-use mathlib.Core.Bool.{Bool, cond}
-use borrow.Author.Tests.{lt-ltb, le-ltb, eq-eqb, ne_eqb}
+use mathlib.Core.Bool.{Bool, true, false, cond}
+use lib.Dec.{eqb}
+use borrow.Author.Tests.{lt-ltb, le-ltb}
 use lib.ListN.{length, take, drop, length-drop, length-append, take-append-drop}
 use lib.Seq.{sets, sets-eq, length-sets, take_all, take-take, take-add, take-append-le, drop-append-le, length-take-le, drop-drop}
 use Rattle.words.specs.Lists.{range}
@@ -62,7 +63,7 @@ module _ {w lo m b e s : ℕ} {chain xs ys saved sv : List ℕ} (g : Gathered w 
   back : drop b ys ≡ drop b xs
   back = ap (λ (k : ℕ). drop k ys) b_is ∙ g.back ∙ ap (λ (k : ℕ). drop k xs) (sym b_is)
 
-  long : length (take s (drop 0 sv)) ≡ s
+  long : length (take s sv) ≡ s
   long = length-take-le s sv (let h = g.small in let k = g.saved_size in let r = a.room in omega arith)
 
   -- how many words went
@@ -75,7 +76,7 @@ module _ {w lo m b e s : ℕ} {chain xs ys saved sv : List ℕ} (g : Gathered w 
   pub sink_fits : w * (lo + m) ≤ e → (b ≤ e) × (s ≤ b) × (e ≤ length xs)
   sink_fits h = (omega arith, omega (arith, g.small, sum_is), omega (arith, a.target))
 
-  pub sink_law : {zs us : List ℕ} → w * (lo + m) ≤ e → zs ≡ sets ys (b - s) (take (e - b) (drop b ys)) → us ≡ sets zs (e - s) (take s (drop 0 sv)) → us ≡ sunk w chain lo m e xs
+  pub sink_law : {zs us : List ℕ} → w * (lo + m) ≤ e → zs ≡ sets ys (b - s) (take (e - b) (drop b ys)) → us ≡ sets zs (e - s) (take s sv) → us ≡ sunk w chain lo m e xs
   unfolding sunk
   sink_law {zs} {us} h z u =
       let f = sink_fits h in
@@ -89,13 +90,13 @@ module _ {w lo m b e s : ℕ} {chain xs ys saved sv : List ℕ} (g : Gathered w 
       let zsz : length zs ≡ length xs = ap length z ∙ length-sets ys (b - s) vs ∙ ysz in
       let one : take (e - s) zs ≡ take (w * lo) xs ++ cells w xs (kept chain lo m) ++ vs =
       ap₂ (λ (k : ℕ) (l : List ℕ). take k l) {x = e - s} {y = b - s + length vs} (omega arith) z ∙ front_sets ys (b - s) vs (omega arith) ∙ ap (λ (l : List ℕ). l ++ vs) front in
-      let two : drop (e - s + length (take s (drop 0 sv))) zs ≡ drop e xs =
-      ap₂ (λ (k : ℕ) (l : List ℕ). drop k l) {x = e - s + length (take s (drop 0 sv))} {y = e} (omega arith) z ∙ drop_sets e ys (b - s) vs (omega arith)
+      let two : drop (e - s + length (take s sv)) zs ≡ drop e xs =
+      ap₂ (λ (k : ℕ) (l : List ℕ). drop k l) {x = e - s + length (take s sv)} {y = e} (omega arith) z ∙ drop_sets e ys (b - s) vs (omega arith)
       ∙ ap (λ (k : ℕ). drop k ys) {x = e} {y = b + (e - b)} (omega arith) ∙ sym (drop-drop (e - b) b ys) ∙ ap (drop (e - b)) back ∙ drop-drop (e - b) b xs ∙ ap (λ (k : ℕ). drop k xs) {x = b + (e - b)} {y = e} (omega arith) in
       let mid : vs ≡ take (e - w * (lo + m)) (drop (w * (lo + m)) xs) = ap (take (e - b)) back ∙ ap (λ (k : ℕ). take (e - k) (drop k xs)) b_is in
       let K : List ℕ = cells w xs (kept chain lo m) in
       let A : List ℕ = take (w * lo) xs in
-      let S : List ℕ = take s (drop 0 sv) in
+      let S : List ℕ = take s sv in
       u ∙ sets-eq S zs (e - s) (omega arith) ∙ ap₂ (λ (x y : List ℕ). x ++ S ++ y) one two
       ∙ append_assoc (A ++ K ++ vs) S (drop e xs) ∙ append_assoc (A ++ K) vs (S ++ drop e xs) ∙ append_assoc A K (vs ++ (S ++ drop e xs))
       ∙ ap₂ (λ (x y : List ℕ). A ++ (K ++ (x ++ (y ++ drop e xs)))) mid g.saved_is
@@ -107,12 +108,12 @@ module _ {w lo m b e s : ℕ} {chain xs ys saved sv : List ℕ} (g : Gathered w 
       let be : b ≤ e = f.0 in
       let ex : e ≤ length xs = f.2 in
       let ysz = g.size in
-      sink_law h (sym (ap (λ (k : ℕ). sets ys k (take (e - b) (drop b ys))) {x = b - s} {y = b} (omega arith) ∙ self ys b (e - b) (omega arith))) (sym (ap (λ (k : ℕ). sets ys (e - k) (take k (drop 0 sv))) z))
+      sink_law h (sym (ap (λ (k : ℕ). sets ys k (take (e - b) (drop b ys))) {x = b - s} {y = b} (omega arith) ∙ self ys b (e - b) (omega arith))) (sym (ap (λ (k : ℕ). sets ys (e - k) (take k sv)) z))
 
   pub raise_fits : e ≤ w * lo → (e + s ≤ b) × (b ≤ length xs)
   raise_fits h = (omega (arith, g.small, sum_is), omega (arith, a.inside))
 
-  pub raise_law : {zs us : List ℕ} → e ≤ w * lo → zs ≡ sets ys (e + s) (take (b - s - e) (drop e ys)) → us ≡ sets zs e (take s (drop 0 sv)) → us ≡ raised w chain lo m e xs
+  pub raise_law : {zs us : List ℕ} → e ≤ w * lo → zs ≡ sets ys (e + s) (take (b - s - e) (drop e ys)) → us ≡ sets zs e (take s sv) → us ≡ raised w chain lo m e xs
   unfolding raised
   raise_law {zs} {us} el z u =
       let f = raise_fits el in
@@ -139,7 +140,7 @@ module _ {w lo m b e s : ℕ} {chain xs ys saved sv : List ℕ} (g : Gathered w 
       ∙ ap (λ (l : List ℕ). l ++ K) (sym (take_all (w * lo - e) (drop e A) (simp length-drop (omega arith))) ∙ part_first e (w * lo - e) (w * lo) xs (omega arith)) in
       let rest : drop (e + s) zs ≡ vs ++ drop b xs =
       ap (drop (e + s)) z ∙ back_sets ys (e + s) vs (omega arith) ∙ ap (λ (i : ℕ). vs ++ drop i ys) {x = e + s + length vs} {y = b} (omega arith) ∙ ap (λ (l : List ℕ). vs ++ l) back in
-      let S : List ℕ = take s (drop 0 sv) in
+      let S : List ℕ = take s sv in
       u ∙ sets-eq S zs e (omega arith) ∙ ap₂ (λ (x y : List ℕ). x ++ S ++ y) one (ap (λ (i : ℕ). drop i zs) {x = e + length S} {y = e + s} (omega arith) ∙ rest)
       ∙ append_assoc (take e xs) S (vs ++ drop b xs)
       ∙ ap₂ (λ (x y : List ℕ). take e xs ++ (x ++ y)) g.saved_is (ap₂ (λ (x : List ℕ) (i : ℕ). x ++ drop i xs) mid b_is ∙ append_assoc M K (drop (w * (lo + m)) xs))
@@ -150,7 +151,7 @@ module _ {w lo m b e s : ℕ} {chain xs ys saved sv : List ℕ} (g : Gathered w 
       let eb : e + s ≤ b = f.0 in
       let bx : b ≤ length xs = f.1 in
       let ysz = g.size in
-      raise_law h (sym (ap (λ (k : ℕ). sets ys k (take (b - s - e) (drop e ys))) {x = e + s} {y = e} (omega arith) ∙ self ys e (b - s - e) (omega arith))) (sym (ap (λ (k : ℕ). sets ys e (take k (drop 0 sv))) z))
+      raise_law h (sym (ap (λ (k : ℕ). sets ys k (take (b - s - e) (drop e ys))) {x = e + s} {y = e} (omega arith) ∙ self ys e (b - s - e) (omega arith))) (sym (ap (λ (k : ℕ). sets ys e (take k sv)) z))
 
 -- ---- either way
 
@@ -160,10 +161,10 @@ moved_later {lo} {t} w chain xs m n h e = e ∙ sym (ap (λ (b : Bool). cells w 
 pub moved_earlier : {lo t : ℕ} (w : ℕ) (chain xs : List ℕ) (m n : ℕ) → t ≤ lo → {ys : List ℕ} → ys ≡ cells w xs (earlier chain lo m t n) → ys ≡ cells w xs (moved chain lo m t n)
 moved_earlier {lo} {t} w chain xs m n h e = e ∙ sym (ap (λ (b : Bool). cells w xs (cond b (later chain lo m t n) (earlier chain lo m t n))) (le-ltb lo t h))
 
-pub none_moved : (w : ℕ) (chain xs : List ℕ) (lo m t n : ℕ) → length xs ≡ 0 → xs ≡ all_moved w chain lo m t n xs
+pub none_moved : (w : ℕ) (chain xs : List ℕ) (lo m t n : ℕ) → eqb (length xs) 0 ≡ true → xs ≡ all_moved w chain lo m t n xs
 unfolding all_moved
-none_moved w chain xs lo m t n e = sym (ap (λ (b : Bool). cond b xs (cells w xs (moved chain lo m t n))) (eq-eqb (length xs) 0 e))
+none_moved w chain xs lo m t n e = sym (ap (λ (b : Bool). cond b xs (cells w xs (moved chain lo m t n))) e)
 
-pub some_moved : (w : ℕ) (chain xs : List ℕ) (lo m t n : ℕ) → (length xs ≡ 0 → ⊥) → {ys : List ℕ} → ys ≡ cells w xs (moved chain lo m t n) → ys ≡ all_moved w chain lo m t n xs
+pub some_moved : (w : ℕ) (chain xs : List ℕ) (lo m t n : ℕ) → eqb (length xs) 0 ≡ false → {ys : List ℕ} → ys ≡ cells w xs (moved chain lo m t n) → ys ≡ all_moved w chain lo m t n xs
 unfolding all_moved
-some_moved w chain xs lo m t n f e = e ∙ sym (ap (λ (b : Bool). cond b xs (cells w xs (moved chain lo m t n))) (ne_eqb (length xs) 0 f))
+some_moved w chain xs lo m t n f e = e ∙ sym (ap (λ (b : Bool). cond b xs (cells w xs (moved chain lo m t n))) f)

@@ -3,33 +3,19 @@
 ghost use Rattle.std.specs.Prelude.{◌≡◌, ℕ, ◌+◌, ◌-◌, ◌*◌, ◌≤◌, ◌<◌, length, get_or};
 ghost use Rattle.words.specs.Lists.{upto, filter};
 ghost use Rattle.mover.specs.Order.{goes};
-ghost use Rattle.mover.specs.Spans.{Mapped, Shifted, ShiftAsk};
+ghost use Rattle.std.specs.List.{AllZip};
+ghost use Rattle.mover.specs.Spans.{Shifted, ShiftAsk};
 
 use inst::index::BlockId;
 use position::{MARK, PLACE};
-use words::numbers::one;
 
-fn down(bounds: &mut [u32], lo: usize, hi: usize, c: u32)
-    requires lo_le_hi { (lo ≤ hi) × (hi ≤ length bounds.old) }
-    requires by_index { (k : ℕ) → lo ≤ k → k < hi → c ≤ get_or bounds.old k 0 }
-    ensures { Mapped (λ w. w - c) lo bounds.old bounds.new hi }
+// Each word becomes what f makes of it.
+fn each<F: Fn(u32) -> u32>(words: &mut [u32], f: F)
+    requires { (k : ℕ) → k < length words.old → F.pre f (get_or words.old k 0) }
+    ensures { AllZip (F.post f) words.old words.new }
 {
-    let mut k = lo;
-    while k < hi {
-        bounds[k] = bounds[k] - c;
-        k += 1;
-    }
-}
-
-fn up(bounds: &mut [u32], lo: usize, hi: usize, c: u32)
-    requires lo_le_hi { (lo ≤ hi) × (hi ≤ length bounds.old) }
-    requires by_index { (k : ℕ) → lo ≤ k → k < hi → get_or bounds.old k 0 + c < 4294967296 }
-    ensures { Mapped (λ w. w + c) lo bounds.old bounds.new hi }
-{
-    let mut k = lo;
-    while k < hi {
-        bounds[k] = bounds[k] + c;
-        k += 1;
+    for w in words.iter_mut() {
+        *w = f(*w);
     }
 }
 
@@ -41,10 +27,10 @@ pub fn move_bounds(bounds: &mut [u32], x: BlockId, t: BlockId, c: u32)
     let a = x.at();
     let b = t.at();
     if a < b {
-        down(bounds, 2 * a + 1, 2 * b + 1, c);
-        return;
+        each(&mut bounds[2 * a + 1..2 * b + 1], |w| w - c);
+    } else {
+        each(&mut bounds[2 * b + 1..2 * a + 1], |w| w + c);
     }
-    up(bounds, 2 * b + 1, 2 * a + 1, c);
 }
 
 // How many of the first m positions of the chain are members.
@@ -52,11 +38,9 @@ pub fn count(chain: &[u32], m: usize) -> u32
     requires { (10 * m ≤ length chain.now) × (m ≤ 800) }
     ensures { result ≡ length (filter (goes chain.now) (upto m)) }
 {
-    let mut n = 0u32;
-    let mut p = 0usize;
-    while p < m {
-        n = n + one(chain[PLACE * p + MARK] != 0);
-        p += 1;
+    let mut n = 0;
+    for p in 0..m {
+        n += u32::from(chain[PLACE * p + MARK] != 0);
     }
     n
 }

@@ -3,8 +3,8 @@
 ghost use Rattle.std.specs.Prelude.{◌≡◌, ◌+◌, ◌*◌, ◌≤◌, ◌<◌, length};
 ghost use Rattle.mover.specs.Order.{One, Gathered};
 
+use crate::records::Records;
 use position::{MARK, PLACE};
-use words::copy::{copy, slide};
 
 // A record at word e: if its mark is 0 it goes down by the s words that were saved before, else it is saved too. Returns the
 // words saved.
@@ -13,32 +13,22 @@ fn take_one(xs: &mut [u32], saved: &mut [u32], mark: u32, e: usize, s: usize, w:
     ensures { One w mark e s xs.old xs.new saved.old saved.new result }
 {
     if mark == 0 {
-        slide(xs, e, e - s, w);
+        xs.copy_within(e..e + w, e - s);
         return 0;
     }
-    copy(xs, e, w, saved, s);
+    saved[s..s + w].copy_from_slice(&xs[e..e + w]);
     w
 }
 
-// The marked ones of the m records from lo on are saved, and the others go down. Returns the words saved.
-pub fn gather(
-    xs: &mut [u32],
-    saved: &mut [u32],
-    chain: &[u32],
-    lo: usize,
-    m: usize,
-    w: usize,
-) -> usize
-    requires { (w * (lo + m) ≤ length xs.old) × (w * m ≤ length saved.old) × (10 * m ≤ length chain.now) }
-    ensures { Gathered w chain.now lo xs.old xs.new saved.old saved.new m result }
+// The marked ones of the records are saved, and the others go down. Returns the words saved.
+pub fn gather(xs: &mut [u32], saved: &mut [u32], chain: &[u32], r: Records) -> usize
+    requires { (r.w * (r.lo + r.m) ≤ length xs.old) × (r.w * r.m ≤ length saved.old) × (10 * r.m ≤ length chain.now) }
+    ensures { Gathered r.w chain.now r.lo xs.old xs.new saved.old saved.new r.m result }
 {
-    let mut p = 0;
-    let mut e = w * lo;
     let mut s = 0;
-    while p < m {
-        s = s + take_one(xs, saved, chain[PLACE * p + MARK], e, s, w);
-        e = e + w;
-        p += 1;
+    for p in 0..r.m {
+        let e = r.w * r.lo + r.w * p;
+        s += take_one(xs, saved, chain[PLACE * p + MARK], e, s, r.w);
     }
     s
 }

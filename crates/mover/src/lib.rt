@@ -5,4 +5,5 @@
 pub mod bounds;
 pub mod gather;
 pub mod moving;
+pub mod records;
 pub mod segment;

@@ -3,80 +3,56 @@
 ghost use Rattle.std.specs.Prelude.{◌≡◌, ℕ, ◌+◌, ◌*◌, ◌≤◌, ◌<◌, length};
 ghost use Rattle.mover.specs.Order.{Ask, Lines, Moves, cells, later, earlier, moved, all_moved};
 
-use crate::segment::{few, from, raise, sink};
+use crate::records::Records;
+use crate::segment::{SEGMENT, raise, sink};
+use position::PLACE;
 
-// The marked ones of the m records from lo on go before record t, which is behind them; n records in all. The last segment goes
-// first: the words before e are those that have not gone.
-fn sink_words(
-    xs: &mut [u32],
-    saved: &mut [u32],
-    chain: &[u32],
-    lo: usize,
-    m: usize,
-    t: usize,
-    w: usize,
-)
-    requires { Ask w lo m 64 (w * t) chain.now saved.old xs.old × (lo + m ≤ t) }
-    ensures { (n : ℕ) → length xs.old ≡ w * n → xs.new ≡ cells w xs.old (later chain.now lo m t n) }
+// The marked ones of the records go before record t, which is behind them; n records in all. The last segment goes first: the
+// words before e are those that have not gone.
+fn sink_words(xs: &mut [u32], saved: &mut [u32], chain: &[u32], r: Records, t: usize)
+    requires { Ask r.w r.lo r.m 64 (r.w * t) chain.now saved.old xs.old × (r.lo + r.m ≤ t) }
+    ensures { (n : ℕ) → length xs.old ≡ r.w * n → xs.new ≡ cells r.w xs.old (later chain.now r.lo r.m t n) }
 {
-    let mut q = m;
-    let mut e = w * t;
+    let mut q = r.m;
+    let mut e = r.w * t;
     while 0 < q {
-        let k = few(q);
-        q = q - k;
-        e = e - sink(xs, saved, from(chain, q), lo + q, k, e, w);
+        let m = q.min(SEGMENT);
+        q -= m;
+        let lo = r.lo + q;
+        e -= sink(xs, saved, &chain[PLACE * q..], Records { lo, m, ..r }, e);
     }
 }
 
 // The same for a record t in front of them. The first segment goes first.
-fn raise_words(
-    xs: &mut [u32],
-    saved: &mut [u32],
-    chain: &[u32],
-    lo: usize,
-    m: usize,
-    t: usize,
-    w: usize,
-)
-    requires { Ask w lo m 64 (w * t) chain.now saved.old xs.old × (t ≤ lo) }
-    ensures { (n : ℕ) → length xs.old ≡ w * n → xs.new ≡ cells w xs.old (earlier chain.now lo m t n) }
+fn raise_words(xs: &mut [u32], saved: &mut [u32], chain: &[u32], r: Records, t: usize)
+    requires { Ask r.w r.lo r.m 64 (r.w * t) chain.now saved.old xs.old × (t ≤ r.lo) }
+    ensures { (n : ℕ) → length xs.old ≡ r.w * n → xs.new ≡ cells r.w xs.old (earlier chain.now r.lo r.m t n) }
 {
     let mut q = 0;
-    let mut e = w * t;
-    while q < m {
-        let k = few(m - q);
-        e = e + raise(xs, saved, from(chain, q), lo + q, k, e, w);
-        q = q + k;
+    let mut e = r.w * t;
+    while q < r.m {
+        let lo = r.lo + q;
+        let m = (r.m - q).min(SEGMENT);
+        e += raise(xs, saved, &chain[PLACE * q..], Records { lo, m, ..r }, e);
+        q += m;
     }
 }
 
 // Either way. A record has 16 words at most, and 64 of them are saved at a time.
-fn move_words(xs: &mut [u32], chain: &[u32], lo: usize, m: usize, t: usize, w: usize)
-    requires m_in_bounds { (w * (lo + m) ≤ length xs.old) × (lo + m ≤ length xs.old) × (w * t ≤ length xs.old) × (w ≤ 16) × (10 * m ≤ length chain.now) }
-    requires m_bound { lo < t → lo + m ≤ t }
-    ensures { (n : ℕ) → length xs.old ≡ w * n → xs.new ≡ cells w xs.old (moved chain.now lo m t n) }
+fn move_words(xs: &mut [u32], chain: &[u32], r: Records, t: usize)
+    requires m_in_bounds { (r.w * (r.lo + r.m) ≤ length xs.old) × (r.lo + r.m ≤ length xs.old) × (r.w * t ≤ length xs.old) × (r.w ≤ 16) × (10 * r.m ≤ length chain.now) }
+    requires m_bound { r.lo < t → r.lo + r.m ≤ t }
+    ensures { (n : ℕ) → length xs.old ≡ r.w * n → xs.new ≡ cells r.w xs.old (moved chain.now r.lo r.m t n) }
 {
     let mut saved = [0u32; 1024];
-    if lo < t {
-        sink_words(xs, &mut saved, chain, lo, m, t, w);
-        return;
+    if r.lo < t {
+        sink_words(xs, &mut saved, chain, r, t);
+    } else {
+        raise_words(xs, &mut saved, chain, r, t);
     }
-    raise_words(xs, &mut saved, chain, lo, m, t, w);
 }
 
-// Via words, of which there may be none.
-fn move_vias(vias: &mut [u32], chain: &[u32], lo: usize, m: usize, t: usize)
-    requires m_in_bounds { (length vias.old ≡ 0 → ⊥) → (lo + m ≤ length vias.old) × (t ≤ length vias.old) }
-    requires m_in_bounds_2 { (10 * m ≤ length chain.now) × (lo < t → lo + m ≤ t) }
-    ensures { (n : ℕ) → ((length vias.old ≡ 0 → ⊥) → length vias.old ≡ n) → vias.new ≡ all_moved 1 chain.now lo m t n vias.old }
-{
-    if vias.len() == 0 {
-        return;
-    }
-    move_words(vias, chain, lo, m, t, 1);
-}
-
-// The members among the m instructions from lo on go before instruction t: records, locs and vias.
+// The members among the m instructions from lo on go before instruction t: records, locs and vias, of which there may be none.
 pub fn move_all(
     recs: &mut [u32],
     locs: &mut [u32],
@@ -89,7 +65,10 @@ pub fn move_all(
     requires { Lines lo m t chain.now recs.old locs.old vias.old }
     ensures { Moves lo m t chain.now recs.old recs.new locs.old locs.new vias.old vias.new }
 {
-    move_words(recs, chain, lo, m, t, 16);
-    move_words(locs, chain, lo, m, t, 1);
-    move_vias(vias, chain, lo, m, t);
+    let words = Records { lo, m, w: 1 };
+    move_words(recs, chain, Records { w: 16, ..words }, t);
+    move_words(locs, chain, words, t);
+    if !vias.is_empty() {
+        move_words(vias, chain, words, t);
+    }
 }

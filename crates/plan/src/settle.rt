@@ -68,7 +68,7 @@ fn clear_part(work: &mut [u64], s: usize, e: usize)
     requires { (s ≤ e) × (e ≤ length work.old) }
     ensures { (part s (e - s) work.new ≡ replicate (e - s) 0) × Around s (e - s) work.old work.new }
 {
-    words::bits::clear(&mut work[s..e]);
+    work[s..e].fill(0);
 }
 
 // Before a sweep backward the words of the `regs` registers and the notes are cleared. Says which sweep comes.

@@ -105,16 +105,6 @@ words_more bs i h =
     ∙ ap (λ (l : List ℕ). words_of (take (4 * i) bs) ++ l)
     (first_word (drop (4 * i) bs) (simp length-drop (omega arith)) ∙ ap (λ (w : ℕ). w ∷ []) (word_drop bs (4 * i) 0 ∙ ap (word bs) z)))
 
--- the four stores of one word
-pub put_four : (bs : List ℕ) (at w : ℕ)
-    → set (set (set (set bs at (w % 256)) (at + 1) (w / 256 % 256)) (at + 2) (w / 65536 % 256)) (at + 3) (w / 16777216 % 256) ≡ sets bs at (bytes_of (w ∷ []))
-unfolding bytes_of
-put_four bs at w =
-    let one : at + 1 ≡ suc at = omega arith in
-    let two : at + 2 ≡ suc (suc at) = omega arith in
-    let three : at + 3 ≡ suc (suc (suc at)) = omega arith in
-    rw (one, two, three)
-
 -- ---- loops
 
 -- `get_words`: one word more

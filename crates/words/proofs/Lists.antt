@@ -1,4 +1,8 @@
 -- Laws of map, range, filter, concat, spans, lookup and `same` (specs/Lists), and of lists made by a rule. Assumes nothing.
+-- the library's, by the names that the other pages cite
+pub use mathlib.Core.List.{map-append as map_append, map-id as map_self, map-map as map_map}
+pub use Rattle.std.proofs.lemmas.List.{get_or_default as get_d_any}
+use Rattle.std.proofs.lemmas.List.{get_or-map}
 use mathlib.Core.Path.{◌≡◌, refl, sym, ap, ap₂, ◌∙◌, subst}
 use mathlib.Core.Bool.{Bool, true, false, cond}
 use mathlib.Core.List.{List, [], ◌∷◌, ◌++◌, map, append_assoc, append-nil, nil≢cons, head-eq_of_cons-eq, tail-eq_of_cons-eq}
@@ -14,26 +18,12 @@ use Rattle.words.proofs.Bools.{left, right}
 -- ---- map
 
 module _ {A B : Type 0} where
-  pub map_append : (f : A → B) (xs ys : List A) → map f (xs ++ ys) ≡ map f xs ++ map f ys
-  map_append f [] ys = refl
-  map_append f (x ∷ xs) ys = ap (λ (l : List B). f x ∷ l) (map_append f xs ys)
-
   pub map_ext : (f g : A → B) → ((a : A) → f a ≡ g a) → (xs : List A) → map f xs ≡ map g xs
   map_ext f g h [] = refl
   map_ext f g h (x ∷ xs) = ap₂ (λ (y : B) (l : List B). y ∷ l) (h x) (map_ext f g h xs)
 
   pub get_d_map : (f : A → B) (d : A) (e : B) (xs : List A) (k : ℕ) → k < length xs → get_or (map f xs) k e ≡ f (get_or xs k d)
-  get_d_map f d e [] k h = absurd (not-suc-le-zero h)
-  get_d_map f d e (x ∷ xs) zero h = refl
-  get_d_map f d e (x ∷ xs) (suc k) h = get_d_map f d e xs k (le_of_suc-le-suc h)
-
-pub map_map : {A B C : Type 0} (f : B → C) (g : A → B) (xs : List A) → map f (map g xs) ≡ map (λ x. f (g x)) xs
-map_map f g [] = refl
-map_map {C = C} f g (x ∷ xs) = ap (λ (l : List C). f (g x) ∷ l) (map_map f g xs)
-
-pub map_self : {A : Type 0} (xs : List A) → map (λ x. x) xs ≡ xs
-map_self [] = refl
-map_self {A} (x ∷ xs) = ap (λ (l : List A). x ∷ l) (map_self xs)
+  get_d_map f d e xs k h = get_or-map f xs k d e h
 
 -- ---- range
 
@@ -99,12 +89,6 @@ pub made_ext : {A : Type 0} (f g : ℕ → A) (s n : ℕ) → ((b : ℕ) → s �
 made_ext f g s zero h = refl
 made_ext {A} f g s (suc n) h =
     ap₂ (λ (x : A) (l : List A). x ∷ l) (h s (omega arith) (omega arith)) (made_ext f g (suc s) n (λ b u v. h b (omega arith) (omega arith)))
-
--- the places of a list, whatever the default
-pub get_d_any : {A : Type 0} (l : List A) (k : ℕ) (a b : A) → k < length l → get_or l k a ≡ get_or l k b
-get_d_any [] k a b h = absurd (not-suc-le-zero h)
-get_d_any (x ∷ l) zero a b h = refl
-get_d_any (x ∷ l) (suc k) a b h = get_d_any l k a b (le_of_suc-le-suc h)
 
 pub get_or_zeros : (n i : ℕ) → ◌≡◌ {A = ℕ} (get_or (replicate n 0) i 0) 0
 get_or_zeros zero i = refl

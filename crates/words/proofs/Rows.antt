@@ -5,16 +5,14 @@ use mathlib.Core.List.{List, [], ◌∷◌}
 use Prim.Native.Nat.{ℕ, zero, suc, ◌+◌, ◌-◌, ◌*◌, ◌/◌, ◌%◌, ◌^◌, ◌≤◌, ◌<◌, min, max}
 use native.Mathlib.Nat.{le_of_suc-le-suc, not-suc-le-zero, mul_assoc, mul_comm}
 use native.Mathlib.Decide.{ℕ_discrete}
-use native.Mathlib.Numerals.{add-one}
 use native.Mathlib.Omega.{arith}
 use lib.Bits.{bit_and, bit_or}
-use lib.Count.{ones, ones-le}
+use lib.Count.{ones}
 use lib.Dec.{eqb, eqb→eq}
 use lib.ListN.{length, get_or, set, take, replicate, length-set, get_or-eq_default}
 use lib.Seq.{get_or-set_same, get_or-set_other, set_out}
-use mir.Syntax.{w64}
-use mir.Val.{Fits}
 use borrow.Author.Tests.{eq-eqb, ne_eqb}
+use Rattle.std.proofs.lemmas.List.Sums.{sum_by-set}
 use Rattle.words.specs.Bits.{digit, digit_in, is_in, set_bit, unset_bit, ones_in, room}
 use Rattle.words.specs.Lists.{hit}
 use Rattle.words.proofs.Bools.{true_T, both, left, right, bool_ext, hit_or, hit_and, hit_not, hit_inj}
@@ -61,14 +59,6 @@ pub digit_set : (ws : List ℕ) (r : ℕ) → r < 64 * length ws → (q : ℕ) �
 unfolding set_bit
 digit_set ws r h = stored max (λ x l. omega arith) ws r _ h (λ j l. digit_put _ (r % 64) j)
 
-pub set_past : (ws : List ℕ) (r : ℕ) → 64 * length ws ≤ r → set_bit ws r ≡ ws
-unfolding set_bit
-set_past ws r h = set_out ws (r / 64) _ (omega arith)
-
-pub unset_past : (ws : List ℕ) (r : ℕ) → 64 * length ws ≤ r → unset_bit ws r ≡ ws
-unfolding unset_bit
-unset_past ws r h = set_out ws (r / 64) _ (omega arith)
-
 pub digit_unset : (ws : List ℕ) (r : ℕ) → r < 64 * length ws → (q : ℕ) → digit_in (unset_bit ws r) q ≡ min (digit_in ws q) (1 - hit (eqb q r))
 unfolding unset_bit
 digit_unset ws r h = stored (λ x y. min x (1 - y)) (λ x l. omega arith) ws r _ h (λ j l. digit_take _ (r % 64) j (omega arith) l)
@@ -102,10 +92,6 @@ in_unset ws r h q =
 pub in_clear : (n r : ℕ) → is_in (replicate n 0) r ≡ false
 unfolding is_in
 in_clear n r = ap (λ (x : ℕ). eqb x 1) (digit_clear n r)
-
-pub in_past : (ws : List ℕ) (r : ℕ) → 64 * length ws ≤ r → is_in ws r ≡ false
-unfolding is_in
-in_past ws r h = ap (λ (x : ℕ). eqb x 1) (digit_past ws r h)
 
 pub in_front : (l m : List ℕ) (k q : ℕ) → take k l ≡ take k m → q < 64 * k → is_in l q ≡ is_in m q
 unfolding is_in
@@ -145,37 +131,27 @@ pub unset_bit_at : (ws : List ℕ) (at r : ℕ)
 unfolding unset_bit
 unset_bit_at ws at r = rw (row_word, row_place, shl_one (r % 64) (omega arith))
 
--- ---- measures
+-- past the slice's end
+pub in_past : (ws : List ℕ) (at r : ℕ) → length ws ≤ at + r / 64 → is_in ws (64 * at + r) ≡ false
+unfolding is_in
+in_past ws at r h = ap (λ (x : ℕ). eqb x 1) (digit_past ws (64 * at + r) (omega arith))
 
-ones_at : (k : ℕ) (ws : List ℕ) (i : ℕ) → i < length ws → ones_in (set ws i (bit_or (get_or ws i 0) (2 ^ k))) ≡ ones_in ws + (1 - digit (get_or ws i 0) k)
-unfolding ones_in
-ones_at k [] i h = absurd (not-suc-le-zero h)
-ones_at k (w ∷ ws) zero h = omega (arith, ones_put w k)
-ones_at k (w ∷ ws) (suc i) h = omega (arith, ones_at k ws i (le_of_suc-le-suc h))
+pub set_past : (ws : List ℕ) (at r : ℕ) → length ws ≤ at + r / 64 → set_bit ws (64 * at + r) ≡ ws
+unfolding set_bit
+set_past ws at r h = set_out ws ((64 * at + r) / 64) _ (omega arith)
+
+pub unset_past : (ws : List ℕ) (at r : ℕ) → length ws ≤ at + r / 64 → unset_bit ws (64 * at + r) ≡ ws
+unfolding unset_bit
+unset_past ws at r h = set_out ws ((64 * at + r) / 64) _ (omega arith)
+
+-- ---- measures
 
 -- a number that is put in is one more, if it was not there
 pub ones_set : (ws : List ℕ) (r : ℕ) → r < 64 * length ws → ones_in (set_bit ws r) ≡ ones_in ws + (1 - digit_in ws r)
 unfolding set_bit digit_in
-ones_set ws r h = ones_at (r % 64) ws (r / 64) (omega arith)
-
-ones_next : (ws : List ℕ) (i : ℕ) → i < length ws → ones_in (take (suc i) ws) ≡ ones_in (take i ws) + ones (get_or ws i 0)
-unfolding ones_in
-ones_next [] i h = absurd (not-suc-le-zero h)
-ones_next (w ∷ ws) zero h = omega arith
-ones_next (w ∷ ws) (suc i) h = omega (arith, ones_next ws i (le_of_suc-le-suc h))
-
--- a word of a slice has at most 64 ones
-pub ones_fit : (w : ℕ) → Fits w64 w → ones w ≤ 64
-ones_fit w f = ones-le 64 w (omega arith)
-
-pub ones_in_le : (ws : List ℕ) → ((i : ℕ) → get_or ws i 0 < 2 ^ 64) → ones_in ws ≤ 64 * length ws
-unfolding ones_in
-ones_in_le [] h = omega arith
-ones_in_le (w ∷ ws) h = omega (arith, ones-le 64 w (h 0), ones_in_le ws (λ i. h (suc i)))
-
--- the ones of the words passed, and of one more
-pub ones_more : (ws : List ℕ) (i : ℕ) → i < length ws → ones_in (take (i + 1) ws) ≡ ones_in (take i ws) + ones (get_or ws i 0)
-ones_more ws i h = rw add-one (ones_next ws i h)
+ones_set ws r h =
+    let w : ℕ = get_or ws (r / 64) 0 in
+    omega (arith, sum_by-set ones ws (r / 64) (bit_or w (2 ^ (r % 64))) 0 (omega arith), ones_put w (r % 64))
 
 pub room_set : (l : List ℕ) (p v : ℕ) → p < length l → room (set l p v) + (2 ^ 64 - get_or l p 0) ≡ room l + (2 ^ 64 - v)
 unfolding room

@@ -1,5 +1,5 @@
 -- Rows of bits in 64-bit words: number r is bit r % 64 of word r / 64. Assumes nothing.
-use Rattle.std.specs.Prelude.{Bool, List, [], ◌∷◌, ℕ, ◌+◌, ◌-◌, ◌/◌, ◌%◌, ◌^◌, eqb, get_or, set}
+use Rattle.std.specs.Prelude.{Bool, List, [], ◌∷◌, ℕ, ◌+◌, ◌-◌, ◌/◌, ◌%◌, ◌^◌, eqb, get_or, set, sum_by}
 use Rattle.std.specs.Int.Bits.{bit_and, bit_or}
 use Rattle.std.specs.Int.Count.{ones}
 
@@ -28,9 +28,8 @@ unfoldable pub unset_bit : List ℕ → ℕ → List ℕ
 unset_bit ws r = set ws (r / 64) (bit_and (get_or ws (r / 64) 0) (2 ^ 64 - 1 - 2 ^ (r % 64)))
 
 -- how many are in the row
-unfoldable pub ones_in : List ℕ → ℕ
-ones_in [] = 0
-ones_in (w ∷ ws) = ones w + ones_in ws
+abbrev pub ones_in : List ℕ → ℕ
+ones_in ws = sum_by ones ws
 
 -- how far the words can still rise: a measure for loops that only raise them
 unfoldable pub room : List ℕ → ℕ

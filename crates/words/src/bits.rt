@@ -4,7 +4,7 @@
 // The rows of several blocks lie in one slice, a block's row from word `at` on. Bit r of that row is bit 64 * at + r of the
 // slice, so the definitions speak of one row, and every law holds for each. A caller of `set_in` needs no proof file for it; a part
 // lent as `&mut words[a..e]` leaves the caller its start, end and sizes to show, and the whole to put together again.
-ghost use Rattle.std.specs.Prelude.{◌≡◌, ◌+◌, ◌*◌, ◌^◌, ◌≤◌, length, replicate};
+ghost use Rattle.std.specs.Prelude.{◌≡◌, ◌+◌, ◌*◌, ◌^◌, ◌≤◌, length};
 ghost use Rattle.words.specs.Bits.{width, is_in, set_bit, unset_bit, ones_in};
 
 // The words of a row of n numbers.
@@ -12,53 +12,41 @@ pub fn width(n: usize) -> usize
     requires { n ≤ 65536 }
     ensures { result ≡ width n }
 {
-    (n + 63) / 64
+    n.div_ceil(64)
 }
 
 // Is r in the row that begins at word `at`?
+#[tactic(auto, using(crate::proofs::Rows::is_in_at, crate::proofs::Rows::in_past))]
 pub fn bit_in(words: &[u64], at: usize, r: usize) -> bool
     requires { at ≤ length words.now }
     ensures { result ≡ is_in words.now (64 * at + r) }
 {
-    let i = at + r / 64;
-    if words.len() <= i {
-        return false;
-    }
-    (words[i] >> (r % 64)) % 2 == 1
+    words
+        .get(at + r / 64)
+        .is_some_and(|w| (*w >> (r % 64)) % 2 == 1)
 }
 
 // Puts r into the row that begins at word `at`.
+#[tactic(auto, using(crate::proofs::Rows::set_bit_at, crate::proofs::Rows::set_past))]
 pub fn set_in(words: &mut [u64], at: usize, r: usize)
     requires { at ≤ length words.old }
     ensures { words.new ≡ set_bit words.old (64 * at + r) }
 {
     let i = at + r / 64;
-    if words.len() <= i {
-        return;
+    if i < words.len() {
+        words[i] |= 1 << (r % 64);
     }
-    words[i] = words[i] | (1 << (r % 64));
 }
 
 // Takes r out of the row that begins at word `at`.
+#[tactic(auto, using(crate::proofs::Rows::unset_bit_at, crate::proofs::Rows::unset_past))]
 pub fn unset_in(words: &mut [u64], at: usize, r: usize)
     requires { at ≤ length words.old }
     ensures { words.new ≡ unset_bit words.old (64 * at + r) }
 {
     let i = at + r / 64;
-    if words.len() <= i {
-        return;
-    }
-    words[i] = words[i] & !(1 << (r % 64));
-}
-
-// Takes everything out of the row.
-pub fn clear(row: &mut [u64])
-    ensures { row.new ≡ replicate (length row.old) 0 }
-{
-    let mut i = 0;
-    while i < row.len() {
-        row[i] = 0;
-        i += 1;
+    if i < words.len() {
+        words[i] &= !(1 << (r % 64));
     }
 }
 
@@ -67,11 +55,5 @@ pub fn count(row: &[u64]) -> usize
     requires { length row.now ≤ 2 ^ 57 }
     ensures { result ≡ ones_in row.now }
 {
-    let mut n: usize = 0;
-    let mut i = 0;
-    while i < row.len() {
-        n += u64::count_ones(row[i]) as usize;
-        i += 1;
-    }
-    n
+    row.iter().map(|w| w.count_ones() as usize).sum()
 }

@@ -3,50 +3,41 @@ ghost use Rattle.std.specs.Prelude.{◌≡◌, [], ◌∷◌, ◌+◌, ◌*◌, 
 ghost use Rattle.std.proofs.lemmas.List.Edits.{sets};
 ghost use Rattle.words.specs.Bytes.{word, words_of, bytes_of};
 
-use crate::numbers::byte;
-
 // The word whose four bytes begin at `at`.
 pub fn word_at(bytes: &[u8], at: usize) -> u32
     requires { at + 4 ≤ length bytes.now }
     ensures { result ≡ word bytes.now at }
 {
-    byte(bytes[at])
-        + 256 * byte(bytes[at + 1])
-        + 65536 * byte(bytes[at + 2])
-        + 16777216 * byte(bytes[at + 3])
+    u32::from_le_bytes([bytes[at], bytes[at + 1], bytes[at + 2], bytes[at + 3]])
 }
 
 // The four bytes from `at` on become those of w.
+#[tactic(auto, using(crate::proofs::Copying::put_sets), unfolding(crate::specs::Bytes::bytes_of))]
 pub fn put_word(bytes: &mut [u8], at: usize, w: u32)
     requires { at + 4 ≤ length bytes.old }
     ensures { bytes.new ≡ sets bytes.old at (bytes_of (w ∷ [])) }
 {
-    bytes[at] = (w % 256) as u8;
-    bytes[at + 1] = (w / 256 % 256) as u8;
-    bytes[at + 2] = (w / 65536 % 256) as u8;
-    bytes[at + 3] = (w / 16777216 % 256) as u8;
+    bytes[at..at + 4].copy_from_slice(&w.to_le_bytes());
 }
 
 // All of `out` becomes the words that begin at `at`.
+#[tactic(auto, using(crate::proofs::Encoding::get_more, crate::proofs::Encoding::get_all), unfolding(crate::specs::Bytes::words_of))]
 pub fn get_words(bytes: &[u8], at: usize, out: &mut [u32])
     requires { at + 4 * length out.old ≤ length bytes.now }
     ensures { out.new ≡ words_of (take (4 * length out.old) (drop at bytes.now)) }
 {
-    let mut i = 0;
-    while i < out.len() {
-        out[i] = word_at(bytes, at + 4 * i);
-        i += 1;
+    for (i, w) in out.iter_mut().enumerate() {
+        *w = word_at(bytes, at + 4 * i);
     }
 }
 
 // The bytes from `at` on become those of all the words.
+#[tactic(auto, using(crate::proofs::Encoding::put_more), unfolding(crate::specs::Bytes::bytes_of))]
 pub fn put_words(bytes: &mut [u8], at: usize, words: &[u32])
     requires { at + 4 * length words.now ≤ length bytes.old }
     ensures { bytes.new ≡ sets bytes.old at (bytes_of words.now) }
 {
-    let mut i = 0;
-    while i < words.len() {
-        put_word(bytes, at + 4 * i, words[i]);
-        i += 1;
+    for (i, w) in words.iter().enumerate() {
+        put_word(bytes, at + 4 * i, *w);
     }
 }

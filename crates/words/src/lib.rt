@@ -1,9 +1,8 @@
-// The lowest crate: numbers of other widths, parts of words, rows of bits in lent words, words in lent bytes, copying. Its proofs/
+// The lowest crate: numbers of other widths, parts of words, rows of bits in lent words, words in lent bytes. Its proofs/
 // are also the one home for laws on lists, tests, bits, loops and parts that the toolchain lacks.
 #![tactic(auto)]
 
 pub mod bits;
 pub mod bytes;
-pub mod copy;
 pub mod numbers;
 pub mod slices;

@@ -43,8 +43,5 @@ pub fn byte(x: u8) -> u32
 pub fn one(b: bool) -> u32
     ensures { (result ≡ hit b) × (result ≤ 1) }
 {
-    if b {
-        return 1;
-    }
-    0
+    u32::from(b)
 }

@@ -33,7 +33,7 @@ succs-list-requires c =
 pub note_all-requires : goal.note_all-requires
 note_all-requires c =
     let i = c.loop-k in
-    let f = c.fill.auto.xs in
+    let f = c.fill.auto.self in
     let h = is_block _ _ _ (sym c.in-Some.ensures) in
     let low = next_block c.succs-list.result.now c.succs-list.ensures c.requires.0 (omega (arith, h.0, h.1, i.invariant.0)) in
     (omega (arith, c.requires.1, i.invariant.0, i.invariant.2), λ j l. omega (arith, low j l, i.invariant.0))
@@ -55,10 +55,10 @@ loop-k-preserved c =
     (i.invariant.0, omega (arith, c.loop-k-test.true), c.note_all.auto.words ∙ i.invariant.2, noted_more next _ i.k _ e i.invariant.3 m)
 
 pub shape_of-words : goal.shape_of-words
-shape_of-words c = c.loop-k.invariant.2 ∙ c.fill.auto.xs
+shape_of-words c = c.loop-k.invariant.2 ∙ c.fill.auto.self
 
 pub returns : goal.returns
 returns c =
-    let f = c.fill.auto.xs in
+    let f = c.fill.auto.self in
     let i = c.loop-k.invariant in
-    all_preds (drawn c.args.bounds.now c.args.recs.now [] c.args.pairs.now c.args.targets.now) (length c.args.words.now) _ _ c.fill.ensures (omega (arith, c.requires.1)) (noted_end _ _ _ _ (omega (arith, i.0, i.1)) (omega (arith, c.loop-k-test.false, i.0)) i.3)
+    all_preds (drawn c.args.bounds.now c.args.recs.now [] c.args.pairs.now c.args.targets.now) (length c.args.words.now) _ _ (c.fill.ensures.after (λ y e. e)) (omega (arith, c.requires.1)) (noted_end _ _ _ _ (omega (arith, i.0, i.1)) (omega (arith, c.loop-k-test.false, i.0)) i.3)

@@ -10,5 +10,5 @@ use Rattle.host.proofs.load.load_ops.Goals as goal
 pub returns : goal.returns
 returns c =
     let long : length c.args.out.now ≡ 2048 = omega arith in
-    let zeros : c.fill.new.xs ≡ replicate 2048 0 = rw long at c.fill.ensures in
+    let zeros : c.fill.new.self ≡ replicate 2048 0 = rw long at (c.fill.ensures.after (λ y e. e)) in
     rw zeros (roomed _ 2048 _ c.requires.1 (rw zeros at c.get_ops.auto.out) (part (words_of c.args.bytes.now) (at_ops (held c.args.bytes.now)) (held c.args.bytes.now).operands) (rw zeros at c.get_ops.ensures))

@@ -10,5 +10,5 @@ use Rattle.host.proofs.load.load_recs.Goals as goal
 pub returns : goal.returns
 returns c =
     let long : length c.args.out.now ≡ 8192 = omega arith in
-    let zeros : c.fill.new.xs ≡ replicate 8192 0 = rw long at c.fill.ensures in
+    let zeros : c.fill.new.self ≡ replicate 8192 0 = rw long at (c.fill.ensures.after (λ y e. e)) in
     rw zeros (filled _ 8192 _ (subst (λ (k : ℕ). k ≤ 8192) (sym c.requires.1) (n_recs c.args.bytes.now c.requires.0 (held c.args.bytes.now) refl)) (rw zeros at c.get_recs.auto.out) _ c.get_recs.ensures)

@@ -10,14 +10,14 @@ first-at-requires c = c.requires.0.laid
 pub loop-at-init : goal.loop-at-init
 loop-at-init c =
     let at_clear = c.before.before.before in
-    going_none _ _ _ refl (cleared c.args.st.now c.clear.ensures).1 c.requires.1 c.requires.2 c.first-at.ensures.0 c.first-at.ensures.1
+    going_none _ _ _ refl (cleared c.args.st.now (c.fill.ensures.after (λ y e. e))).1 c.requires.1 c.requires.2 c.first-at.ensures.0 c.first-at.ensures.1
 
 pub read_on-requires : goal.read_on-requires
 read_on-requires c =
     let at_if = c.before.before in
     let at_loop = at_if.before.before in
     let at_clear = at_loop.before.before.before.before in
-    let size = (cleared c.args.st.now c.clear.ensures).0 in
+    let size = (cleared c.args.st.now (c.fill.ensures.after (λ y e. e))).0 in
     let y = legible_on c.requires.0 size in
     let r = read_ready _ y c.loop-at.invariant c.loop-at-test.true in
     (r.0, r.1, r.2, r.3)
@@ -33,7 +33,7 @@ overflow_add-q c =
     let at_if = c.before.before.before.before.before.before in
     let at_loop = at_if.before.before in
     let at_clear = at_loop.before.before.before.before in
-    let size = (cleared c.args.st.now c.clear.ensures).0 in
+    let size = (cleared c.args.st.now (c.fill.ensures.after (λ y e. e))).0 in
     let y = legible_on c.requires.0 size in
     let l = few_yet _ y c.loop-at.invariant c.loop-at-test.true in
     omega (arith, l)
@@ -43,7 +43,7 @@ loop-at-smaller c =
     let at_if = c.before.before.before.before.before.before in
     let at_loop = at_if.before.before in
     let at_clear = at_loop.before.before.before.before in
-    let size = (cleared c.args.st.now c.clear.ensures).0 in
+    let size = (cleared c.args.st.now (c.fill.ensures.after (λ y e. e))).0 in
     let y = legible_on c.requires.0 size in
     let l = few_yet _ y c.loop-at.invariant c.loop-at-test.true in
     omega (arith, l)
@@ -53,7 +53,7 @@ loop-at-preserved c =
     let at_if = c.before.before.before.before.before.before in
     let at_loop = at_if.before.before in
     let at_clear = at_loop.before.before.before.before in
-    let size = (cleared c.args.st.now c.clear.ensures).0 in
+    let size = (cleared c.args.st.now (c.fill.ensures.after (λ y e. e))).0 in
     let y = legible_on c.requires.0 size in
     going_more _ y c.loop-at.invariant c.loop-at-test.true c.read_on.ensures c.next-at.ensures.0 c.next-at.ensures.1
 
@@ -61,7 +61,7 @@ pub shape_of-st : goal.shape_of-st
 shape_of-st c =
     let at_loop = c.before.before in
     let at_clear = at_loop.before.before.before.before in
-    let size = (cleared c.args.st.now c.clear.ensures).0 in
+    let size = (cleared c.args.st.now (c.fill.ensures.after (λ y e. e))).0 in
     let y = legible_on c.requires.0 size in
     going_size _ y c.loop-at.invariant ∙ size
 
@@ -69,6 +69,6 @@ pub returns : goal.returns
 returns c =
     let at_loop = c.before.before in
     let at_clear = at_loop.before.before.before.before in
-    let size = (cleared c.args.st.now c.clear.ensures).0 in
+    let size = (cleared c.args.st.now (c.fill.ensures.after (λ y e. e))).0 in
     let y = legible_on c.requires.0 size in
     (going_end _ y c.loop-at.invariant c.loop-at-test.false, going_size _ y c.loop-at.invariant ∙ size)

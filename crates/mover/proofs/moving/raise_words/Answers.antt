@@ -3,16 +3,14 @@ use Prim.Native.Nat.{◌*◌}
 use native.Mathlib.Nat.{mul-le-mul_left}
 use native.Mathlib.Omega.{arith}
 use mathlib.Core.Path.{◌∙◌}
+use Rattle.words.proofs.Parts.{tail_is}
 use Rattle.mover.proofs.Moves.{raised_is}
 use Rattle.mover.proofs.Segments.{segment_ask}
 use Rattle.mover.proofs.Raising.{raising_none, raising_fits, raising_more, raising_end}
 use Rattle.mover.proofs.moving.raise_words.Goals as goal
 
 pub loop-q-init : goal.loop-q-init
-loop-q-init c = let a = c.args in raising_none a.w a.chain.now a.lo a.m (a.w * a.t) a.xs.now a.saved.now (mul-le-mul_left a.w c.requires.1)
-
-pub from-requires : goal.from-requires
-from-requires c = omega (arith, c.requires.0.words, c.loop-q.invariant.inside)
+loop-q-init c = let a = c.args in raising_none a.r.w a.chain.now a.r.lo a.r.m (a.r.w * a.t) a.xs.now a.saved.now (mul-le-mul_left a.r.w c.requires.1)
 
 pub overflow_add-lo : goal.overflow_add-lo
 overflow_add-lo c = omega (arith, c.requires.0.few, c.loop-q.invariant.inside, c.well_formed)
@@ -23,34 +21,34 @@ raise-e-requires c =
     let q = c.requires in
     let l = c.loop-q in
     let i = l.invariant in
-    let k = c.few-k.result in
-    let f = raising_fits (mul-le-mul_left a.w q.1) q.0.inside i in
-    (segment_ask q.0 l.q k (omega (arith, c.few-k.ensures, i.inside)) (omega (arith, c.few-k.ensures)) c.from.ensures i.size i.saved_size (omega (arith, f.0, f.1)), f.0)
+    let k = c.min-m.result in
+    let f = raising_fits (mul-le-mul_left a.r.w q.1) q.0.inside i in
+    (segment_ask q.0 l.q k (omega (arith, c.min-m.ensures, i.inside)) (omega (arith, c.min-m.ensures)) (tail_is (10 * l.q) a.chain.now) i.size i.saved_size (omega (arith, f.0, f.1)), f.0)
 
 pub overflow_add-e : goal.overflow_add-e
 overflow_add-e c =
     let a = c.args in
     let q = c.requires in
     let l = c.loop-q in
-    let k = c.few-k.result in
+    let k = c.min-m.result in
     let s = c.raise-e in
-    let n = raising_more (mul-le-mul_left a.w q.1) q.0.inside l.invariant k {saved' = s.new.saved} (omega (arith, c.few-k.ensures, c.loop-q-test.true)) c.from.ensures c.raise-e.auto.xs c.raise-e.ensures.0 c.raise-e.ensures.1 c.raise-e.auto.saved
-    in let f = raising_fits (mul-le-mul_left a.w q.1) q.0.inside n in omega (arith, f.0, f.1, c.raise-e.auto.xs, l.invariant.size, c.well_formed)
+    let n = raising_more (mul-le-mul_left a.r.w q.1) q.0.inside l.invariant k {saved' = s.new.saved} (omega (arith, c.min-m.ensures, c.loop-q-test.true)) (tail_is (10 * l.q) a.chain.now) c.raise-e.auto.xs c.raise-e.ensures.0 c.raise-e.ensures.1 c.raise-e.auto.saved
+    in let f = raising_fits (mul-le-mul_left a.r.w q.1) q.0.inside n in omega (arith, f.0, f.1, c.raise-e.auto.xs, l.invariant.size, c.well_formed)
 
 pub overflow_add-q : goal.overflow_add-q
-overflow_add-q c = omega (arith, c.few-k.ensures, c.loop-q-test.true)
+overflow_add-q c = omega (arith, c.min-m.ensures, c.loop-q-test.true)
 
 pub loop-q-smaller : goal.loop-q-smaller
-loop-q-smaller c = omega (arith, c.few-k.ensures, c.loop-q-test.true)
+loop-q-smaller c = omega (arith, c.min-m.ensures, c.loop-q-test.true)
 
 pub loop-q-preserved : goal.loop-q-preserved
 loop-q-preserved c =
     let a = c.args in
     let q = c.requires in
     let l = c.loop-q in
-    let k = c.few-k.result in
+    let k = c.min-m.result in
     let s = c.raise-e in
-    raising_more (mul-le-mul_left a.w q.1) q.0.inside l.invariant k (omega (arith, c.few-k.ensures, c.loop-q-test.true)) c.from.ensures c.raise-e.auto.xs c.raise-e.ensures.0 c.raise-e.ensures.1 c.raise-e.auto.saved
+    raising_more (mul-le-mul_left a.r.w q.1) q.0.inside l.invariant k (omega (arith, c.min-m.ensures, c.loop-q-test.true)) (tail_is (10 * l.q) a.chain.now) c.raise-e.auto.xs c.raise-e.ensures.0 c.raise-e.ensures.1 c.raise-e.auto.saved
 
 pub shape_of-xs : goal.shape_of-xs
 shape_of-xs c = c.loop-q.invariant.size
@@ -59,4 +57,4 @@ pub shape_of-saved : goal.shape_of-saved
 shape_of-saved c = c.loop-q.invariant.saved_size
 
 pub returns : goal.returns
-returns c = λ n h. let a = c.args in raising_end c.loop-q.invariant c.loop-q-test.false ∙ raised_is a.w a.xs.now a.chain.now a.lo a.m a.t n h
+returns c = λ n h. let a = c.args in raising_end c.loop-q.invariant c.loop-q-test.false ∙ raised_is a.r.w a.xs.now a.chain.now a.r.lo a.r.m a.t n h

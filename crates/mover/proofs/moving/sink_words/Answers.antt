@@ -3,19 +3,17 @@ use Prim.Native.Nat.{◌+◌, ◌-◌, ◌*◌, ◌≤◌}
 use native.Mathlib.Nat.{mul-le-mul_left}
 use native.Mathlib.Omega.{arith}
 use mathlib.Core.Path.{◌∙◌}
+use Rattle.words.proofs.Parts.{tail_is}
 use Rattle.mover.proofs.Moves.{sunk_is}
 use Rattle.mover.proofs.Segments.{segment_ask}
 use Rattle.mover.proofs.Sinking.{sinking_none, sinking_fits, sinking_below, sinking_more, sinking_end}
 use Rattle.mover.proofs.moving.sink_words.Goals as goal
 
 pub loop-q-init : goal.loop-q-init
-loop-q-init c = let a = c.args in sinking_none a.w a.chain.now a.lo a.m (a.w * a.t) a.xs.now a.saved.now (mul-le-mul_left a.w c.requires.1)
+loop-q-init c = let a = c.args in sinking_none a.r.w a.chain.now a.r.lo a.r.m (a.r.w * a.t) a.xs.now a.saved.now (mul-le-mul_left a.r.w c.requires.1)
 
 pub overflow_sub-q : goal.overflow_sub-q
-overflow_sub-q c = omega (arith, c.few-k.ensures)
-
-pub from-requires : goal.from-requires
-from-requires c = omega (arith, c.requires.0.words, c.loop-q.invariant.inside)
+overflow_sub-q c = omega (arith, c.min-m.ensures)
 
 pub overflow_add-lo : goal.overflow_add-lo
 overflow_add-lo c = omega (arith, c.requires.0.few, c.loop-q.invariant.inside, c.well_formed)
@@ -26,31 +24,31 @@ sink-e-requires c =
     let q = c.requires in
     let l = c.loop-q in
     let i = l.invariant in
-    let k = c.few-k.result in
-    let f = sinking_fits (mul-le-mul_left a.w q.1) q.0.target i in
-    let up : a.w * (a.lo + (l.q - k) + k) ≤ a.w * (a.lo + l.q) = mul-le-mul_left a.w (omega (arith, c.few-k.ensures)) in
-    (segment_ask q.0 (l.q - k) k (omega (arith, c.few-k.ensures, i.inside)) (omega (arith, c.few-k.ensures)) c.from.ensures i.size i.saved_size f.1, omega (arith, f.0, up))
+    let k = c.min-m.result in
+    let f = sinking_fits (mul-le-mul_left a.r.w q.1) q.0.target i in
+    let up : a.r.w * (a.r.lo + (l.q - k) + k) ≤ a.r.w * (a.r.lo + l.q) = mul-le-mul_left a.r.w (omega (arith, c.min-m.ensures)) in
+    (segment_ask q.0 (l.q - k) k (omega (arith, c.min-m.ensures, i.inside)) (omega (arith, c.min-m.ensures)) (tail_is (10 * (l.q - k)) a.chain.now) i.size i.saved_size f.1, omega (arith, f.0, up))
 
 pub overflow_sub-e : goal.overflow_sub-e
 overflow_sub-e c =
     let a = c.args in
     let q = c.requires in
     let l = c.loop-q in
-    let k = c.few-k.result in
+    let k = c.min-m.result in
     let s = c.sink-e in
-    sinking_below (mul-le-mul_left a.w q.1) q.0.target l.invariant (l.q - k) k (omega (arith, c.few-k.ensures)) c.from.ensures c.sink-e.auto.xs c.sink-e.ensures.0 c.sink-e.ensures.1
+    sinking_below (mul-le-mul_left a.r.w q.1) q.0.target l.invariant (l.q - k) k (omega (arith, c.min-m.ensures)) (tail_is (10 * (l.q - k)) a.chain.now) c.sink-e.auto.xs c.sink-e.ensures.0 c.sink-e.ensures.1
 
 pub loop-q-smaller : goal.loop-q-smaller
-loop-q-smaller c = omega (arith, c.few-k.ensures, c.loop-q-test.true)
+loop-q-smaller c = omega (arith, c.min-m.ensures, c.loop-q-test.true)
 
 pub loop-q-preserved : goal.loop-q-preserved
 loop-q-preserved c =
     let a = c.args in
     let q = c.requires in
     let l = c.loop-q in
-    let k = c.few-k.result in
+    let k = c.min-m.result in
     let s = c.sink-e in
-    sinking_more (mul-le-mul_left a.w q.1) q.0.target l.invariant (l.q - k) k (omega (arith, c.few-k.ensures)) c.from.ensures c.sink-e.auto.xs c.sink-e.ensures.0 c.sink-e.ensures.1 c.sink-e.auto.saved
+    sinking_more (mul-le-mul_left a.r.w q.1) q.0.target l.invariant (l.q - k) k (omega (arith, c.min-m.ensures)) (tail_is (10 * (l.q - k)) a.chain.now) c.sink-e.auto.xs c.sink-e.ensures.0 c.sink-e.ensures.1 c.sink-e.auto.saved
 
 pub shape_of-xs : goal.shape_of-xs
 shape_of-xs c = c.loop-q.invariant.size
@@ -59,4 +57,4 @@ pub shape_of-saved : goal.shape_of-saved
 shape_of-saved c = c.loop-q.invariant.saved_size
 
 pub returns : goal.returns
-returns c = λ n h. let a = c.args in sinking_end c.loop-q.invariant (omega (arith, c.loop-q-test.false)) ∙ sunk_is a.w a.xs.now a.chain.now a.lo a.m a.t n h
+returns c = λ n h. let a = c.args in sinking_end c.loop-q.invariant (omega (arith, c.loop-q-test.false)) ∙ sunk_is a.r.w a.xs.now a.chain.now a.r.lo a.r.m a.t n h

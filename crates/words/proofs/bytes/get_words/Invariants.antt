@@ -1,13 +1,8 @@
 -- `bytes::get_words` meets its contract: the words before i are read, the others as they were. Assumes nothing.
-use mathlib.Core.Path.{◌≡◌}
-use Prim.Native.Nat.{◌*◌, ◌-◌, ◌≤◌}
-use lib.ListN.{length, take, drop}
-use lib.Seq.{sets}
+use Rattle.std.proofs.Common.{◌≡◌, ◌*◌, take, drop}
+use Rattle.std.proofs.lemmas.List.Edits.{sets}
 use Rattle.words.specs.Bytes.{words_of}
 use Rattle.words.proofs.bytes.get_words.Given as goal
 
 abbrev pub invariant-loop-i : goal.invariant-loop-i
-invariant-loop-i l = (l.i ≤ length l.initial.out) × ((length l.out ≡ length l.initial.out) × (l.out ≡ sets l.initial.out 0 (words_of (take (4 * l.i) (drop l.at l.bytes)))))
-
-abbrev pub decreases-loop-i : goal.decreases-loop-i
-decreases-loop-i l = length l.initial.out - l.i
+invariant-loop-i l = l.out ≡ sets l.initial.out 0 (words_of (take (4 * l.i) (drop l.at l.bytes)))
