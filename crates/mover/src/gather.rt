@@ -20,7 +20,8 @@ fn take_one(xs: &mut [u32], saved: &mut [u32], mark: u32, e: usize, s: usize, w:
     w
 }
 
-// The marked ones of the records are saved, and the others go down. Returns the words saved.
+// The marked ones of the records are saved, and the others go down. Returns the words saved: a number beside the array, which the
+// places after need as well; a slice of it would keep the array lent and be asked for its length.
 pub fn gather(xs: &mut [u32], saved: &mut [u32], chain: &[u32], r: Records) -> usize
     requires { (r.w * (r.lo + r.m) ≤ length xs.old) × (r.w * r.m ≤ length saved.old) × (10 * r.m ≤ length chain.now) }
     ensures { Gathered r.w chain.now r.lo xs.old xs.new saved.old saved.new r.m result }

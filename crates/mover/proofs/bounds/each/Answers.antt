@@ -6,9 +6,6 @@ use lib.Seq.{get_or-set_other}
 use Rattle.words.proofs.Lists.{get_d_any}
 use Rattle.mover.proofs.bounds.each.Goals as goal
 
-pub f-requires : goal.f-requires
-f-requires g c = rw (c.loop-w.invariant.rest c.loop-w.w-index (omega arith)) (c.requires c.loop-w.w-index (omega arith))
-
 pub loop-w-preserved : goal.loop-w-preserved
 loop-w-preserved g c =
     let i = c.loop-w.w-index in

@@ -1,10 +1,6 @@
 -- `mover::moving::move_words` meets its contract. Assumes nothing.
-use native.Mathlib.Omega.{arith}
 use Rattle.mover.proofs.Moves.{moved_later, moved_earlier}
 use Rattle.mover.proofs.moving.move_words.Goals as goal
-
-pub sink_words-requires : goal.sink_words-requires
-sink_words-requires c = let q = c.requires.m_in_bounds in (record { inside = q.0; few = q.1; target = q.2; room = omega (arith, q.3); words = q.4 }, c.requires.m_bound c.if-r-t.true)
 
 pub returns-then-r-t : goal.returns-then-r-t
 returns-then-r-t c = λ n e. let a = c.args in moved_later a.r.w a.chain.now a.xs.now a.r.m n c.if-r-t.true (c.sink_words.ensures n e)

@@ -12,9 +12,6 @@ use Rattle.mover.proofs.moving.raise_words.Goals as goal
 pub loop-q-init : goal.loop-q-init
 loop-q-init c = let a = c.args in raising_none a.r.w a.chain.now a.r.lo a.r.m (a.r.w * a.t) a.xs.now a.saved.now (mul-le-mul_left a.r.w c.requires.1)
 
-pub overflow_add-lo : goal.overflow_add-lo
-overflow_add-lo c = omega (arith, c.requires.0.few, c.loop-q.invariant.inside, c.well_formed)
-
 pub raise-e-requires : goal.raise-e-requires
 raise-e-requires c =
     let a = c.args in
@@ -35,12 +32,6 @@ overflow_add-e c =
     let n = raising_more (mul-le-mul_left a.r.w q.1) q.0.inside l.invariant k {saved' = s.new.saved} (omega (arith, c.min-m.ensures, c.loop-q-test.true)) (tail_is (10 * l.q) a.chain.now) c.raise-e.auto.xs c.raise-e.ensures.0 c.raise-e.ensures.1 c.raise-e.auto.saved
     in let f = raising_fits (mul-le-mul_left a.r.w q.1) q.0.inside n in omega (arith, f.0, f.1, c.raise-e.auto.xs, l.invariant.size, c.well_formed)
 
-pub overflow_add-q : goal.overflow_add-q
-overflow_add-q c = omega (arith, c.min-m.ensures, c.loop-q-test.true)
-
-pub loop-q-smaller : goal.loop-q-smaller
-loop-q-smaller c = omega (arith, c.min-m.ensures, c.loop-q-test.true)
-
 pub loop-q-preserved : goal.loop-q-preserved
 loop-q-preserved c =
     let a = c.args in
@@ -49,12 +40,6 @@ loop-q-preserved c =
     let k = c.min-m.result in
     let s = c.raise-e in
     raising_more (mul-le-mul_left a.r.w q.1) q.0.inside l.invariant k (omega (arith, c.min-m.ensures, c.loop-q-test.true)) (tail_is (10 * l.q) a.chain.now) c.raise-e.auto.xs c.raise-e.ensures.0 c.raise-e.ensures.1 c.raise-e.auto.saved
-
-pub shape_of-xs : goal.shape_of-xs
-shape_of-xs c = c.loop-q.invariant.size
-
-pub shape_of-saved : goal.shape_of-saved
-shape_of-saved c = c.loop-q.invariant.saved_size
 
 pub returns : goal.returns
 returns c = λ n h. let a = c.args in raising_end c.loop-q.invariant c.loop-q-test.false ∙ raised_is a.r.w a.xs.now a.chain.now a.r.lo a.r.m a.t n h

@@ -12,12 +12,6 @@ use Rattle.mover.proofs.moving.sink_words.Goals as goal
 pub loop-q-init : goal.loop-q-init
 loop-q-init c = let a = c.args in sinking_none a.r.w a.chain.now a.r.lo a.r.m (a.r.w * a.t) a.xs.now a.saved.now (mul-le-mul_left a.r.w c.requires.1)
 
-pub overflow_sub-q : goal.overflow_sub-q
-overflow_sub-q c = omega (arith, c.min-m.ensures)
-
-pub overflow_add-lo : goal.overflow_add-lo
-overflow_add-lo c = omega (arith, c.requires.0.few, c.loop-q.invariant.inside, c.well_formed)
-
 pub sink-e-requires : goal.sink-e-requires
 sink-e-requires c =
     let a = c.args in
@@ -38,9 +32,6 @@ overflow_sub-e c =
     let s = c.sink-e in
     sinking_below (mul-le-mul_left a.r.w q.1) q.0.target l.invariant (l.q - k) k (omega (arith, c.min-m.ensures)) (tail_is (10 * (l.q - k)) a.chain.now) c.sink-e.auto.xs c.sink-e.ensures.0 c.sink-e.ensures.1
 
-pub loop-q-smaller : goal.loop-q-smaller
-loop-q-smaller c = omega (arith, c.min-m.ensures, c.loop-q-test.true)
-
 pub loop-q-preserved : goal.loop-q-preserved
 loop-q-preserved c =
     let a = c.args in
@@ -49,12 +40,6 @@ loop-q-preserved c =
     let k = c.min-m.result in
     let s = c.sink-e in
     sinking_more (mul-le-mul_left a.r.w q.1) q.0.target l.invariant (l.q - k) k (omega (arith, c.min-m.ensures)) (tail_is (10 * (l.q - k)) a.chain.now) c.sink-e.auto.xs c.sink-e.ensures.0 c.sink-e.ensures.1 c.sink-e.auto.saved
-
-pub shape_of-xs : goal.shape_of-xs
-shape_of-xs c = c.loop-q.invariant.size
-
-pub shape_of-saved : goal.shape_of-saved
-shape_of-saved c = c.loop-q.invariant.saved_size
 
 pub returns : goal.returns
 returns c = λ n h. let a = c.args in sinking_end c.loop-q.invariant (omega (arith, c.loop-q-test.false)) ∙ sunk_is a.r.w a.xs.now a.chain.now a.r.lo a.r.m a.t n h
