@@ -27,11 +27,28 @@ use Rattle.rounds.specs.declared.state.Ran.{Ran}
 use Rattle.rounds.specs.Ended.{Did}
 use Rattle.sink.specs.Sink.{registers, operands}
 use Rattle.sink.proofs.Call.{PromisedHere}
-use Rattle.host.specs.Host.{put_by, put_left, left_by, ran_by, RanAs, Roomy}
+use Rattle.host.specs.Host.{put_by, put_left, ran_by, RanAs, Roomy}
 use Rattle.laws.proofs.Accepted.{Accepted, accepted}
 use Rattle.laws.proofs.Sizes.{regs_lent, opers_lent}
 use Rattle.laws.proofs.Keeps.{keeps}
 use Rattle.laws.proofs.Rounds.{Next, no_move, no_room, goes_on, next, sink_done, sink_short, sink_more, sink_gated, sink_through, sink_refused}
+
+-- the picture in these slices, with the registers and operands in use that the answer gives
+abbrev pub left_of : (a : Answer) (bounds recs locs vias types ops pairs targets replay : List ℕ) → Picture
+left_of a bounds recs locs vias types ops pairs targets replay =
+    record {
+      bounds = bounds;
+      recs = recs;
+      locs = locs;
+      vias = vias;
+      types = types;
+      regs = registers a;
+      ops = ops;
+      opers = operands a;
+      pairs = pairs;
+      targets = targets;
+      replay = replay;
+    }
 
 -- the tables stay as they were
 pub record Same (P Q : Picture) : Type 0 where
@@ -149,7 +166,7 @@ module _ {P : Picture} {o : Outcome} where
 
     -- what the call leaves can be written
     pub fitting : Came P o → {a : Answer} → a ≡ o.answer → {n : ℕ} → Roomy bounds recs locs vias types ops P.pairs P.targets P.replay n
-        → Fitting (left_by a bounds recs locs vias types ops P.pairs P.targets P.replay) n
+        → Fitting (left_of a bounds recs locs vias types ops P.pairs P.targets P.replay) n
     fitting k {a} e {n} m =
         let r : registers a ≤ length types = subst (λ (a : Answer). registers a ≤ length types) (sym e) (regs_room k) in
         let u : operands a ≤ length ops = subst (λ (a : Answer). operands a ≤ length ops) (sym e) (opers_room k) in
@@ -168,7 +185,7 @@ module _ {P : Picture} {o : Outcome} where
           holds = m.holds;
         }
 
-    left_is : (w : Went 8 0 P o) → left_by o.answer bounds recs locs vias types ops P.pairs P.targets P.replay ≡ o.left
+    left_is : (w : Went 8 0 P o) → left_of o.answer bounds recs locs vias types ops P.pairs P.targets P.replay ≡ o.left
     left_is w =
         λ z. record {
           bounds = h.bounds_are z;
@@ -184,16 +201,16 @@ module _ {P : Picture} {o : Outcome} where
           replay = sym w.same.replay_same z;
         }
 
-    put_is : Came P o → (result : List ℕ) → put_by o.answer (picture_bytes (left_by o.answer bounds recs locs vias types ops P.pairs P.targets P.replay)) result ≡ put_left o result
+    put_is : Came P o → (result : List ℕ) → put_by o.answer (picture_bytes (left_of o.answer bounds recs locs vias types ops P.pairs P.targets P.replay)) result ≡ put_left o result
     put_is (went w) result = ap (λ (Q : Picture). put_by o.answer (picture_bytes Q) result) (left_is w)
     put_is (stopped r e) result =
-        let bs = picture_bytes (left_by o.answer bounds recs locs vias types ops P.pairs P.targets P.replay) in
+        let bs = picture_bytes (left_of o.answer bounds recs locs vias types ops P.pairs P.targets P.replay) in
         subst (λ (o : Outcome). put_by o.answer bs result ≡ put_left o result) (sym e) refl
 
     -- and what is written is the picture left
     pub put_same : Came P o → {a : Answer} → a ≡ o.answer → (result : List ℕ)
-        → put_by a (picture_bytes (left_by a bounds recs locs vias types ops P.pairs P.targets P.replay)) result ≡ put_left o result
-    put_same k e result = ap (λ (a : Answer). put_by a (picture_bytes (left_by a bounds recs locs vias types ops P.pairs P.targets P.replay)) result) e ∙ put_is k result
+        → put_by a (picture_bytes (left_of a bounds recs locs vias types ops P.pairs P.targets P.replay)) result ≡ put_left o result
+    put_same k e result = ap (λ (a : Answer). put_by a (picture_bytes (left_of a bounds recs locs vias types ops P.pairs P.targets P.replay)) result) e ∙ put_is k result
 
 -- what the call on P promises, of its outcome
 pub did_of : (P : Picture) (work64 work32 : List ℕ) (n : ℕ) (r : Ran) {bounds recs locs vias types ops work64' work32' : List ℕ} → PromisedHere P work64 work32 n r bounds recs locs vias types ops work64' work32'
@@ -206,7 +223,7 @@ did_of P work64 work32 n r p = record {
 
 -- all of it, of the call on P
 pub ran_of : (P : Picture) (w64 w32 nf : ℕ) {r : Ran} {bounds recs locs vias types ops result after : List ℕ} → Did (sink P w64 w32 nf) r.answer r.lines bounds recs locs vias types ops
-    → after ≡ put_by r.answer (picture_bytes (left_by r.answer bounds recs locs vias types ops P.pairs P.targets P.replay)) result
+    → after ≡ put_by r.answer (picture_bytes (left_of r.answer bounds recs locs vias types ops P.pairs P.targets P.replay)) result
     → RanAs (sink P w64 w32 nf) result r after
 ran_of P w64 w32 nf {r} {result = result} d e =
     let o = sink P w64 w32 nf in

@@ -1,78 +1,58 @@
 -- The heads of arrays that a picture is read into, and the picture that they are. Assumes nothing.
-use mathlib.Core.Path.{◌≡◌, sym, ap, ◌∙◌, subst}
+use mathlib.Core.Path.{◌≡◌, ◌∙◌, subst}
 use mathlib.Core.Bool.{true}
-use mathlib.Core.List.{List, ◌++◌}
-use Prim.Native.Nat.{ℕ, ◌-◌, ◌*◌, ◌≤◌}
+use mathlib.Core.List.{List}
+use Prim.Native.Nat.{ℕ, ◌≤◌}
 use native.Mathlib.Omega.{arith}
-use lib.ListN.{length, take, drop, replicate, length-append, length-replicate}
-use lib.Seq.{length-take-le, take_at}
+use lib.ListN.{length, take}
 use Rattle.words.specs.Bytes.{words_of}
 use Rattle.model.specs.Picture.{Picture}
 use Rattle.model.specs.Refusal.{records}
 use Rattle.model.specs.Pass.{sink}
 use Rattle.checks.specs.Causes.{picture_of}
 use Rattle.layout.specs.declared.Counts.{Counts}
-use Rattle.layout.specs.Layout.{readable, held, room, picture_in}
-use Rattle.layout.proofs.Reading.{Sizes, sizes, whole, drop_zeros}
+use Rattle.layout.specs.declared.Part.{Part}
+use Rattle.layout.specs.declared.Part.TheVariants.{Bounds, Recs, Locs, Vias, Types, Ops, Pairs, Targets, Replay}
+use Rattle.layout.specs.Layout.{readable, held, words_in, part_of, room, picture_in}
+use Rattle.layout.proofs.Reading.{Sizes, sizes, whole, room_front}
+use Rattle.layout.proofs.Order.{part_all}
 use Rattle.rounds.specs.declared.state.Ran.{Ran}
-use Rattle.host.specs.Host.{work64, work32, sunk_of, RanAs, Loaded, Roomy}
+use Rattle.host.specs.Host.{work64, work32, sunk_of, RanAs, Roomy}
 
--- ---- the head of a list
+-- ---- the head of an array that a part is read into
 
-pub head_fits : (n m : ℕ) (xs : List ℕ) → length xs ≡ m → n ≤ m → n ≤ length xs
-head_fits n m xs e h = subst (λ (k : ℕ). n ≤ k) (sym e) h
-
-pub head_long : (n m : ℕ) (xs : List ℕ) → length xs ≡ m → n ≤ m → length (take n xs) ≡ n
-head_long n m xs e h = length-take-le n xs (head_fits n m xs e h)
-
--- a new head of zeros
-module _ (n m : ℕ) (xs : List ℕ) (h : n ≤ m) (k : length xs ≡ length {A = ℕ} (take n (replicate m 0))) where
-  zeros_long : length {A = ℕ} (take n (replicate m 0)) ≡ n
-  zeros_long = head_long n m (replicate m 0) (length-replicate m 0) h
-
-  pub filled : (ys : List ℕ) → xs ≡ ys → Loaded n m ys (xs ++ drop n (replicate m 0))
-  filled ys p =
-      let l : length xs ≡ n = k ∙ zeros_long in
-      let d : ◌≡◌ {A = List ℕ} (drop n (replicate m 0)) (replicate (m - n) 0) = drop_zeros n m in
-      record {
-        is = ap (λ (t : List ℕ). xs ++ t) d ∙ ap (λ (y : List ℕ). y ++ replicate (m - n) 0) p;
-        long = sym (ap length p) ∙ l;
-        size = omega (arith, length-append xs (drop n (replicate m 0)), ap length d, length-replicate {A = ℕ} (m - n) 0);
-      }
-
-  pub roomed : (ps : List ℕ) → xs ≡ room (length {A = ℕ} (take n (replicate m 0))) ps → Loaded n m (room n ps) (xs ++ drop n (replicate m 0))
-  roomed ps p = filled (room n ps) (p ∙ ap (λ (l : ℕ). room l ps) zeros_long)
-
-pub loaded_head : {n m : ℕ} {xs r : List ℕ} → Loaded n m xs r → take n r ≡ xs
-loaded_head {n} {m} {xs} {r} d = ap (take n) d.is ∙ take_at xs (replicate (m - n) 0) n d.long
-
--- ---- the sizes of what is read
+-- the most words of a part
+abbrev pub most : Part → ℕ
+most Bounds = 128
+most Recs = 8192
+most Locs = 512
+most Vias = 512
+most Types = 512
+most Ops = 2048
+most Pairs = 256
+most Targets = 1024
+most Replay = 64
 
 module _ (bs : List ℕ) (r : readable bs ≡ true) where
-  module _ (c : Counts) (e : c ≡ held bs) where
-    sized : Sizes c
-    sized = subst Sizes (sym e) (sizes (held bs) (whole bs r).sized)
+  fits : (p : Part) → words_in p (held bs) ≤ most p
+  fits p = go p (sizes (held bs) (whole bs r).sized)
+    where
+      go : (p : Part) → Sizes (held bs) → words_in p (held bs) ≤ most p
+      go Bounds s = omega arith
+      go Recs s = omega arith
+      go Locs s = omega arith
+      go Vias s = omega arith
+      go Types s = omega arith
+      go Ops s = omega arith
+      go Pairs s = omega arith
+      go Targets s = omega arith
+      go Replay s = omega arith
 
-    pub n_bounds : 2 * c.blocks ≤ 128
-    n_bounds = let s = sized.blocks_fit in omega arith
+  pub part_fits : (p : Part) (c : Counts) (n : ℕ) → c ≡ held bs → n ≡ words_in p c → n ≤ most p
+  part_fits p c n e f = rw (f, e) (fits p)
 
-    pub n_recs : 16 * c.insts ≤ 8192
-    n_recs = let s = sized.insts_fit in omega arith
-
-    pub n_locs : c.insts ≤ 512
-    n_locs = sized.insts_fit
-
-    pub n_vias : c.vias ≤ 512
-    n_vias = sized.vias_fit
-
-    pub n_pairs : c.pairs ≤ 256
-    n_pairs = sized.pairs_fit
-
-    pub n_targets : c.targets ≤ 1024
-    n_targets = sized.targets_fit
-
-    pub n_replay : c.replay ≤ 64
-    n_replay = sized.replay_fit
+  pub part_head : (p : Part) (c : Counts) (n : ℕ) (xs : List ℕ) → c ≡ held bs → n ≡ words_in p c → xs ≡ room (most p) (part_of (words_of bs) p) → take n xs ≡ part_of (words_of bs) p
+  part_head p c n xs e f g = rw (f, e, g) (room_front (words_in p (held bs)) (most p) (part_of (words_of bs) p) (fits p) ∙ part_all bs p r)
 
 -- ---- the picture
 

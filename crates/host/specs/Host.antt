@@ -1,5 +1,5 @@
 -- 01, "One listing whole": the host's entry over numbers and bytes. Assumes nothing.
-use Rattle.std.specs.Prelude.{◌≡◌, Bool, true, false, ◌&&◌, List, ◌++◌, ℕ, ◌*◌, ◌-◌, ◌≤◌, leb, length, replicate}
+use Rattle.std.specs.Prelude.{◌≡◌, Bool, true, false, ◌&&◌, Option, Some, None, List, ◌++◌, ℕ, ◌*◌, ◌-◌, ◌≤◌, leb, length, replicate}
 use Rattle.std.proofs.lemmas.List.Edits.{sets}
 use Rattle.words.specs.Lists.{concat}
 use Rattle.words.specs.Bytes.{words_of}
@@ -8,10 +8,10 @@ use Rattle.model.specs.declared.Answer.TheVariants.{Done, Short, Refused}
 use Rattle.model.specs.Pass.{Outcome, rounds, number, sink}
 use Rattle.model.specs.Picture.{Picture}
 use Rattle.model.specs.Refusal.{records}
+use Rattle.layout.specs.declared.Slices.{Slices}
 use Rattle.layout.specs.Layout.{readable, picture_in, picture_bytes, pictured}
 use Rattle.rounds.specs.declared.state.Ran.{Ran}
 use Rattle.sink.specs.Sink.{registers, operands}
-use Rattle.host.specs.declared.run.Reply.{Reply}
 
 -- the program's work slices: 64-bit 4 × 64 × 8 + 2 × 512, 32-bit 8 × 512 + 16 × 64 + 8,000
 abbrev pub work64 : ℕ
@@ -55,28 +55,17 @@ written bs result registers operands =
 abbrev pub ran_by : Outcome → Ran
 ran_by o = record { answer = o.answer; lines = concat o.lines ++ replicate (48 - 6 * rounds o.answer) 0 }
 
--- what stands where nothing is run
-abbrev pub unread : Reply
-unread = record { read = false; ran = record { answer = Done (record { rounds = 0; registers = 0; operands = 0 }); lines = replicate 48 0 } }
-
 -- the call's answer and lines, if all is within the bounds
-abbrev pub replied : List ℕ → ℕ → ℕ → ℕ → Reply
-replied bs n registers operands =
-    elim (within_bounds bs n registers operands) [ true ↦ record { read = true; ran = ran_by (sunk bs registers operands) } | false ↦ unread ]
+abbrev pub replied : List ℕ → ℕ → ℕ → ℕ → Option Ran
+replied bs n registers operands = elim (within_bounds bs n registers operands) [ true ↦ Some (ran_by (sunk bs registers operands)) | false ↦ None ]
 
 pub record RanAs (o : Outcome) (result : List ℕ) (ran : Ran) (result' : List ℕ) : Type 0 where
   pub ran_is : ran ≡ ran_by o
   pub result_is : result' ≡ put_left o result
 
--- an array of m words, of which the first n are these and the rest zeros
-pub record Loaded (n m : ℕ) (xs r : List ℕ) : Type 0 where
-  pub is : r ≡ xs ++ replicate (m - n) 0
-  pub long : length xs ≡ n
-  pub size : length r ≡ m
-
 -- the picture in these slices, with the registers and operands in use that the answer gives
-abbrev pub left_by : (a : Answer) (bounds recs locs vias types ops pairs targets replay : List ℕ) → Picture
-left_by a bounds recs locs vias types ops pairs targets replay = pictured bounds recs locs vias types (registers a) ops (operands a) pairs targets replay
+abbrev pub left_by : Answer → Slices → Picture
+left_by a s = pictured s (registers a) (operands a)
 
 -- slices within the program's sizes, and n result bytes
 pub record Roomy (bounds recs locs vias types ops pairs targets replay : List ℕ) (n : ℕ) : Type 0 where

@@ -2,7 +2,6 @@
 // what it returns and writes. Crate `host_c` exports it for C.
 #![tactic(auto)]
 
-mod load; // load.rt: a picture's slices from its bytes
 pub mod run; // run.rt: the call on a picture in bytes
 
 ghost use Rattle.std.specs.Prelude.{◌≡◌, ◌≤◌, length};
@@ -33,11 +32,8 @@ pub fn virdzeba_sink(picture: &[u8], res: &mut [u8], registers: u32, operands: u
     ensures value { result ≡ returned picture.now (length res.old) registers operands }
     ensures res_after { res.new ≡ written picture.now res.old registers operands }
 {
-    let r = sink_bytes(picture, res, registers as usize, operands as usize);
-    if !r.read {
+    let Some(ran) = sink_bytes(picture, res, registers as usize, operands as usize) else {
         return UNREAD;
-    }
-    let ran = r.ran;
-    let answer = ran.answer;
-    number(answer)
+    };
+    number(ran.answer)
 }

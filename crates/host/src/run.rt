@@ -1,15 +1,17 @@
 // The call on a picture in bytes, with a line for each round (01, "One listing whole"): `sink_bytes`, for bytes and numbers of any
 // value.
-ghost use Rattle.std.specs.Prelude.{◌≡◌, true, ◌≤◌, length};
-ghost use Rattle.layout.specs.Layout.{readable, picture_bytes, Fitting};
+ghost use Rattle.std.specs.Prelude.{◌≡◌, ◌≤◌, length};
+ghost use Rattle.layout.specs.Layout.{picture_bytes, Fitting};
 ghost use Rattle.checks.specs.Causes.{picture_of};
-ghost use Rattle.host.specs.Host.{sunk_of, sunk, put_by, put_left, RanAs, left_by, Roomy, unread, replied, written};
+ghost use Rattle.host.specs.Host.{sunk_of, sunk, put_by, left_by, RanAs, Roomy, replied, written};
 
-use crate::load::{load_bounds, load_locs, load_ops, load_pairs, load_recs, load_replay, load_targets, load_types, load_vias};
-use layout::read::{counts, readable};
+use layout::read::Readable;
 use layout::write::write_picture;
-use layout::{BLOCKS, OPERANDS, PICTURE_BYTES, RECS, REGISTERS, TARGETS};
-use model::{Answer, CHAIN_WORDS, Used};
+use layout::{
+    BLOCKS, BOUNDS, INSTS, OPERANDS, PAIRS, PICTURE_BYTES, Part, RECS, REGISTERS, REPLAY, Slices,
+    TARGETS, VIAS,
+};
+use model::{Answer, CHAIN_WORDS};
 use rounds::state::Ran;
 use sink::here::sink_here;
 use sizes::InUse;
@@ -19,68 +21,21 @@ const WORK64: usize = 4 * BLOCKS * 8 + 2 * REGISTERS;
 
 const WORK32: usize = 8 * REGISTERS + 16 * BLOCKS + CHAIN_WORDS;
 
-// The call's answer and lines; `read` is false where the picture is not read or something is past the bounds, and nothing was run.
-#[derive(Drop)]
-pub struct Reply {
-    pub read: bool,
-    pub ran: Ran,
-}
-
-// Done and Short: the picture at the head of `result`.
-fn put_left(
-    res: &mut [u8],
-    answer: Answer,
-    bounds: &[u32],
-    recs: &[u32],
-    locs: &[u32],
-    vias: &[u32],
-    types: &[u32],
-    ops: &[u32],
-    pairs: &[u32],
-    targets: &[u32],
-    replay: &[u32],
-)
-    requires { Fitting (left_by answer bounds.now recs.now locs.now vias.now types.now ops.now pairs.now targets.now replay.now) (length res.old) }
-    ensures { res.new ≡ put_by answer (picture_bytes (left_by answer bounds.now recs.now locs.now vias.now types.now ops.now pairs.now targets.now replay.now)) res.old }
+// Done and Short: the picture at the head of `res`.
+fn put_left(res: &mut [u8], answer: Answer, slices: Slices)
+    requires { Fitting (left_by answer slices) (length res.old) }
+    ensures { res.new ≡ put_by answer (picture_bytes (left_by answer slices.entry)) res.old }
 {
     match answer {
-        Answer::Done(u) => {
-            write_picture(
-                res,
-                bounds,
-                recs,
-                locs,
-                vias,
-                types,
-                u.registers as usize,
-                ops,
-                u.operands as usize,
-                pairs,
-                targets,
-                replay,
-            );
-        }
-        Answer::Short(u) => {
-            write_picture(
-                res,
-                bounds,
-                recs,
-                locs,
-                vias,
-                types,
-                u.registers as usize,
-                ops,
-                u.operands as usize,
-                pairs,
-                targets,
-                replay,
-            );
+        Answer::Done(u) | Answer::Short(u) => {
+            write_picture(res, slices, u.registers as usize, u.operands as usize);
         }
         Answer::Refused(_) => {}
     }
 }
 
-// The call on lent slices, its facts and work words in lists of its own, and the picture left.
+// The call on lent slices, its facts and work words in lists of its own, and the picture left. (The six slices that change stay apart:
+// a struct of `&mut` slices cannot be lent to two calls yet.)
 fn sink_into(
     res: &mut [u8],
     bounds: &mut [u32],
@@ -100,7 +55,7 @@ fn sink_into(
 {
     let mut words64 = [0u64; WORK64];
     let mut words32 = [0u32; WORK32];
-    let r = sink_here(
+    let ran = sink_here(
         bounds,
         recs,
         locs,
@@ -115,92 +70,72 @@ fn sink_into(
         &mut words64,
         &mut words32,
     );
-    let answer = r.answer;
-    put_left(
-        res, answer, bounds, recs, locs, vias, types, ops, pairs, targets, replay,
-    );
-    r
+    let slices = Slices {
+        bounds,
+        recs,
+        locs,
+        vias,
+        types,
+        ops,
+        pairs,
+        targets,
+        replay,
+    };
+    put_left(res, ran.answer, slices);
+    ran
 }
 
-// The call on the picture in these bytes, with so many registers and operands lent.
-fn run(picture: &[u8], res: &mut [u8], registers: usize, operands: usize) -> Ran
-    requires { (readable picture.now ≡ true) × (53024 ≤ length res.old) × (registers ≤ 512) × (operands ≤ 2048) }
-    ensures { RanAs (sunk picture.now registers operands) res.old result res.new }
+// The call on this picture, with so many registers and operands lent.
+fn run(picture: Readable, res: &mut [u8], registers: usize, operands: usize) -> Ran
+    requires { (53024 ≤ length res.old) × (registers ≤ 512) × (operands ≤ 2048) }
+    ensures { RanAs (sunk picture.entry.bytes.now registers operands) res.old result res.new }
 {
-    let c = counts(picture);
-    let nb = 2 * c.blocks;
-    let nr = 16 * c.insts;
-    let ni = c.insts;
-    let nv = c.vias;
-    let np = c.pairs;
-    let ng = c.targets;
-    let ny = c.replay;
-    let mut bounds = load_bounds(picture, nb);
-    let mut recs = [0u32; RECS];
-    load_recs(picture, nr, &mut recs);
-    let mut locs = load_locs(picture, ni);
-    let mut vias = load_vias(picture, nv);
-    let mut types = load_types(picture, registers);
-    let mut ops = [0u32; OPERANDS];
-    load_ops(picture, operands, &mut ops);
-    let pairs = load_pairs(picture, np);
-    let mut targets = [0u32; TARGETS];
-    load_targets(picture, ng, &mut targets);
-    let replay = load_replay(picture, ny);
-    let regs = c.registers as u32;
-    let opers = c.operands as u32;
-    let used = InUse {
-        regs: regs,
-        opers: opers,
-    };
+    let counts = picture.counts;
+    let mut bounds = [0; BOUNDS];
+    picture.get(Part::Bounds, &mut bounds);
+    let mut recs = [0; RECS];
+    picture.get(Part::Recs, &mut recs);
+    let mut locs = [0; INSTS];
+    picture.get(Part::Locs, &mut locs);
+    let mut vias = [0; VIAS];
+    picture.get(Part::Vias, &mut vias);
+    let mut types = [0; REGISTERS];
+    picture.get(Part::Types, &mut types);
+    let mut ops = [0; OPERANDS];
+    picture.get(Part::Ops, &mut ops);
+    let mut pairs = [0; PAIRS];
+    picture.get(Part::Pairs, &mut pairs);
+    let mut targets = [0; TARGETS];
+    picture.get(Part::Targets, &mut targets);
+    let mut replay = [0; REPLAY];
+    picture.get(Part::Replay, &mut replay);
     sink_into(
         res,
-        &mut bounds[..nb],
-        &mut recs[..nr],
-        &mut locs[..ni],
-        &mut vias[..nv],
+        &mut bounds[..counts.words_in(Part::Bounds)],
+        &mut recs[..counts.words_in(Part::Recs)],
+        &mut locs[..counts.words_in(Part::Locs)],
+        &mut vias[..counts.words_in(Part::Vias)],
         &mut types[..registers],
         &mut ops[..operands],
-        &pairs[..np],
-        &targets[..ng],
-        &replay[..ny],
-        used,
+        &pairs[..counts.words_in(Part::Pairs)],
+        &targets[..counts.words_in(Part::Targets)],
+        &replay[..counts.words_in(Part::Replay)],
+        InUse {
+            regs: counts.registers,
+            opers: counts.operands,
+        },
     )
 }
 
-// Nothing is run.
-fn unread() -> Reply
-    ensures { result ≡ unread }
-{
-    let ran = Ran {
-        answer: Answer::Done(Used {
-            rounds: 0,
-            registers: 0,
-            operands: 0,
-        }),
-        lines: [0u32; 48],
-    };
-    Reply {
-        read: false,
-        ran: ran,
-    }
-}
-
-// The call, if the picture can be read and all is within the bounds. Done and Short write the new picture at the head of `result`;
-// nothing else is written.
-pub fn sink_bytes(picture: &[u8], res: &mut [u8], registers: usize, operands: usize) -> Reply
+// The call's answer and lines, if the picture can be read and all is within the bounds. Done and Short write the new picture at the
+// head of `res`; nothing else is written.
+pub fn sink_bytes(picture: &[u8], res: &mut [u8], registers: usize, operands: usize) -> Option<Ran>
     ensures value { result ≡ replied picture.now (length res.old) registers operands }
     ensures res_after { res.new ≡ written picture.now res.old registers operands }
 {
-    if !readable(picture) {
-        return unread();
+    let picture = Readable::new(picture)?;
+    if res.len() < PICTURE_BYTES || REGISTERS < registers || OPERANDS < operands {
+        return None;
     }
-    if (res.len() < PICTURE_BYTES) | (REGISTERS < registers) | (OPERANDS < operands) {
-        return unread();
-    }
-    let ran = run(picture, res, registers, operands);
-    Reply {
-        read: true,
-        ran: ran,
-    }
+    Some(run(picture, res, registers, operands))
 }

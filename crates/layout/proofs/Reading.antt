@@ -1,17 +1,16 @@
 -- Laws of a picture in bytes: words by number, parts of the words, what the sizes give, and the cases of `readable`. Assumes nothing.
 use mathlib.Core.Logic.{⊎_elim}
 use mathlib.Core.Path.{◌≡◌, refl, sym, ap, ◌∙◌}
-use mathlib.Core.Bool.{Bool, true, false, ◌&&◌, true≢false, false≢true}
-use mathlib.Core.List.{List, [], ◌∷◌, ◌++◌}
+use mathlib.Core.Bool.{Bool, true, false, ◌&&◌, false≢true}
+use mathlib.Core.List.{List, [], ◌∷◌, ◌++◌, append-nil}
 use Prim.Native.Nat.{ℕ, zero, suc, ◌+◌, ◌-◌, ◌*◌, ◌≤◌, ◌<◌, min}
 use native.Mathlib.Omega.{arith}
-use borrow.Author.Tests.{leb-true, lt-leb, le-leb, eqb-true}
+use borrow.Author.Tests.{leb-true, eqb-true}
 use lib.Dec.{eqb, leb}
 use lib.ListN.{length, get_or, take, drop, replicate, length-drop, length-take, length-append, length-replicate}
-use lib.Seq.{length-take-le, sets, sets-eq, take_all, take-take, take-append-le}
+use lib.Seq.{length-take-le, take_all, take-take, take-append-le}
 use Rattle.words.specs.Bytes.{word_of, word, words_of}
 use Rattle.words.proofs.Bools.{lt?}
-use Rattle.words.proofs.Copying.{sets_all}
 use Rattle.words.proofs.Encoding.{word_drop, length_words}
 use Rattle.layout.specs.declared.Counts.{Counts}
 use Rattle.layout.specs.Layout.{counts, held, within, at_end, readable, part, padded, room}
@@ -103,31 +102,7 @@ sizes c = go (leb c.blocks 64) (leb c.insts 512) (leb c.registers 512) (leb c.op
     go true true true true true true false z a b d e f g h i q = absurd (false≢true q)
     go true true true true true true true false a b d e f g h i q = absurd (false≢true q)
 
--- ---- `readable`, case by case
-
-and_first : (a b c : Bool) → a ≡ false → false ≡ a && b && c
-and_first false b c e = refl
-and_first true b c e = absurd (true≢false e)
-
-and_second : (a b c : Bool) → b ≡ false → false ≡ a && b && c
-and_second false b c e = refl
-and_second true false c e = refl
-and_second true true c e = absurd (true≢false e)
-
-and_third : (a b c : Bool) → a ≡ true → b ≡ true → c ≡ a && b && c
-and_third true true c e f = refl
-and_third false b c e f = absurd (false≢true e)
-and_third true false c e f = absurd (false≢true f)
-
-pub cut_short : (bs : List ℕ) → length bs < 32 → false ≡ readable bs
-cut_short bs h = and_first (leb 32 (length bs)) (within (held bs)) (eqb (length bs) (4 * at_end (held bs))) (lt-leb _ _ h)
-
-pub too_large : (bs : List ℕ) (c : Counts) → c ≡ held bs → within c ≡ false → false ≡ readable bs
-too_large bs c e h = and_second (leb 32 (length bs)) (within (held bs)) (eqb (length bs) (4 * at_end (held bs))) (rw e at h)
-
-pub by_length : (bs : List ℕ) (c : Counts) → c ≡ held bs → 32 ≤ length bs → within c ≡ true → eqb (length bs) (4 * at_end c) ≡ readable bs
-by_length bs c e h k =
-    rw e (and_third (leb 32 (length bs)) (within (held bs)) (eqb (length bs) (4 * at_end (held bs))) (le-leb _ _ h) (rw e at k))
+-- ---- `readable`
 
 -- what it says of the bytes
 pub record Whole (bs : List ℕ) : Type 0 where
@@ -144,45 +119,47 @@ whole bs = go (leb 32 (length bs)) (within (held bs)) (eqb (length bs) (4 * at_e
     go true false c e f g q = let z : ◌≡◌ {A = ℕ} 0 1 = cc in absurd (omega arith)
     go true true false e f g q = let z : ◌≡◌ {A = ℕ} 0 1 = cc in absurd (omega arith)
 
--- ---- `get_room`
+-- ---- `room`
 
 abbrev zeros : ℕ → List ℕ
 zeros n = replicate n 0
 
-pub drop_zeros : (k n : ℕ) → drop k (zeros n) ≡ zeros (n - k)
-drop_zeros zero n = let z : n - 0 ≡ n = omega arith in rw z
-drop_zeros (suc k) zero = let z : 0 - suc k ≡ 0 = omega arith in rw z
-drop_zeros (suc k) (suc n) = let z : suc n - suc k ≡ n - k = omega arith in rw z (drop_zeros k n)
+-- what is as long as the room is all of it
+pub room_all : (n : ℕ) (xs : List ℕ) → length xs ≡ n → room n xs ≡ xs
+room_all n xs e = take-append-le n xs (zeros (n - length xs)) (omega arith) ∙ take_all n xs (omega arith)
 
-pub sets_zeros : (vs : List ℕ) (l : ℕ) → length vs ≤ l → sets (zeros l) 0 vs ≡ padded l vs
-sets_zeros vs l h =
-    let n : length (zeros l) ≡ l = length-replicate l 0 in
-    let z : 0 + length vs ≡ length vs = omega arith in
-    sets-eq vs (zeros l) 0 (omega arith) ∙ ap (λ (k : ℕ). vs ++ drop k (zeros l)) z ∙ ap (λ (t : List ℕ). vs ++ t) (drop_zeros (length vs) l)
+zeros_front : (n m : ℕ) → n ≤ m → take n (zeros m) ≡ zeros n
+zeros_front zero m h = refl
+zeros_front (suc n) zero h = absurd (omega arith)
+zeros_front (suc n) (suc m) h = ap (λ (l : List ℕ). 0 ∷ l) (zeros_front n m (omega arith))
 
-room_more : (vs : List ℕ) (l : ℕ) → length vs ≤ l → sets (zeros l) 0 vs ≡ room l vs
-room_more vs l h = sets_zeros vs l h ∙ sym (take_all l (padded l vs) (simp (length-append, length-replicate) (omega arith)))
+front : (n m : ℕ) (xs : List ℕ) → n ≤ m → take n (padded m xs) ≡ room n xs
+front n m [] h = let j : m - 0 ≡ m = omega arith in let k : n - 0 ≡ n = omega arith in rw (j, k) (zeros_front n m h ∙ sym (zeros_front n n (omega arith)))
+front zero m (x ∷ xs) h = refl
+front (suc n) zero (x ∷ xs) h = absurd (omega arith)
+front (suc n) (suc m) (x ∷ xs) h =
+    let j : suc m - suc (length xs) ≡ m - length xs = omega arith in
+    let k : suc n - suc (length xs) ≡ n - length xs = omega arith in
+    rw (j, k) (ap (λ (l : List ℕ). x ∷ l) (front n m xs (omega arith)))
 
-pub room_is : (ws : List ℕ) (at n l : ℕ) → at + n ≤ length ws → sets (zeros l) 0 (part ws at (min n l)) ≡ room l (part ws at n)
+-- the front of a room
+pub room_front : (n m : ℕ) (xs : List ℕ) → n ≤ m → take n (room m xs) ≡ room n xs
+room_front n m xs h = take-take n m (padded m xs) h ∙ front n m xs h
+
+-- as many words of a part as there is room for, then zeros
+pub room_is : (ws : List ℕ) (at n l : ℕ) → at + n ≤ length ws → part ws at (min n l) ++ zeros (l - min n l) ≡ room l (part ws at n)
 room_is ws at n l h = ⊎_elim less more (lt? l n)
   where
     long : length (part ws at n) ≡ n
     long = simp (length-take, length-drop) (omega arith)
 
-    less : l < n → sets (zeros l) 0 (part ws at (min n l)) ≡ room l (part ws at n)
+    less : l < n → part ws at (min n l) ++ zeros (l - min n l) ≡ room l (part ws at n)
     less k =
         let z : min n l ≡ l = omega arith in
-        let m : length (part ws at l) ≡ l = simp (length-take, length-drop) (omega arith) in
-        rw z (sets_all (zeros l) (part ws at l) (m ∙ sym (length-replicate l 0))
-        ∙ sym (take-append-le l (part ws at n) (zeros (l - length (part ws at n))) (omega (arith, long)) ∙ take-take l n (drop at ws) (omega arith)))
+        let e : l - l ≡ 0 = omega arith in
+        rw (z, e) (append-nil (part ws at l) ∙ sym (take-append-le l (part ws at n) (zeros (l - length (part ws at n))) (omega (arith, long)) ∙ take-take l n (drop at ws) (omega arith)))
 
-    more : n ≤ l → sets (zeros l) 0 (part ws at (min n l)) ≡ room l (part ws at n)
-    more k = let z : min n l ≡ n = omega arith in rw z (room_more (part ws at n) l (omega (arith, long)))
-
-pub room_end : (bs out zs : List ℕ) (at n m : ℕ) → 4 * at + 4 * n ≤ length bs → zs ≡ replicate (length out) 0 → m ≡ min n (length zs)
-    → sets zs 0 (words_of (take (4 * m) (drop (4 * at) bs))) ≡ room (length out) (part (words_of bs) at n)
-room_end bs out zs at n m h e f =
-    let l : ℕ = length out in
-    let k : length zs ≡ length out = ap length e ∙ length-replicate (length out) 0 in
-    let z : m ≡ min n (length out) = f ∙ ap (min n) k in
-    rw (e, z) (ap (sets (zeros (length out)) 0) (part_words bs at (min n (length out)) (omega arith)) ∙ room_is (words_of bs) at n (length out) (words_reach bs (at + n) (omega arith)))
+    more : n ≤ l → part ws at (min n l) ++ zeros (l - min n l) ≡ room l (part ws at n)
+    more k =
+        let z : min n l ≡ n = omega arith in
+        rw (z, long) (sym (take_all l (part ws at n ++ zeros (l - n)) (simp (length-append, length-replicate) (omega (arith, long)))))

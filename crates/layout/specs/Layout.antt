@@ -1,9 +1,14 @@
 -- 01, "One listing whole": a picture as bytes, the input of `sinkrounds` and of the host's entry, within the program's sizes.
 -- Assumes nothing.
-use Rattle.std.specs.Prelude.{Bool, ◌&&◌, List, [], ◌∷◌, ◌++◌, ℕ, ◌+◌, ◌-◌, ◌*◌, ◌≤◌, eqb, leb, get_or, length, take, drop, replicate}
+use Rattle.std.specs.Prelude.{◌≡◌, Bool, ◌&&◌, List, [], ◌∷◌, ◌++◌, map, ℕ, ◌+◌, ◌-◌, ◌*◌, ◌≤◌, eqb, leb, Option, Some, None, get_or, length, take, drop, replicate}
 use Rattle.layout.specs.declared.Counts.{Counts}
-use Rattle.layout.specs.declared.Places.{Places}
+use Rattle.layout.specs.declared.Slices.{Slices}
+use Rattle.layout.specs.declared.Part.{Part}
+use Rattle.layout.specs.declared.Part.TheVariants.{Bounds, Recs, Locs, Vias, Types, Ops, Pairs, Targets, Replay}
+use Rattle.std.proofs.lemmas.List.Edits.{sets}
+use Rattle.std.specs.Borrow.{Bor}
 use Rattle.words.specs.Bytes.{words_of, bytes_of}
+use Rattle.words.specs.Lists.{concat}
 use Rattle.model.specs.Picture.{Picture, nblocks}
 
 -- the eight counts: "counts of blocks, instructions, registers, operands, pair words, target words, replay, via words"
@@ -60,19 +65,40 @@ at_replay c = at_targets c + c.targets
 abbrev pub at_end : Counts → ℕ
 at_end c = at_replay c + c.replay
 
-abbrev pub places : Counts → Places
-places c =
-    record {
-      recs = at_recs c;
-      locs = at_locs c;
-      vias = at_vias c;
-      types = at_types c;
-      ops = at_ops c;
-      pairs = at_pairs c;
-      targets = at_targets c;
-      replay = at_replay c;
-      end = at_end c;
-    }
+-- the part before a part
+abbrev pub before : Part → Option Part
+before Bounds = None
+before Recs = Some Bounds
+before Locs = Some Recs
+before Vias = Some Locs
+before Types = Some Vias
+before Ops = Some Types
+before Pairs = Some Ops
+before Targets = Some Pairs
+before Replay = Some Targets
+
+-- how many words a part has
+abbrev pub words_in : Part → Counts → ℕ
+words_in Bounds c = 2 * c.blocks
+words_in Recs c = 16 * c.insts
+words_in Locs c = c.insts
+words_in Vias c = c.vias
+words_in Types c = c.registers
+words_in Ops c = c.operands
+words_in Pairs c = c.pairs
+words_in Targets c = c.targets
+words_in Replay c = c.replay
+
+abbrev pub start : Part → Counts → ℕ
+start Bounds c = 8
+start Recs c = at_recs c
+start Locs c = at_locs c
+start Vias c = at_vias c
+start Types c = at_types c
+start Ops c = at_ops c
+start Pairs c = at_pairs c
+start Targets c = at_targets c
+start Replay c = at_replay c
 
 -- can these bytes be read: neither cut short, nor longer than their counts say, nor past the program's sizes
 abbrev pub readable : List ℕ → Bool
@@ -80,6 +106,10 @@ readable bs = leb 32 (length bs) && within (held bs) && eqb (length bs) (4 * at_
 
 abbrev pub part : List ℕ → ℕ → ℕ → List ℕ
 part ws at n = take n (drop at ws)
+
+-- a part of the picture in these words
+abbrev pub part_of : List ℕ → Part → List ℕ
+part_of ws p = let c = counts ws in part ws (start p c) (words_in p c)
 
 -- what is given, then zeros up to n
 abbrev pub padded : ℕ → List ℕ → List ℕ
@@ -115,21 +145,21 @@ picture_bytes P =
     ++ P.bounds ++ P.recs ++ P.locs ++ P.vias ++ take P.regs P.types ++ take P.opers P.ops ++ P.pairs ++ P.targets ++ P.replay
     )
 
--- the picture that is lent as nine slices and two counts in use
-abbrev pub pictured : (bounds recs locs vias types : List ℕ) (regs : ℕ) (ops : List ℕ) (opers : ℕ) (pairs targets replay : List ℕ) → Picture
-pictured bounds recs locs vias types regs ops opers pairs targets replay =
+-- the picture that is lent as nine slices, with so many registers and operands in use
+abbrev pub pictured : Slices → ℕ → ℕ → Picture
+pictured s regs opers =
     record {
-      bounds = bounds;
-      recs = recs;
-      locs = locs;
-      vias = vias;
-      types = types;
+      bounds = s.bounds.now;
+      recs = s.recs.now;
+      locs = s.locs.now;
+      vias = s.vias.now;
+      types = s.types.now;
       regs = regs;
-      ops = ops;
+      ops = s.ops.now;
       opers = opers;
-      pairs = pairs;
-      targets = targets;
-      replay = replay;
+      pairs = s.pairs.now;
+      targets = s.targets.now;
+      replay = s.replay.now;
     }
 
 -- what a picture has in use is within the program's sizes, and n bytes hold the largest such picture: "at least 53,024 result bytes"
@@ -146,3 +176,12 @@ pub record Fitting (P : Picture) (n : ℕ) : Type 0 where
   pub targets_fit : length P.targets ≤ 1024
   pub replay_fit : length P.replay ≤ 64
   pub holds : 53024 ≤ n
+
+-- the words of slices, one behind the other
+abbrev pub joined : List (Bor (List ℕ)) → List ℕ
+joined ss = concat (map (λ s. s.now) ss)
+
+-- vs stand from place `at` on, all else is as it was, and r is the place behind them
+pub record Put (before : List ℕ) (at : ℕ) (vs after : List ℕ) (r : ℕ) : Type 0 where
+  pub made : after ≡ sets before at vs
+  pub next : r ≡ at + length vs

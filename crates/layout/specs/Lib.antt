@@ -1,3 +1,2 @@
 pub mod Layout
-pub mod Text
 pub mod Bounds

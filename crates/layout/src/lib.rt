@@ -1,8 +1,8 @@
 // A picture as bytes and the text of `sinkrounds` (document 01, "One listing whole"): specs/Layout and specs/Text define them.
 #![tactic(auto)]
 
+mod parts; // parts.rt: how long each part is, and where it begins
 pub mod read;
-pub mod text;
 pub mod write;
 
 // The program's sizes (document 01, "One listing whole", "Program: 64 blocks, .."): of each the most that it takes.
@@ -38,26 +38,40 @@ pub const PICTURE_BYTES: usize = 4
 // How many blocks, instructions, registers and operands in use, pair words, target words, replay words and via words.
 #[derive(Clone, Copy)]
 pub struct Counts {
-    pub blocks: usize,
-    pub insts: usize,
-    pub registers: usize,
-    pub operands: usize,
-    pub pairs: usize,
-    pub targets: usize,
-    pub replay: usize,
-    pub vias: usize,
+    pub blocks: u32,
+    pub insts: u32,
+    pub registers: u32,
+    pub operands: u32,
+    pub pairs: u32,
+    pub targets: u32,
+    pub replay: u32,
+    pub vias: u32,
 }
 
-// Where each slice begins, in words; the block bounds begin at HEAD.
+// The slices of a picture, in the order in which they lie behind the counts.
 #[derive(Clone, Copy)]
-pub struct Places {
-    pub recs: usize,
-    pub locs: usize,
-    pub vias: usize,
-    pub types: usize,
-    pub ops: usize,
-    pub pairs: usize,
-    pub targets: usize,
-    pub replay: usize,
-    pub end: usize,
+pub enum Part {
+    Bounds,
+    Recs,
+    Locs,
+    Vias,
+    Types,
+    Ops,
+    Pairs,
+    Targets,
+    Replay,
+}
+
+// The slices of a picture, lent: types and operands as many as are lent, not only those in use.
+#[derive(Clone, Copy)]
+pub struct Slices<'a> {
+    pub bounds: &'a [u32],
+    pub recs: &'a [u32],
+    pub locs: &'a [u32],
+    pub vias: &'a [u32],
+    pub types: &'a [u32],
+    pub ops: &'a [u32],
+    pub pairs: &'a [u32],
+    pub targets: &'a [u32],
+    pub replay: &'a [u32],
 }

@@ -3,9 +3,6 @@ use Rattle.std.proofs.Common.{◌≡◌, inl, inr, ℕ, ◌<◌, ◌≤◌, List
 use Rattle.std.proofs.lemmas.List.{take-append-le}
 use Rattle.std.proofs.Math.Nat.{eq-or-lt_of_le}
 use Rattle.std.specs.Io.KnownBytes.{Consumes, IsAtEnd, Appends}
-use Rattle.std.proofs.Math.Seq.{take-append_seam}
-use Rattle.report.specs.declared.Text.{Text}
-use Rattle.report.specs.Report.{report_of, told}
 
 -- front is what came, and there is room for m bytes
 pub front_read : (a b : Option (List ℕ)) (front : List ℕ) (m : ℕ) → length front ≤ m → Consumes a b front → (length front < m → IsAtEnd b)
@@ -26,7 +23,3 @@ pub written_of : (a o w : Option (List ℕ)) (f : List ℕ → List ℕ) (front 
     → IfSome a (λ xs. Appends o w (f (take m xs)))
 written_of None o w f front m same wrote = tt
 written_of (Some x) o w f front m same wrote = subst (λ l. Appends o w (f l)) (sym same) wrote
-
--- the text that is told of these bytes, without the zeros behind it
-pub text_told : (t : Text) (bytes : List ℕ) → t ≡ told bytes → take t.len t.bytes ≡ report_of bytes
-text_told t bytes e = ap (λ u. take u.len u.bytes) e ∙ take-append_seam (report_of bytes) _

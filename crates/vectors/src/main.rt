@@ -3,120 +3,91 @@
 // operands lent, the number to be returned, bytes to be written), the picture, the bytes; a word 0 ends the list.
 #![tactic(auto)]
 
-ghost use Rattle.std.specs.Prelude.{◌≤◌};
-
+use host::virdzeba_sink;
 use input::read_full;
 use std::io;
 use std::io::{Input, Read};
+use words::bytes::word_at;
+
+// The most cases that are replayed.
+const CASES: u32 = 4096;
+
+// The bytes lent for a result, which the largest picture fills.
+const RESULT_BYTES: usize = 53024;
 
 // What the result holds before a case.
 const FILL: u8 = 165;
 
-// The result is `bytes`, and behind them as it was.
-fn as_stored(res: &[u8; 53024], bytes: &[u8]) -> bool {
-    let n = bytes.len();
-    let mut i = 0usize;
-    while i < 53024 {
-        if i < n {
-            if res[i] != bytes[i] {
-                return false;
-            }
-        } else if res[i] != FILL {
-            return false;
-        }
-        i += 1;
-    }
-    n <= 53024
+// A case's five words.
+#[derive(Clone, Copy)]
+struct Head {
+    picture_bytes: usize,
+    registers: u32,
+    operands: u32,
+    number: u32,
+    result_bytes: usize,
 }
 
-// n bytes of the input; false where there are fewer, or more than fit.
-fn get(input: &mut impl Read, out: &mut [u8], n: usize) -> io::Result<bool> {
-    if n <= out.len() {
-        return Ok(read_full(input, &mut out[..n])? == n);
+// The words of the next case; none where the list is at its end.
+fn next(input: &mut impl Read) -> io::Result<Option<Head>> {
+    let mut head = [0; 20];
+    if read_full(input, &mut head)? < 4 || word_at(&head, 0) == 0 {
+        return Ok(None);
     }
-    Ok(false)
+    Ok(Some(Head {
+        picture_bytes: word_at(&head, 0) as usize,
+        registers: word_at(&head, 4),
+        operands: word_at(&head, 8),
+        number: word_at(&head, 12),
+        result_bytes: word_at(&head, 16) as usize,
+    }))
 }
 
-fn first(bytes: &[u8], n: usize) -> &[u8] {
-    if n <= bytes.len() {
-        return &bytes[..n];
+// The next n bytes of the input, read into `out`; none where there are fewer, or more than fit.
+fn get<'a>(input: &mut impl Read, out: &'a mut [u8], n: usize) -> io::Result<Option<&'a [u8]>> {
+    if n <= out.len() && read_full(input, &mut out[..n])? == n {
+        return Ok(Some(&out[..n]));
     }
-    bytes
+    Ok(None)
 }
 
-// The call comes out as stored.
-fn agrees(head: &[u8; 20], picture: &[u8], stored: &[u8]) -> bool {
-    let mut result = [FILL; 53024];
-    let r = host::virdzeba_sink(
-        picture,
-        &mut result,
-        words::bytes::word_at(head, 4),
-        words::bytes::word_at(head, 8),
-    );
-    (r == words::bytes::word_at(head, 12)) & as_stored(&result, stored)
+// Whether the result is what is stored, and behind it as it was.
+fn is_stored(res: &[u8], stored: &[u8]) -> bool {
+    match res.strip_prefix(stored) {
+        Some(rest) => rest.iter().all(|b| *b == FILL),
+        None => false,
+    }
 }
 
-// A case of n and m bytes: 1 as stored, 2 otherwise or cut short.
-fn replay(
-    input: &mut impl Read,
-    head: &[u8; 20],
-    n: usize,
-    m: usize,
-    picture: &mut [u8],
-    stored: &mut [u8],
-) -> io::Result<u32> {
-    if !get(input, picture, n)? {
-        return Ok(2);
-    }
-    if !get(input, stored, m)? {
-        return Ok(2);
-    }
-    if agrees(head, first(picture, n), first(stored, m)) {
-        return Ok(1);
-    }
-    Ok(2)
-}
-
-// The next case; 0 where the list is at its end.
-fn next(input: &mut impl Read) -> io::Result<u32> {
-    let mut head = [0u8; 20];
-    if read_full(input, &mut head)? < 4 {
-        return Ok(0);
-    }
-    let n = words::bytes::word_at(&head, 0) as usize;
-    let m = words::bytes::word_at(&head, 16) as usize;
-    if n == 0 {
-        return Ok(0);
-    }
-    let mut picture = [0u8; 53024];
-    let mut stored = [0u8; 53024];
-    replay(input, &head, n, m, &mut picture, &mut stored)
-}
-
-fn one_if(r: u32, k: u32) -> u64
-    ensures { result ≤ 1 }
-{
-    if r == k { 1 } else { 0 }
-}
-
-fn say(to: &impl Print, n: u64, text: &str) -> io::Result<()> {
-    println!(to; "{n} {text}")
+// Whether the case comes out as stored, and is not cut short.
+fn replay(input: &mut impl Read, head: Head) -> io::Result<bool> {
+    let mut picture = [0; RESULT_BYTES];
+    let Some(picture) = get(input, &mut picture, head.picture_bytes)? else {
+        return Ok(false);
+    };
+    let mut stored = [0; RESULT_BYTES];
+    let Some(stored) = get(input, &mut stored, head.result_bytes)? else {
+        return Ok(false);
+    };
+    let mut result = [FILL; RESULT_BYTES];
+    let number = virdzeba_sink(picture, &mut result, head.registers, head.operands);
+    Ok(number == head.number && is_stored(&result, stored))
 }
 
 fn main(rt: HostRuntime) -> io::Result<()> {
     let mut input = rt.reader();
-    let mut right = 0u64;
-    let mut wrong = 0u64;
-    let mut i = 0u64;
-    while i < 4096 {
-        let r = next(&mut input)?;
-        if r == 0 {
+    let mut right = 0u32;
+    let mut wrong = 0u32;
+    for case in 0..CASES {
+        let Some(head) = next(&mut input)? else {
             break;
+        };
+        if replay(&mut input, head)? {
+            right += 1;
+        } else {
+            wrong += 1;
         }
-        right += one_if(r, 1);
-        wrong += one_if(r, 2);
-        i += 1;
     }
-    say(&rt, right, "as stored")?;
-    say(&rt, wrong, "otherwise")
+    println!(rt; "{right} as stored")?;
+    println!(rt; "{wrong} otherwise")
 }

@@ -1,15 +1,15 @@
--- `report` meets its contract: the text stands at the head of zeros. Assumes nothing.
-use native.Mathlib.Nat.{le_refl}
-use lib.Dec.{lit≤}
-use borrow.Author.Tests.{not-true, not-false}
-use Rattle.report.proofs.Texts.{whole_text, unread_is, few, read_is}
+-- `report` meets its contract: what is printed for a picture that can be read. Assumes nothing.
+use Rattle.std.proofs.Common.{◌∙◌, ◌++◌, List, ℕ, ap, length, le_refl, sym, arith}
+use Rattle.report.specs.Text.{round_heading}
+use Rattle.report.specs.Report.{ran_text}
+use Rattle.report.proofs.Told.{told}
 use Rattle.report.proofs.report.Goals as goal
 
-pub returns-then-not-r : goal.returns-then-not-r
-returns-then-not-r c = whole_text c.put_nothing-n.ensures (lit≤ tt) (unread_is c.args.input.now (le_refl 53024) c.sink_bytes-r.ensures.value (not-true _ c.if-not-r.true))
+pub put_ran-requires : goal.put_ran-requires
+put_ran-requires c = ((told c.args.input.now (le_refl 53024) (sym c.in-Some.is ∙ c.sink_bytes.ensures.value)).0, omega (arith, c.push_str.ensures.len, ap length c.new-text.ensures))
 
-pub put_ran-n-requires : goal.put_ran-n-requires
-put_ran-n-requires c = (few c.args.input.now (le_refl 53024) c.sink_bytes-r.ensures.value (not-false _ c.if-not-r.false), lit≤ tt)
-
-pub returns : goal.returns
-returns c = whole_text c.put_ran-n.ensures (lit≤ tt) (read_is c.args.input.now (le_refl 53024) c.sink_bytes-r.ensures.value (not-false _ c.if-not-r.false))
+pub returns-in-Some : goal.returns-in-Some
+returns-in-Some c =
+    let ran = c.in-Some.ran in
+    c.put_ran.ensures ∙ ap (λ (t : List ℕ). t ++ ran_text ran.answer ran.lines) (c.push_str.ensures.bytes ∙ ap (λ (t : List ℕ). t ++ round_heading) c.new-text.ensures)
+    ∙ (told c.args.input.now (le_refl 53024) (sym c.in-Some.is ∙ c.sink_bytes.ensures.value)).1
