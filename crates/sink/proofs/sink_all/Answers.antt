@@ -6,7 +6,7 @@ use Rattle.sink.proofs.sink_all.Goals as goal
 pub run-requires : goal.run-requires
 run-requires c =
     let a = c.args in
-    (c.table-t.ensures, coming (picture_of a.bounds.now a.recs.now a.locs.now a.vias.now a.types.now a.regs a.ops.now a.opers a.pairs.now a.targets.now a.replay.now) a.work64.now a.work32.now a.facts.now (c.start-m.ensures a.replay.now))
+    coming (picture_of a.bounds.now a.recs.now a.locs.now a.vias.now a.types.now a.regs a.ops.now a.opers a.pairs.now a.targets.now a.replay.now) a.work64.now a.work32.now a.facts.now (c.start-m.ensures a.replay.now)
 
 pub returns : goal.returns
 returns c =
