@@ -15,15 +15,17 @@ use Rattle.words.specs.Lists.{mem}
 use Rattle.words.proofs.Bools.{lt?, clash}
 use Rattle.model.specs.Picture.{Inst, inst, absent, kind, reads, writes}
 use Rattle.model.specs.Analyse.{Facts, Fact, fact, no_fact, last_writer, may_suspend}
-use Rattle.inst.specs.Table.{packed}
+use Rattle.inst.specs.Table.{packed, arm_at}
 use Rattle.inst.specs.Table as T
 use Rattle.inst.specs.declared.access.Firsts.{Firsts}
 use Rattle.inst.specs.Firsts.{Heads}
 use Rattle.inst.proofs.Firsts.{Present, all_written, all_read}
-use Rattle.effects.specs.Arms.{leads}
+use Rattle.effects.specs.Arms.{arm_of, leads}
+use Rattle.effects.specs.declared.arms.Arm.{Arm}
+use Rattle.effects.proofs.Origins.{class_kept}
 use Rattle.effects.specs.declared.arms.Effect.{Effect}
 use Rattle.effects.specs.declared.arms.Input.{Input}
-use Rattle.analyse.specs.declared.look.Value.{Value}
+use Rattle.effects.specs.declared.origin.Value.{Value}
 use Rattle.regfacts.specs.Written.{Fits, Written, settle}
 use Rattle.regfacts.specs.Flags.{Seen}
 use Rattle.analyse.specs.State.{Stands, place_at, left_in, Left, Marked, Ranges, Ranged, Asked, Low, Judged}
@@ -65,8 +67,8 @@ some_read good = record { each = λ k h e. omega (arith, good.good.each k h, goo
 
 -- ---- one position
 
-module _ (recs ops : List ℕ) (e : Effect) (b : Bool) (y : Input) {regs regs' : List ℕ} {g p R a : ℕ} {x : Firsts} (ranged : Ranged R p regs) (few : p + 1 < 1000) (good : Learnable recs ops R g)
-    (ea : a ≡ T.arm (packed (kind (inst recs g)))) (low : Low p (inst recs g) e) (heads : Heads (reads ops (inst recs g)) (writes (inst recs g)) x)
+module _ (recs ops : List ℕ) (e : Effect) (b : Bool) (y : Input) (a : Arm) {regs regs' : List ℕ} {g p R : ℕ} {x : Firsts} (ranged : Ranged R p regs) (few : p + 1 < 1000) (good : Learnable recs ops R g)
+    (ea : arm_of a ≡ arm_at (T.arm (packed (kind (inst recs g))))) (low : Low p (inst recs g) e) (heads : Heads (reads ops (inst recs g)) (writes (inst recs g)) x)
     (m : Written (marked (stamp p e.org e.len (leads a y e))) (inst recs g) regs regs') where
   abbrev i : Inst
   i = inst recs g
@@ -131,7 +133,7 @@ module _ (recs ops : List ℕ) (e : Effect) (b : Bool) (y : Input) {regs regs' :
   stands_by : (G : Facts) (past : List Fact) → b ≡ may_suspend i → Judged e (fact G ops past i) → Stands (fact_of g e b x) (fact G ops past i)
   unfolding fact_of
   stands_by G past eb j = record {
-    class = j.class;
+    class = class_kept e.class ∙ j.class;
     org = j.org;
     len = j.len;
     layout = j.layout;

@@ -15,7 +15,7 @@ use Rattle.inst.specs.declared.index.Reg.{Reg}
 use Rattle.inst.proofs.Indices.{reg_made, among_made}
 use Rattle.effects.specs.Origin.{org_at, num}
 use Rattle.effects.proofs.Origins.{num_le}
-use Rattle.analyse.specs.declared.look.Value.{Value}
+use Rattle.effects.specs.declared.origin.Value.{Value}
 use Rattle.regfacts.specs.Flags.{flags_of, Seen}
 use Rattle.analyse.specs.State.{place_at, left_in, Left, Marked, Ranges, Ranged, org_reg, len_reg, Reg?, Valued}
 use Rattle.analyse.proofs.Layouts.{lay_low}

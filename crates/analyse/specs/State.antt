@@ -6,14 +6,15 @@ use Rattle.model.specs.Picture.{Inst, absent, kind, reads}
 use Rattle.model.specs.Analyse.{Facts, Fact, Org, Unknown, no_fact, last_writer, org_of, len_of, is_layout, when_some, known_of, positive, sized}
 use Rattle.inst.specs.Constant.{constant_of}
 use Rattle.inst.specs.declared.access.Firsts.{Firsts}
-use Rattle.effects.specs.Origin.{org_at, class_at, wrote_at, from_at}
+use Rattle.effects.specs.Origin.{org_at, class_at, class_of, wrote_at, from_at}
 unfoldable pub use Rattle.effects.specs.Origin.{place_at}
 use Rattle.facts.specs.declared.Fact as F
 use Rattle.facts.specs.Marks.{fact_in}
+use Rattle.effects.specs.Arms.{read_at}
 use Rattle.effects.specs.declared.arms.Input.{Input}
 use Rattle.effects.specs.declared.arms.Effect.{Effect}
 use Rattle.regfacts.specs.Flags.{Seen, is_length}
-use Rattle.analyse.specs.declared.look.Value.{Value}
+use Rattle.effects.specs.declared.origin.Value.{Value}
 
 -- ---- a position's fact
 
@@ -114,15 +115,15 @@ pub record Asked (G : Facts) (past : List Fact) (ops : List ℕ) (i : Inst) (x :
   pub list : get_or i 8 0 ≡ x.list
   pub small : is_length (constant_of i) ≡ x.small
   pub p : x.p ≡ length past
-  pub o0 : org_at x.o0 ≡ org_reg G past (get_or (reads ops i) 0 absent)
-  pub o1 : org_at x.o1 ≡ org_reg G past (get_or (reads ops i) 1 absent)
-  pub o2 : org_at x.o2 ≡ org_reg G past (get_or (reads ops i) 2 absent)
-  pub l0 : x.l0 ≡ len_reg G past (get_or (reads ops i) 0 absent)
-  pub l1 : x.l1 ≡ len_reg G past (get_or (reads ops i) 1 absent)
-  pub l2 : x.l2 ≡ len_reg G past (get_or (reads ops i) 2 absent)
+  pub o0 : org_at (read_at x 0).org ≡ org_reg G past (get_or (reads ops i) 0 absent)
+  pub o1 : org_at (read_at x 1).org ≡ org_reg G past (get_or (reads ops i) 1 absent)
+  pub o2 : org_at (read_at x 2).org ≡ org_reg G past (get_or (reads ops i) 2 absent)
+  pub l0 : (read_at x 0).len ≡ len_reg G past (get_or (reads ops i) 0 absent)
+  pub l1 : (read_at x 1).len ≡ len_reg G past (get_or (reads ops i) 1 absent)
+  pub l2 : (read_at x 2).len ≡ len_reg G past (get_or (reads ops i) 2 absent)
   pub divisor : x.divisor ≡ when_some positive (known_of G (get_or (reads ops i) 1 absent)).konst
-  pub layout : sized (λ k. x.layout) (org_at x.o0) ≡ sized (is_layout past) (org_at x.o0)
-  pub layout1 : sized (λ k. x.layout1) (org_at x.o1) ≡ sized (is_layout past) (org_at x.o1)
+  pub layout : sized (λ k. (read_at x 0).layout) (org_at (read_at x 0).org) ≡ sized (is_layout past) (org_at (read_at x 0).org)
+  pub layout1 : sized (λ k. (read_at x 1).layout) (org_at (read_at x 1).org) ≡ sized (is_layout past) (org_at (read_at x 1).org)
 
 -- what is not named writes memory nobody can place
 unfoldable pub fill_in : Option Org → Bool → Option Org
@@ -136,7 +137,7 @@ pub record Low (p : ℕ) (i : Inst) (e : Effect) : Type 0 where
 
 -- the struct e stands for the fact f
 pub record Judged (e : Effect) (f : Fact) : Type 0 where
-  pub class : class_at e.class ≡ f.does.class
+  pub class : class_of e.class ≡ f.does.class
   pub org : org_at e.org ≡ f.does.org
   pub len : e.len ≡ f.does.len
   pub layout : e.layout ≡ f.does.layout

@@ -6,7 +6,7 @@ use Rattle.model.specs.Analyse.{Facts, Fact, fact, analyse}
 use Rattle.model.specs.Move.{chain_places}
 use Rattle.inst.specs.Record.{present}
 use Rattle.inst.specs.declared.access.Firsts.{Firsts}
-use Rattle.effects.specs.Origin.{num}
+use Rattle.effects.specs.Origin.{num, class_code}
 use Rattle.facts.specs.declared.Fact as F
 use Rattle.facts.specs.Marks.{fact_in}
 use Rattle.effects.specs.declared.arms.Effect.{Effect}
@@ -45,7 +45,7 @@ more x = not (eqb x.d1 absent) || not (eqb x.r2 absent)
 unfoldable pub fact_of : ℕ → Effect → Bool → Firsts → F.Fact
 fact_of g e s x = record {
   rec = g;
-  class = e.class;
+  class = class_code e.class;
   org = e.org;
   wrote = e.wrote;
   from = e.from;

@@ -6,20 +6,20 @@ ghost use Rattle.inst.specs.Table.{packed};
 ghost use Rattle.inst.specs.Record.{Within, Known};
 ghost use Rattle.inst.specs.Firsts.{Heads};
 ghost use Rattle.inst.specs.Constant.{constant_of};
-ghost use Rattle.effects.specs.Origin.{class_at, wrote_at};
+ghost use Rattle.effects.specs.Origin.{class_of, wrote_at};
 ghost use Rattle.effects.specs.Arms.{Small};
 ghost use Rattle.regfacts.specs.Flags.{is_length};
 ghost use Rattle.regfacts.specs.Written.{Good};
 ghost use Rattle.analyse.specs.State.{Marked, Ranged, Below, Asked, fill_in, Low, Judged};
 
 use crate::look::{is_divisor, value_of};
-use effects::arms::{Effect, Input};
+use effects::arms::{Arm, Effect, Input};
 use inst::access::Firsts;
 use inst::constant::decode;
 use inst::index::Reg;
 use inst::kinds::CALL_NATIVE;
 use inst::record::{form, kind, word};
-use inst::table::{arm, quiet};
+use inst::table::quiet;
 use regfacts::flags::is_length;
 
 // Does record g hold a constant that is a length?
@@ -42,28 +42,21 @@ pub fn ask(recs: &[u32], regs: &[u64], x: Firsts, g: usize, p: u32, count: usize
     Input {
         form: form(recs, g),
         list: word(recs, g, 8),
-        p: p,
-        o0: v0.org,
-        o1: v1.org,
-        o2: v2.org,
-        l0: v0.len,
-        l1: v1.len,
-        l2: v2.len,
+        p,
+        reads: [v0, v1, v2],
         divisor: is_divisor(regs, r1),
         small: holds_length(recs, g),
-        layout: v0.layout,
-        layout1: v1.layout,
     }
 }
 
 // The memory written: what is not named writes memory nobody can place.
 fn placed(e: Effect, quiet: bool, native: bool) -> u32
-    ensures { (wrote_at result ≡ fill_in (wrote_at e.wrote) (movable (class_at e.class) || e.barrier || quiet || native)) × (e.wrote ≤ 2004 → result ≤ 2004) }
+    ensures { (wrote_at result ≡ fill_in (wrote_at e.wrote) (movable (class_of e.class) || e.barrier || quiet || native)) × (e.wrote ≤ 2004 → result ≤ 2004) }
 {
     if e.wrote != 0 {
         return e.wrote;
     }
-    if (e.class == 1) | e.barrier | quiet | native {
+    if e.class.is_movable() | e.barrier | quiet | native {
         return 0;
     }
     1
@@ -74,16 +67,7 @@ pub fn judge(recs: &[u32], g: usize, m: u32, y: Input) -> Effect
     requires { Known recs.now g × (m ≡ packed (kind (inst recs.now g))) × Small y }
     ensures { Low y.p (inst recs.now g) result × ((ops : List ℕ) (G : Facts) (past : List Fact) (R : ℕ) → R ≤ 65536 → Good recs.now ops R g → Asked G past ops (inst recs.now g) y → Judged result (fact G ops past (inst recs.now g))) }
 {
-    let e = effects::arms::arm(arm(m), y);
+    let e = Arm::of(m).effect(y);
     let wrote = placed(e, quiet(m), kind(recs, g) == CALL_NATIVE);
-    Effect {
-        class: e.class,
-        org: e.org,
-        len: e.len,
-        layout: e.layout,
-        creates: e.creates,
-        wrote: wrote,
-        barrier: e.barrier,
-        from: e.from,
-    }
+    Effect { wrote, ..e }
 }

@@ -9,12 +9,12 @@ ghost use Rattle.analyse.specs.Step.{more, fact_of, Learnable, Learned};
 
 use crate::judge::{ask, judge};
 use crate::marks::{mark_record, stamp};
-use effects::arms::{Effect, leads};
+use effects::arms::{Arm, Effect};
 use facts::Fact;
 use inst::access::{Firsts, row_at, scan, uses};
 use inst::kinds::{CALL, CALL_INDIRECT, CALL_PROT, SUSPEND};
 use inst::record::{form, kind};
-use inst::table::{Table, arm};
+use inst::table::Table;
 use model::ABSENT;
 
 // May record g suspend?
@@ -41,7 +41,7 @@ fn fact_of(g: usize, e: Effect, stops: bool, x: Firsts) -> Fact
 {
     Fact {
         rec: g as u32,
-        class: e.class,
+        class: e.class.number(),
         org: e.org,
         wrote: e.wrote,
         from: e.from,
@@ -76,7 +76,7 @@ pub fn learn_one(
     let m = row_at(t, recs, g);
     let y = ask(recs, regs, x, g, p, count);
     let e = judge(recs, g, m, y);
-    let d = stamp(p, e.org, e.len, leads(arm(m), y, e));
+    let d = stamp(p, e.org, e.len, Arm::of(m).leads(y, e));
     mark_record(recs, regs, x, g, u, d);
     fact_of(g, e, may_suspend(recs, g), x)
 }

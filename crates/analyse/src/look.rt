@@ -9,6 +9,7 @@ ghost use Rattle.effects.specs.Origin.{org_at};
 ghost use Rattle.regfacts.specs.Flags.{flags_of, Seen};
 ghost use Rattle.analyse.specs.State.{Marked, Ranged, Valued, left_in};
 
+use effects::origin::Value;
 use inst::index::Reg;
 use regfacts::flags::FLAGS;
 
@@ -31,14 +32,6 @@ fn flags_org(f: u64) -> u32
         return 3;
     }
     0
-}
-
-// What is known of a register's value: where it points, whether it is a length, and whether it points to a layout.
-#[derive(Clone, Copy)]
-pub struct Value {
-    pub org: u32,
-    pub len: bool,
-    pub layout: bool,
 }
 
 // What a register's word says, where there is a writer.

@@ -272,7 +272,7 @@ module _ {bounds recs words : List ℕ} {B : ℕ} {c₀ c : Chain} (blocks : Blo
   }
 
 -- where it goes does not matter to the blocks
-pub sound_ends : {c : Chain} {B : ℕ} (x y : BlockId) → Sound c B → Sound (record { b0 = c.b0; b1 = c.b1; b2 = c.b2; b3 = c.b3; b4 = c.b4; b5 = c.b5; count = c.count; t = x; f = y }) B
+pub sound_ends : {c : Chain} {B : ℕ} (x y : BlockId) → Sound c B → Sound (record { blocks = c.blocks; count = c.count; t = x; f = y }) B
 unfolding blocks_of
 sound_ends x y s = record { few = record { least = s.few.least; most = s.few.most }; each = s.each }
 

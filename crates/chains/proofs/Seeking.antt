@@ -1,9 +1,13 @@
 -- A cursor goes along a chain: what is left from block to block, and from a position to the next. Assumes nothing.
+use mathlib.Core.Bool.{Bool, true, false, ◌&&◌}
 use mathlib.Core.List.{List, [], ◌∷◌, ◌++◌}
 use mathlib.Core.Path.{◌≡◌, refl, sym, ap, ◌∙◌}
 use Prim.Native.Nat.{ℕ, suc, ◌+◌, ◌-◌, ◌≤◌, ◌<◌}
 use native.Mathlib.Numerals.{add-one}
 use native.Mathlib.Omega.{arith}
+use lib.Dec.{leb, ltb}
+use borrow.Author.Tests.{le-leb, leb-true, ltb-true, ltb-false}
+use Rattle.words.proofs.Bools.{left_true, right_true}
 use lib.ListN.{length, drop, drop_of_length-le}
 use Rattle.words.specs.Lists.{range}
 use Rattle.model.specs.Picture.{Picture}
@@ -51,6 +55,21 @@ seeking_more {bounds} {c} {k₀} {g₀} {past₀} {k} {g} {past} x s q h l i = r
   inside = block_inside x l i;
   same = λ P e. q.same P e ∙ none_left P (blocks_of c) k g past h ∙ block_left P (k + 1) x e i (rw (blocks_long s.few) l);
 }
+
+-- the test of the loop: no position is left of the block, and there is another
+module _ (x : Cursor) (n : ℕ) where
+  pub at_end : (leb x.past x.g && ltb (x.k + 1) n) ≡ true → x.past ≤ x.g
+  at_end t = leb-true x.past x.g (left_true (leb x.past x.g) (ltb (x.k + 1) n) t)
+
+  pub more_blocks : (leb x.past x.g && ltb (x.k + 1) n) ≡ true → x.k + 1 < n
+  more_blocks t = ltb-true (x.k + 1) n (right_true (leb x.past x.g) (ltb (x.k + 1) n) t)
+
+  no_more : (leb x.past x.g && ltb (x.k + 1) n) ≡ false → x.past ≤ x.g → n ≤ x.k + 1
+  no_more t h = ltb-false (x.k + 1) n (sym (ap (λ (b : Bool). b && ltb (x.k + 1) n) (le-leb x.past x.g h)) ∙ t)
+
+pub stands : {bounds : List ℕ} {c : Chain} {k₀ g₀ past₀ : ℕ} (x : Cursor) → Seeking bounds c k₀ g₀ past₀ x.k x.g x.past → (leb x.past x.g && ltb (x.k + 1) c.count) ≡ false
+    → Standing bounds c x × ((P : Picture) → P.bounds ≡ bounds → left_of P (blocks_of c) k₀ g₀ past₀ ≡ left_of P (blocks_of c) x.k x.g x.past)
+stands {c = c} x s t = (record { inside = s.inside; ended = no_more x c.count t }, s.same)
 
 -- ---- the first, and the next
 

@@ -1,6 +1,7 @@
 -- 01, "A round": a chain as a struct of six block numbers and a count, and what the words of blocks and predecessors stand
 -- for. Assumes nothing.
-use Rattle.std.specs.Prelude.{◌≡◌, List, [], ◌∷◌, ℕ, ◌+◌, ◌*◌, ◌-◌, ◌≤◌, ◌<◌, true, false, eqb, get_or, length, take, Option, Some, None}
+use Rattle.std.specs.Prelude.{◌≡◌, List, [], ◌∷◌, ℕ, ◌+◌, ◌*◌, ◌-◌, ◌≤◌, ◌<◌, true, false, eqb, get_or, length, map, Option, Some, None}
+use Rattle.words.specs.Lists.{upto}
 use Rattle.model.specs.Picture.{Picture, inst, End, goes, parts, cases, stops, end_of, ending, preds}
 use Rattle.model.specs.Move as M
 use Rattle.model.specs.Move.{chain, chain_from}
@@ -10,9 +11,12 @@ use Rattle.chains.specs.declared.chain.Ending.TheVariants.{Goes, Parts, Stops}
 
 -- ---- the struct
 
--- its blocks, and the last of them
+-- its blocks, as many as are in use, and the last of them
+abbrev pub block_at : Chain → ℕ → ℕ
+block_at c k = (get_or c.blocks k (record { 0 = 0 })).0
+
 unfoldable pub blocks_of : Chain → List ℕ
-blocks_of c = take c.count (c.b0.0 ∷ c.b1.0 ∷ c.b2.0 ∷ c.b3.0 ∷ c.b4.0 ∷ c.b5.0 ∷ [])
+blocks_of c = map (block_at c) (upto c.count)
 
 unfoldable pub last_of : Chain → ℕ
 last_of c = get_or (blocks_of c) (c.count - 1) 0

@@ -8,17 +8,11 @@ ghost use Rattle.chains.specs.Chain.{blocks_of, last_of, ended, chain_of, ending
 use inst::index::BlockId;
 use inst::kinds::{BR, COND_BR};
 use inst::record::{kind, word};
-use words::numbers::wide;
 
-// The blocks in use come first; t and f are where the last of them goes.
+// Of the blocks the first `count` are in use; t and f are where the last of them goes.
 #[derive(Clone, Copy)]
 pub struct Chain {
-    pub b0: BlockId,
-    pub b1: BlockId,
-    pub b2: BlockId,
-    pub b3: BlockId,
-    pub b4: BlockId,
-    pub b5: BlockId,
+    pub blocks: [BlockId; 6],
     pub count: u32,
     pub t: BlockId,
     pub f: BlockId,
@@ -38,12 +32,7 @@ impl Chain {
         ensures { (blocks_of result ≡ (b.0 ∷ [])) × (result.count ≡ 1) }
     {
         Self {
-            b0: b,
-            b1: b,
-            b2: b,
-            b3: b,
-            b4: b,
-            b5: b,
+            blocks: [b; 6],
             count: 1,
             t: b,
             f: b,
@@ -55,22 +44,7 @@ impl Chain {
         requires { Few self × (k < self.count) }
         ensures { result.0 ≡ get_or (blocks_of self) k 0 }
     {
-        if k < 1 {
-            return self.b0;
-        }
-        if k < 2 {
-            return self.b1;
-        }
-        if k < 3 {
-            return self.b2;
-        }
-        if k < 4 {
-            return self.b3;
-        }
-        if k < 5 {
-            return self.b4;
-        }
-        self.b5
+        self.blocks[k as usize]
     }
 
     // The last block.
@@ -78,8 +52,7 @@ impl Chain {
         requires { Few self }
         ensures { result.0 ≡ last_of self }
     {
-        let n = self.count;
-        self.nth(n - 1)
+        self.nth(self.count - 1)
     }
 
     // Does it have block b?
@@ -87,17 +60,7 @@ impl Chain {
         requires { Few self }
         ensures { result ≡ mem b.0 (blocks_of self) }
     {
-        let n = self.count;
-        let x = b.number();
-        let y0 = self.b0.number();
-        let y1 = self.b1.number();
-        let y2 = self.b2.number();
-        let y3 = self.b3.number();
-        let y4 = self.b4.number();
-        let y5 = self.b5.number();
-        let h4 = ((4 < n) & (x == y4)) | ((5 < n) & (x == y5));
-        let h2 = ((2 < n) & (x == y2)) | (((3 < n) & (x == y3)) | h4);
-        (x == y0) | (((1 < n) & (x == y1)) | h2)
+        self.blocks[..self.count as usize].contains(&b)
     }
 
     // Is block b a target: not in the chain, and its sole predecessor the chain's end?
@@ -109,9 +72,7 @@ impl Chain {
             return false;
         }
         let at = b.at();
-        let x = self.last();
-        let last = x.number();
-        (preds[2 * at] == 1) & (preds[2 * at + 1] == last)
+        (preds[2 * at] == 1) & (preds[2 * at + 1] == self.last().number())
     }
 
     // One block more.
@@ -120,25 +81,8 @@ impl Chain {
         ensures { (blocks_of result ≡ blocks_of self ++ (b.0 ∷ [])) × (result.count ≡ self.count + 1) }
     {
         let mut c = self;
-        let n = self.count;
-        c.count = n + 1;
-        if n < 2 {
-            c.b1 = b;
-            return c;
-        }
-        if n < 3 {
-            c.b2 = b;
-            return c;
-        }
-        if n < 4 {
-            c.b3 = b;
-            return c;
-        }
-        if n < 5 {
-            c.b4 = b;
-            return c;
-        }
-        c.b5 = b;
+        c.blocks[self.count as usize] = b;
+        c.count += 1;
         c
     }
 
@@ -147,16 +91,9 @@ impl Chain {
         requires { Sound self blocks × (t < blocks) × (f < blocks) }
         ensures { SoundOf result blocks × (chain_of result ≡ ended self t f) }
     {
-        let Some(a) = BlockId::new(t, blocks) else {
-            return None;
-        };
-        let Some(b) = BlockId::new(f, blocks) else {
-            return None;
-        };
-        let mut c = self;
-        c.t = a;
-        c.f = b;
-        Some(c)
+        let t = BlockId::new(t, blocks)?;
+        let f = BlockId::new(f, blocks)?;
+        Some(Chain { t, f, ..self })
     }
 
     // With block `to`, if that may be gathered: at most six, one predecessor, none twice.
@@ -164,14 +101,11 @@ impl Chain {
         requires { Sound self blocks × (to < blocks) × (2 * blocks ≤ length preds.now) }
         ensures { Next self to preds.now blocks result }
     {
-        let Some(b) = BlockId::new(to, blocks) else {
-            return None;
-        };
+        let b = BlockId::new(to, blocks)?;
         if self.count == 6 {
             return None;
         }
-        let at = b.at();
-        if preds[2 * at] != 1 {
+        if preds[2 * b.at()] != 1 {
             return None;
         }
         if self.has(b) {
@@ -191,7 +125,8 @@ pub fn end_of(bounds: &[u32], recs: &[u32], b: usize) -> Ending
     if e <= s {
         return Ending::Stops;
     }
-    let p = wide(e - 1);
+    let p = (e - 1) as usize;
+    // A `match` on the number of a kind would prove nothing in its last arm.
     let k = kind(recs, p);
     if k == BR {
         return Ending::Goes(word(recs, p, 9));
@@ -214,20 +149,11 @@ pub fn find_chain(
     ensures { Found bounds.now recs.now preds.now x.0 blocks result }
 {
     let mut c = Chain::start(x);
-    while c.count < 7 {
+    for _i in 0..6u32 {
         match end_of(bounds, recs, c.last().at()) {
-            Ending::Goes(to) => {
-                let Some(d) = c.next(preds, to, blocks) else {
-                    return None;
-                };
-                c = d;
-            }
-            Ending::Parts(t, f) => {
-                return c.ends(t, f, blocks);
-            }
-            Ending::Stops => {
-                return None;
-            }
+            Ending::Goes(to) => c = c.next(preds, to, blocks)?,
+            Ending::Parts(t, f) => return c.ends(t, f, blocks),
+            Ending::Stops => return None,
         }
     }
     None

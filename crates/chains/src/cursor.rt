@@ -22,28 +22,17 @@ fn seek(bounds: &[u32], c: Chain, from: Cursor) -> Cursor
     requires { Laid bounds.now c × Inside bounds.now c from.k from.g from.past }
     ensures { Standing bounds.now c result × ((P : Picture) → P.bounds ≡ bounds.now → left_of P (blocks_of c) from.k from.g from.past ≡ left_of P (blocks_of c) result.k result.g result.past) }
 {
-    let many = c.count;
-    let mut k = from.k;
-    let mut g = from.g;
-    let mut past = from.past;
-    while k + 1 < many {
-        if g < past {
-            return Cursor {
-                k: k,
-                g: g,
-                past: past,
-            };
-        }
-        k += 1;
-        let x = part_of(bounds, c, k);
-        g = x.from;
-        past = x.past;
+    let mut at = from;
+    while (at.past <= at.g) & (at.k + 1 < c.count) {
+        let k = at.k + 1;
+        let part = part_of(bounds, c, k);
+        at = Cursor {
+            k,
+            g: part.from,
+            past: part.past,
+        };
     }
-    Cursor {
-        k: k,
-        g: g,
-        past: past,
-    }
+    at
 }
 
 // At the first position.
@@ -51,11 +40,11 @@ pub fn first(bounds: &[u32], c: Chain) -> Cursor
     requires { Laid bounds.now c }
     ensures { Standing bounds.now c result × ((P : Picture) → P.bounds ≡ bounds.now → chain_places P (blocks_of c) ≡ left_of P (blocks_of c) result.k result.g result.past) }
 {
-    let x = part_of(bounds, c, 0);
+    let part = part_of(bounds, c, 0);
     let from = Cursor {
         k: 0,
-        g: x.from,
-        past: x.past,
+        g: part.from,
+        past: part.past,
     };
     seek(bounds, c, from)
 }
@@ -65,10 +54,5 @@ pub fn next(bounds: &[u32], c: Chain, at: Cursor) -> Cursor
     requires { Laid bounds.now c × Standing bounds.now c at × (at.g < at.past) }
     ensures { Standing bounds.now c result × ((P : Picture) → P.bounds ≡ bounds.now → left_of P (blocks_of c) at.k at.g at.past ≡ at.g ∷ left_of P (blocks_of c) result.k result.g result.past) }
 {
-    let from = Cursor {
-        k: at.k,
-        g: at.g + 1,
-        past: at.past,
-    };
-    seek(bounds, c, from)
+    seek(bounds, c, Cursor { g: at.g + 1, ..at })
 }

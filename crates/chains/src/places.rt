@@ -6,7 +6,6 @@ ghost use Rattle.chains.specs.Chain.{blocks_of};
 ghost use Rattle.chains.specs.Places.{Laid, IsPart};
 
 use crate::chain::Chain;
-use words::numbers::wide;
 
 // The records from one number up to another.
 #[derive(Clone, Copy)]
@@ -21,8 +20,8 @@ pub fn part_of(bounds: &[u32], c: Chain, k: u32) -> Part
     ensures { IsPart bounds.now (blocks_of c) k result }
 {
     let b = c.nth(k).at();
-    let s = wide(bounds[2 * b]);
-    let e = wide(bounds[2 * b + 1]);
+    let s = bounds[2 * b] as usize;
+    let e = bounds[2 * b + 1] as usize;
     if (k + 1 < c.count) & (s < e) {
         return Part {
             from: s,
@@ -37,13 +36,10 @@ pub fn chain_len(bounds: &[u32], c: Chain) -> usize
     requires { Laid bounds.now c }
     ensures { (P : Picture) → P.bounds ≡ bounds.now → result ≡ length (chain_places P (blocks_of c)) }
 {
-    let count = c.count;
-    let mut n = 0usize;
-    let mut k = 0u32;
-    while k < count {
-        let x = part_of(bounds, c, k);
-        n += x.past - x.from;
-        k += 1;
+    let mut n = 0;
+    for k in 0..c.count {
+        let part = part_of(bounds, c, k);
+        n += part.past - part.from;
     }
     n
 }

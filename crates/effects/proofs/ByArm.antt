@@ -1,22 +1,23 @@
--- Each arm, by its number: the struct that the code gives is what `analyse` says. Assumes nothing.
+-- Each arm: the struct that the code gives is what `analyse` says. Assumes nothing.
 use Rattle.std.specs.Prelude.{Some}
 use mathlib.Core.Bool.{Bool, true, false, cond, ◌&&◌, ◌||◌}
 use mathlib.Core.List.{List, [], ◌∷◌}
 use mathlib.Core.Logic.{◌⊎◌, inl, inr}
 use mathlib.Core.Path.{◌≡◌, refl, sym, ap, ◌∙◌, subst}
 use Prim.Native.Nat.{ℕ, suc, ◌+◌, ◌*◌, ◌≤◌, ◌<◌}
-use native.Mathlib.Nat.{eq-or-lt_of_le}
 use native.Mathlib.Numerals.{add-one}
 use native.Mathlib.Omega.{arith}
-use borrow.Author.Tests.{ne_eqb}
+use borrow.Author.Tests.{eq-eqb, ne_eqb}
 use lib.Dec.{eqb, leb, ltb}
-use lib.ListN.{get_or, get_or-eq_default}
-use Rattle.model.specs.Kinds.{cat, other}
+use lib.ListN.{get_or}
+use Rattle.model.specs.Kinds.{cat}
 use Rattle.model.specs.Picture.{Inst, form}
-use Rattle.model.specs.Analyse.{Org, Unknown, Ro, Frame, arm, pieces, small, whole, same_org, inside, sized}
-use Rattle.inst.specs.Table.{arms, arm_at}
-use Rattle.effects.specs.Origin.{org_at, class_at, wrote_at, from_at}
-use Rattle.effects.specs.Arms.{effect_of, does, three, three_tests, asked, Right, Small}
+use Rattle.model.specs.Analyse.{Org, Unknown, Ro, Frame, pieces, small, whole, same_org, inside, sized}
+use Rattle.effects.specs.Origin.{org_at, wrote_at, from_at}
+use Rattle.effects.specs.Arms.{arm_of, effect_of, does, read_at, asked, Right, Small}
+use Rattle.effects.specs.declared.arms.Arm.{Arm}
+use Rattle.effects.specs.declared.arms.Arm.TheVariants.{Const, ConstF, AddrOf, Move, Select, Truth, Bin, Index, Check, DopeLen, Load, Alloc, LayoutOf, Signal, Fills, Store, Cat, Native, Stops, Deref, Writes, Other}
+use Rattle.effects.specs.declared.arms.Class.TheVariants.{No, Movable, Free}
 use Rattle.effects.specs.declared.arms.Effect.{Effect}
 use Rattle.effects.specs.declared.arms.Input.{Input}
 use Rattle.effects.proofs.Origins.{temp_at, img_at}
@@ -29,145 +30,138 @@ pub from_one : (n : ℕ) (ps : List Org) → n < 2004 → from_at (n + 1) ps ≡
 unfolding from_at
 from_one n ps h = ap (λ (x : ℕ). from_at x ps) (add-one n) ∙ ap (λ (b : Bool). cond b ps (org_at n ∷ [])) (ne_eqb (suc n) 4294967295 (λ e. omega arith))
 
--- a rule for each arm, at the number itself
-abbrev At : Effect → ℕ → Input → Type 0
-At r a x = (i : Inst) (list : List Org) → form i ≡ x.form → get_or i 8 0 ≡ x.list → (a ≡ 0 → small (whole i) ≡ x.small) → does r (pieces (get_or i 9 0) list) ≡ asked i a x list
+-- a rule for each arm, at the arm itself
+abbrev At : Effect → Arm → Input → Type 0
+At r a x = (i : Inst) (list : List Org) → form i ≡ x.form → get_or i 8 0 ≡ x.list → (a ≡ Const → small (whole i) ≡ x.small) → does r (pieces (get_or i 9 0) list) ≡ asked i a x list
 
-known : {r : Effect} {a n : ℕ} {x : Input} → a ≡ n → r.org < 6 + 2 * x.p → r.wrote ≤ 2004 → (r.from ≤ 2004) ⊎ ((r.from ≡ 4294967295) × (arm_at n ≡ cat)) → At r n x → Right r a x
-known {r} {a} {n} {x} e l w c h = record {
+known : {r s : Effect} {a b : Arm} {x : Input} → r ≡ s → a ≡ b → s.org < 6 + 2 * x.p → s.wrote ≤ 2004 → (s.from ≤ 2004) ⊎ ((s.from ≡ 4294967295) × (arm_of b ≡ cat)) → At s b x → Right r a x
+known {r} {s} {a} {b} {x} q e l w c h = subst (λ (t : Effect). Right t a x) (sym q) (record {
   near = l;
   wrote = w;
-  from = subst (λ (m : ℕ). (r.from ≤ 2004) ⊎ ((r.from ≡ 4294967295) × (arm_at m ≡ cat))) (sym e) c;
-  right = λ i list f g s. h i list f g (λ z. s (e ∙ z)) ∙ ap (λ (m : ℕ). asked i m x list) (sym e);
-}
-
-past_arms : (a : ℕ) → 21 ≤ a → arm_at a ≡ other
-past_arms a h = go (eq-or-lt_of_le h)
-  where
-    go : (21 ≡ a) ⊎ (21 < a) → get_or arms a other ≡ other
-    go (inl e) = ap (λ (k : ℕ). get_or arms k other) (sym e)
-    go (inr k) = get_or-eq_default arms other k
+  from = subst (λ (m : Arm). (s.from ≤ 2004) ⊎ ((s.from ≡ 4294967295) × (arm_of m ≡ cat))) (sym e) c;
+  right = λ i list f g z. h i list f g (λ y. z (e ∙ y)) ∙ ap (λ (m : Arm). asked i m x list) (sym e);
+})
 
 module _ (x : Input) (sm : Small x) where
-  first_low : x.o0 < 2004
+  first_low : (read_at x 0).org < 2004
   first_low = omega (arith, sm.first, sm.place)
 
-  pub arm_0 : {a : ℕ} → a ≡ 0 → Right (effect_of 2 0 x.small false false 0 false 0) a x
-  unfolding asked does three three_tests class_at effect_of wrote_at from_at org_at
-  arm_0 e = known e (omega (arith, sm.first, sm.place)) (omega (arith, sm.first, sm.place)) (inl (omega (arith, sm.first, sm.place))) (λ i list f g8 s. simp (s refl))
+  pub arm_const : {a : Arm} {r : Effect} → a ≡ Const → r ≡ effect_of Free 0 x.small false false 0 false 0 → Right r a x
+  unfolding asked does wrote_at from_at org_at
+  arm_const e q = known q e (omega (arith, sm.first, sm.place)) (omega (arith, sm.first, sm.place)) (inl (omega (arith, sm.first, sm.place))) (λ i list f g8 s. simp (s refl))
 
-  pub arm_1 : {a : ℕ} → a ≡ 1 → Right (effect_of 2 0 false false false 0 false 0) a x
-  unfolding asked does three three_tests class_at effect_of wrote_at from_at org_at
-  arm_1 e = known e (omega (arith, sm.first, sm.place)) (omega (arith, sm.first, sm.place)) (inl (omega (arith, sm.first, sm.place))) (λ i list f g8 s. refl)
+  pub arm_constF : {a : Arm} {r : Effect} → a ≡ ConstF → r ≡ effect_of Free 0 false false false 0 false 0 → Right r a x
+  unfolding asked does wrote_at from_at org_at
+  arm_constF e q = known q e (omega (arith, sm.first, sm.place)) (omega (arith, sm.first, sm.place)) (inl (omega (arith, sm.first, sm.place))) (λ i list f g8 s. refl)
 
-  pub arm_2 : {a : ℕ} → a ≡ 2 → (g : ℕ) → org_at g ≡ cond (eqb x.form 2 || eqb x.form 4) Ro (cond (eqb x.form 0) Frame Unknown) → g < 4 → Right (effect_of 2 g false false false 0 false 0) a x
-  unfolding asked does three three_tests class_at effect_of wrote_at from_at org_at
-  arm_2 e g eg ng = known e (omega (arith, ng)) (omega (arith, sm.first, sm.place)) (inl (omega (arith, sm.first, sm.place))) (λ i list f g8 s. simp (f, eg))
+  pub arm_addr_of : {a : Arm} {r : Effect} → a ≡ AddrOf → (g : ℕ) → org_at g ≡ cond (eqb x.form 2 || eqb x.form 4) Ro (cond (eqb x.form 0) Frame Unknown) → g < 4 → r ≡ effect_of Free g false false false 0 false 0 → Right r a x
+  unfolding asked does wrote_at from_at org_at
+  arm_addr_of e g eg ng q = known q e (omega (arith, ng)) (omega (arith, sm.first, sm.place)) (inl (omega (arith, sm.first, sm.place))) (λ i list f g8 s. simp (f, eg))
 
-  pub arm_3 : {a : ℕ} → a ≡ 3 → Right (effect_of 1 x.o0 x.l0 false false 0 false 0) a x
-  unfolding asked does three three_tests class_at effect_of wrote_at from_at org_at
-  arm_3 e = known e (omega (arith, sm.first, sm.place)) (omega (arith, sm.first, sm.place)) (inl (omega (arith, sm.first, sm.place))) (λ i list f g8 s. refl)
+  pub arm_move : {a : Arm} {r : Effect} → a ≡ Move → r ≡ effect_of Movable (read_at x 0).org (read_at x 0).len false false 0 false 0 → Right r a x
+  unfolding asked does wrote_at from_at org_at
+  arm_move e q = known q e (omega (arith, sm.first, sm.place)) (omega (arith, sm.first, sm.place)) (inl (omega (arith, sm.first, sm.place))) (λ i list f g8 s. refl)
 
-  pub arm_4 : {a : ℕ} → a ≡ 4 → (g : ℕ) → org_at g ≡ cond (same_org (org_at x.o1) (org_at x.o2)) (org_at x.o1) Unknown → g ≤ x.o1 → Right (effect_of 1 g (x.l1 && x.l2) false false 0 false 0) a x
-  unfolding asked does three three_tests class_at effect_of wrote_at from_at org_at
-  arm_4 e g eg ng = known e (omega (arith, ng, sm.second)) (omega (arith, sm.first, sm.place)) (inl (omega (arith, sm.first, sm.place))) (λ i list f g8 s. simp (eg))
+  pub arm_select : {a : Arm} {r : Effect} → a ≡ Select → (g : ℕ) → org_at g ≡ cond (same_org (org_at (read_at x 1).org) (org_at (read_at x 2).org)) (org_at (read_at x 1).org) Unknown → g ≤ (read_at x 1).org → r ≡ effect_of Movable g ((read_at x 1).len && (read_at x 2).len) false false 0 false 0 → Right r a x
+  unfolding asked does wrote_at from_at org_at
+  arm_select e g eg ng q = known q e (omega (arith, ng, sm.second)) (omega (arith, sm.first, sm.place)) (inl (omega (arith, sm.first, sm.place))) (λ i list f g8 s. simp (eg))
 
-  pub arm_5 : {a : ℕ} → a ≡ 5 → Right (effect_of 1 0 true false false 0 false 0) a x
-  unfolding asked does three three_tests class_at effect_of wrote_at from_at org_at
-  arm_5 e = known e (omega (arith, sm.first, sm.place)) (omega (arith, sm.first, sm.place)) (inl (omega (arith, sm.first, sm.place))) (λ i list f g8 s. refl)
+  pub arm_truth : {a : Arm} {r : Effect} → a ≡ Truth → r ≡ effect_of Movable 0 true false false 0 false 0 → Right r a x
+  unfolding asked does wrote_at from_at org_at
+  arm_truth e q = known q e (omega (arith, sm.first, sm.place)) (omega (arith, sm.first, sm.place)) (inl (omega (arith, sm.first, sm.place))) (λ i list f g8 s. refl)
 
-  pub arm_6a : {a : ℕ} → a ≡ 6 → (x.l0 && (ltb 0 x.form && leb x.form 3 && x.l1 || eqb x.form 4 && x.divisor)) ≡ true → Right (effect_of 1 0 true false false 0 false 0) a x
-  unfolding asked does three three_tests class_at effect_of wrote_at from_at org_at
-  arm_6a e h0 = known e (omega (arith, sm.first, sm.place)) (omega (arith, sm.first, sm.place)) (inl (omega (arith, sm.first, sm.place))) (λ i list f g8 s. simp (f, h0))
+  pub arm_bin_yes : {a : Arm} {r : Effect} → a ≡ Bin → ((read_at x 0).len && (ltb 0 x.form && leb x.form 3 && (read_at x 1).len || eqb x.form 4 && x.divisor)) ≡ true → r ≡ effect_of Movable 0 true false false 0 false 0 → Right r a x
+  unfolding asked does wrote_at from_at org_at
+  arm_bin_yes e h0 q = known q e (omega (arith, sm.first, sm.place)) (omega (arith, sm.first, sm.place)) (inl (omega (arith, sm.first, sm.place))) (λ i list f g8 s. simp (f, h0))
 
-  pub arm_6b : {a : ℕ} → a ≡ 6 → (x.l0 && (ltb 0 x.form && leb x.form 3 && x.l1 || eqb x.form 4 && x.divisor)) ≡ false → Right (effect_of 0 0 false false false 0 false 0) a x
-  unfolding asked does three three_tests class_at effect_of wrote_at from_at org_at
-  arm_6b e h0 = known e (omega (arith, sm.first, sm.place)) (omega (arith, sm.first, sm.place)) (inl (omega (arith, sm.first, sm.place))) (λ i list f g8 s. simp (f, h0))
+  pub arm_bin_no : {a : Arm} {r : Effect} → a ≡ Bin → ((read_at x 0).len && (ltb 0 x.form && leb x.form 3 && (read_at x 1).len || eqb x.form 4 && x.divisor)) ≡ false → r ≡ effect_of No 0 false false false 0 false 0 → Right r a x
+  unfolding asked does wrote_at from_at org_at
+  arm_bin_no e h0 q = known q e (omega (arith, sm.first, sm.place)) (omega (arith, sm.first, sm.place)) (inl (omega (arith, sm.first, sm.place))) (λ i list f g8 s. simp (f, h0))
 
-  pub arm_7 : {a : ℕ} → a ≡ 7 → Right (effect_of 1 x.o0 false false false 0 false 0) a x
-  unfolding asked does three three_tests class_at effect_of wrote_at from_at org_at
-  arm_7 e = known e (omega (arith, sm.first, sm.place)) (omega (arith, sm.first, sm.place)) (inl (omega (arith, sm.first, sm.place))) (λ i list f g8 s. refl)
+  pub arm_index : {a : Arm} {r : Effect} → a ≡ Index → r ≡ effect_of Movable (read_at x 0).org false false false 0 false 0 → Right r a x
+  unfolding asked does wrote_at from_at org_at
+  arm_index e q = known q e (omega (arith, sm.first, sm.place)) (omega (arith, sm.first, sm.place)) (inl (omega (arith, sm.first, sm.place))) (λ i list f g8 s. refl)
 
-  pub arm_8a : {a : ℕ} → a ≡ 8 → (eqb x.form 3 && x.l0) ≡ true → Right (effect_of 1 0 false false false 0 false 0) a x
-  unfolding asked does three three_tests class_at effect_of wrote_at from_at org_at
-  arm_8a e h0 = known e (omega (arith, sm.first, sm.place)) (omega (arith, sm.first, sm.place)) (inl (omega (arith, sm.first, sm.place))) (λ i list f g8 s. simp (f, h0))
+  pub arm_check_yes : {a : Arm} {r : Effect} → a ≡ Check → (eqb x.form 3 && (read_at x 0).len) ≡ true → r ≡ effect_of Movable 0 false false false 0 false 0 → Right r a x
+  unfolding asked does wrote_at from_at org_at
+  arm_check_yes e h0 q = known q e (omega (arith, sm.first, sm.place)) (omega (arith, sm.first, sm.place)) (inl (omega (arith, sm.first, sm.place))) (λ i list f g8 s. simp (f, h0))
 
-  pub arm_8b : {a : ℕ} → a ≡ 8 → (eqb x.form 3 && x.l0) ≡ false → Right (effect_of 0 0 false false false 0 false 0) a x
-  unfolding asked does three three_tests class_at effect_of wrote_at from_at org_at
-  arm_8b e h0 = known e (omega (arith, sm.first, sm.place)) (omega (arith, sm.first, sm.place)) (inl (omega (arith, sm.first, sm.place))) (λ i list f g8 s. simp (f, h0))
+  pub arm_check_no : {a : Arm} {r : Effect} → a ≡ Check → (eqb x.form 3 && (read_at x 0).len) ≡ false → r ≡ effect_of No 0 false false false 0 false 0 → Right r a x
+  unfolding asked does wrote_at from_at org_at
+  arm_check_no e h0 q = known q e (omega (arith, sm.first, sm.place)) (omega (arith, sm.first, sm.place)) (inl (omega (arith, sm.first, sm.place))) (λ i list f g8 s. simp (f, h0))
 
-  pub arm_9 : {a : ℕ} → a ≡ 9 → Right (effect_of 1 0 true false false 0 false (x.o0 + 1)) a x
-  unfolding asked does three three_tests class_at effect_of wrote_at org_at
-  arm_9 e = known e (omega (arith, sm.first, sm.place)) (omega (arith, sm.first, sm.place)) (inl (omega (arith, sm.first, sm.place))) (λ i list f g8 s. simp (from_one x.o0 (pieces (get_or i 9 0) list) first_low))
+  pub arm_dopeLen : {a : Arm} {r : Effect} → a ≡ DopeLen → r ≡ effect_of Movable 0 true false false 0 false ((read_at x 0).org + 1) → Right r a x
+  unfolding asked does wrote_at org_at
+  arm_dopeLen e q = known q e (omega (arith, sm.first, sm.place)) (omega (arith, sm.first, sm.place)) (inl (omega (arith, sm.first, sm.place))) (λ i list f g8 s. simp (from_one (read_at x 0).org (pieces (get_or i 9 0) list) first_low))
 
-  pub arm_10a : {a : ℕ} → a ≡ 10 → (eqb x.form 4) ≡ true → Right (effect_of 0 0 false false false 0 false 0) a x
-  unfolding asked does three three_tests class_at effect_of wrote_at from_at org_at
-  arm_10a e h0 = known e (omega (arith, sm.first, sm.place)) (omega (arith, sm.first, sm.place)) (inl (omega (arith, sm.first, sm.place))) (λ i list f g8 s. simp (f, h0))
+  pub arm_load_no : {a : Arm} {r : Effect} → a ≡ Load → x.form ≡ 4 → r ≡ effect_of No 0 false false false 0 false 0 → Right r a x
+  unfolding asked does wrote_at from_at org_at
+  arm_load_no e h0 q = known q e (omega (arith, sm.first, sm.place)) (omega (arith, sm.first, sm.place)) (inl (omega (arith, sm.first, sm.place))) (λ i list f g8 s. simp (f, eq-eqb x.form 4 h0))
 
-  pub arm_10b : {a : ℕ} → a ≡ 10 → (eqb x.form 4) ≡ false → (g : ℕ) (b : Bool) → org_at g ≡ inside (org_at x.o0) → g ≤ x.o0 → b ≡ sized (λ k. x.layout) (org_at x.o0) → Right (effect_of 1 g b false false 0 false (x.o0 + 1)) a x
-  unfolding asked does three three_tests class_at effect_of wrote_at org_at
-  arm_10b e h0 g b eg ng eb = known e (omega (arith, ng, sm.first)) (omega (arith, sm.first, sm.place)) (inl (omega (arith, sm.first, sm.place))) (λ i list f g8 s. simp (f, h0, from_one x.o0 (pieces (get_or i 9 0) list) first_low, eg, eb))
+  pub arm_load_yes : {a : Arm} {r : Effect} → a ≡ Load → (x.form ≡ 4 → ⊥) → (g : ℕ) (b : Bool) → org_at g ≡ inside (org_at (read_at x 0).org) → g ≤ (read_at x 0).org → b ≡ sized (λ k. (read_at x 0).layout) (org_at (read_at x 0).org) → r ≡ effect_of Movable g b false false 0 false ((read_at x 0).org + 1) → Right r a x
+  unfolding asked does wrote_at org_at
+  arm_load_yes e h0 g b eg ng eb q = known q e (omega (arith, ng, sm.first)) (omega (arith, sm.first, sm.place)) (inl (omega (arith, sm.first, sm.place))) (λ i list f g8 s. simp (f, ne_eqb x.form 4 h0, from_one (read_at x 0).org (pieces (get_or i 9 0) list) first_low, eg, eb))
 
-  pub arm_11a : {a : ℕ} → a ≡ 11 → x.l0 ≡ true → Right (effect_of 1 (4 + 2 * x.p) false false true 0 false 0) a x
-  unfolding asked does three three_tests class_at effect_of wrote_at from_at
-  arm_11a e h0 = known e (omega (arith, sm.first, sm.place)) (omega (arith, sm.first, sm.place)) (inl (omega (arith, sm.first, sm.place))) (λ i list f g8 s. simp (h0, temp_at x.p))
+  pub arm_alloc_yes : {a : Arm} {r : Effect} → a ≡ Alloc → (read_at x 0).len ≡ true → r ≡ effect_of Movable (4 + 2 * x.p) false false true 0 false 0 → Right r a x
+  unfolding asked does wrote_at from_at
+  arm_alloc_yes e h0 q = known q e (omega (arith, sm.first, sm.place)) (omega (arith, sm.first, sm.place)) (inl (omega (arith, sm.first, sm.place))) (λ i list f g8 s. simp (h0, temp_at x.p))
 
-  pub arm_11b : {a : ℕ} → a ≡ 11 → x.l0 ≡ false → Right (effect_of 0 (4 + 2 * x.p) false false false 0 false 0) a x
-  unfolding asked does three three_tests class_at effect_of wrote_at from_at
-  arm_11b e h0 = known e (omega (arith, sm.first, sm.place)) (omega (arith, sm.first, sm.place)) (inl (omega (arith, sm.first, sm.place))) (λ i list f g8 s. simp (h0, temp_at x.p))
+  pub arm_alloc_no : {a : Arm} {r : Effect} → a ≡ Alloc → (read_at x 0).len ≡ false → r ≡ effect_of No (4 + 2 * x.p) false false false 0 false 0 → Right r a x
+  unfolding asked does wrote_at from_at
+  arm_alloc_no e h0 q = known q e (omega (arith, sm.first, sm.place)) (omega (arith, sm.first, sm.place)) (inl (omega (arith, sm.first, sm.place))) (λ i list f g8 s. simp (h0, temp_at x.p))
 
-  pub arm_12a : {a : ℕ} → a ≡ 12 → (eqb x.form 0) ≡ true → Right (effect_of 1 (4 + 2 * x.p) false true true 0 false (x.o0 + 1)) a x
-  unfolding asked does three three_tests class_at effect_of wrote_at
-  arm_12a e h0 = known e (omega (arith, sm.first, sm.place)) (omega (arith, sm.first, sm.place)) (inl (omega (arith, sm.first, sm.place))) (λ i list f g8 s. simp (f, h0, temp_at x.p, from_one x.o0 (pieces (get_or i 9 0) list) first_low))
+  pub arm_layout_of_yes : {a : Arm} {r : Effect} → a ≡ LayoutOf → x.form ≡ 0 → r ≡ effect_of Movable (4 + 2 * x.p) false true true 0 false ((read_at x 0).org + 1) → Right r a x
+  unfolding asked does wrote_at
+  arm_layout_of_yes e h0 q = known q e (omega (arith, sm.first, sm.place)) (omega (arith, sm.first, sm.place)) (inl (omega (arith, sm.first, sm.place))) (λ i list f g8 s. simp (f, eq-eqb x.form 0 h0, temp_at x.p, from_one (read_at x 0).org (pieces (get_or i 9 0) list) first_low))
 
-  pub arm_12b : {a : ℕ} → a ≡ 12 → (eqb x.form 0) ≡ false → Right (effect_of 0 0 false false false 0 false 0) a x
-  unfolding asked does three three_tests class_at effect_of wrote_at from_at org_at
-  arm_12b e h0 = known e (omega (arith, sm.first, sm.place)) (omega (arith, sm.first, sm.place)) (inl (omega (arith, sm.first, sm.place))) (λ i list f g8 s. simp (f, h0))
+  pub arm_layout_of_no : {a : Arm} {r : Effect} → a ≡ LayoutOf → (x.form ≡ 0 → ⊥) → r ≡ effect_of No 0 false false false 0 false 0 → Right r a x
+  unfolding asked does wrote_at from_at org_at
+  arm_layout_of_no e h0 q = known q e (omega (arith, sm.first, sm.place)) (omega (arith, sm.first, sm.place)) (inl (omega (arith, sm.first, sm.place))) (λ i list f g8 s. simp (f, ne_eqb x.form 0 h0))
 
-  pub arm_13 : {a : ℕ} → a ≡ 13 → Right (effect_of 1 0 false false false 0 false 0) a x
-  unfolding asked does three three_tests class_at effect_of wrote_at from_at org_at
-  arm_13 e = known e (omega (arith, sm.first, sm.place)) (omega (arith, sm.first, sm.place)) (inl (omega (arith, sm.first, sm.place))) (λ i list f g8 s. refl)
+  pub arm_signal : {a : Arm} {r : Effect} → a ≡ Signal → r ≡ effect_of Movable 0 false false false 0 false 0 → Right r a x
+  unfolding asked does wrote_at from_at org_at
+  arm_signal e q = known q e (omega (arith, sm.first, sm.place)) (omega (arith, sm.first, sm.place)) (inl (omega (arith, sm.first, sm.place))) (λ i list f g8 s. refl)
 
-  pub arm_14 : {a : ℕ} → a ≡ 14 → Right (effect_of 1 0 false false false (x.o0 + 1) false 0) a x
-  unfolding asked does three three_tests class_at effect_of from_at org_at
-  arm_14 e = known e (omega (arith, sm.first, sm.place)) (omega (arith, sm.first, sm.place)) (inl (omega (arith, sm.first, sm.place))) (λ i list f g8 s. simp (wrote_one x.o0))
+  pub arm_fills : {a : Arm} {r : Effect} → a ≡ Fills → r ≡ effect_of Movable 0 false false false ((read_at x 0).org + 1) false 0 → Right r a x
+  unfolding asked does from_at org_at
+  arm_fills e q = known q e (omega (arith, sm.first, sm.place)) (omega (arith, sm.first, sm.place)) (inl (omega (arith, sm.first, sm.place))) (λ i list f g8 s. simp (wrote_one (read_at x 0).org))
 
-  pub arm_15a : {a : ℕ} → a ≡ 15 → (eqb x.form 4) ≡ true → Right (effect_of 0 0 false false false 0 false 0) a x
-  unfolding asked does three three_tests class_at effect_of wrote_at from_at org_at
-  arm_15a e h0 = known e (omega (arith, sm.first, sm.place)) (omega (arith, sm.first, sm.place)) (inl (omega (arith, sm.first, sm.place))) (λ i list f g8 s. simp (f, h0))
+  pub arm_store_no : {a : Arm} {r : Effect} → a ≡ Store → x.form ≡ 4 → r ≡ effect_of No 0 false false false 0 false 0 → Right r a x
+  unfolding asked does wrote_at from_at org_at
+  arm_store_no e h0 q = known q e (omega (arith, sm.first, sm.place)) (omega (arith, sm.first, sm.place)) (inl (omega (arith, sm.first, sm.place))) (λ i list f g8 s. simp (f, eq-eqb x.form 4 h0))
 
-  pub arm_15b : {a : ℕ} → a ≡ 15 → (eqb x.form 4) ≡ false → Right (effect_of 1 0 false false false (x.o0 + 1) false 0) a x
-  unfolding asked does three three_tests class_at effect_of from_at org_at
-  arm_15b e h0 = known e (omega (arith, sm.first, sm.place)) (omega (arith, sm.first, sm.place)) (inl (omega (arith, sm.first, sm.place))) (λ i list f g8 s. simp (f, h0, wrote_one x.o0))
+  pub arm_store_yes : {a : Arm} {r : Effect} → a ≡ Store → (x.form ≡ 4 → ⊥) → r ≡ effect_of Movable 0 false false false ((read_at x 0).org + 1) false 0 → Right r a x
+  unfolding asked does from_at org_at
+  arm_store_yes e h0 q = known q e (omega (arith, sm.first, sm.place)) (omega (arith, sm.first, sm.place)) (inl (omega (arith, sm.first, sm.place))) (λ i list f g8 s. simp (f, ne_eqb x.form 4 h0, wrote_one (read_at x 0).org))
 
-  pub arm_16 : {a : ℕ} → a ≡ 16 → Right (effect_of 1 0 false false false (x.o0 + 1) false 4294967295) a x
-  unfolding asked does three three_tests class_at effect_of from_at org_at
-  arm_16 e = known e (omega (arith, sm.first, sm.place)) (omega (arith, sm.first, sm.place)) (inr (refl, refl)) (λ i list f g8 s. simp (wrote_one x.o0))
+  pub arm_cat : {a : Arm} {r : Effect} → a ≡ Cat → r ≡ effect_of Movable 0 false false false ((read_at x 0).org + 1) false 4294967295 → Right r a x
+  unfolding asked does from_at org_at
+  arm_cat e q = known q e (omega (arith, sm.first, sm.place)) (omega (arith, sm.first, sm.place)) (inr (refl, refl)) (λ i list f g8 s. simp (wrote_one (read_at x 0).org))
 
-  pub arm_17a : {a : ℕ} → a ≡ 17 → (eqb x.form 1 && eqb x.list 1) ≡ true → Right (effect_of 1 (5 + 2 * x.p) false false true 0 false 0) a x
-  unfolding asked does three three_tests class_at effect_of wrote_at from_at
-  arm_17a e h0 = known e (omega (arith, sm.first, sm.place)) (omega (arith, sm.first, sm.place)) (inl (omega (arith, sm.first, sm.place))) (λ i list f g8 s. simp (f, g8, h0, img_at x.p))
+  pub arm_native_image : {a : Arm} {r : Effect} → a ≡ Native → (eqb x.form 1 && eqb x.list 1) ≡ true → r ≡ effect_of Movable (5 + 2 * x.p) false false true 0 false 0 → Right r a x
+  unfolding asked does wrote_at from_at
+  arm_native_image e h0 q = known q e (omega (arith, sm.first, sm.place)) (omega (arith, sm.first, sm.place)) (inl (omega (arith, sm.first, sm.place))) (λ i list f g8 s. simp (f, g8, h0, img_at x.p))
 
-  pub arm_17b : {a : ℕ} → a ≡ 17 → (eqb x.form 1 && eqb x.list 1) ≡ false → (eqb x.form 2) ≡ true → Right (effect_of 0 (4 + 2 * x.p) false false false 0 false 0) a x
-  unfolding asked does three three_tests class_at effect_of wrote_at from_at
-  arm_17b e h0 h1 = known e (omega (arith, sm.first, sm.place)) (omega (arith, sm.first, sm.place)) (inl (omega (arith, sm.first, sm.place))) (λ i list f g8 s. simp (f, g8, h0, h1, temp_at x.p))
+  pub arm_native_light : {a : Arm} {r : Effect} → a ≡ Native → (eqb x.form 1 && eqb x.list 1) ≡ false → x.form ≡ 2 → r ≡ effect_of No (4 + 2 * x.p) false false false 0 false 0 → Right r a x
+  unfolding asked does wrote_at from_at
+  arm_native_light e h0 h1 q = known q e (omega (arith, sm.first, sm.place)) (omega (arith, sm.first, sm.place)) (inl (omega (arith, sm.first, sm.place))) (λ i list f g8 s. simp (f, g8, h0, eq-eqb x.form 2 h1, temp_at x.p))
 
-  pub arm_17c : {a : ℕ} → a ≡ 17 → (eqb x.form 1 && eqb x.list 1) ≡ false → (eqb x.form 2) ≡ false → Right (effect_of 0 0 false false false 0 true 0) a x
-  unfolding asked does three three_tests class_at effect_of wrote_at from_at org_at
-  arm_17c e h0 h1 = known e (omega (arith, sm.first, sm.place)) (omega (arith, sm.first, sm.place)) (inl (omega (arith, sm.first, sm.place))) (λ i list f g8 s. simp (f, g8, h0, h1))
+  pub arm_native_stops : {a : Arm} {r : Effect} → a ≡ Native → (eqb x.form 1 && eqb x.list 1) ≡ false → (x.form ≡ 2 → ⊥) → r ≡ effect_of No 0 false false false 0 true 0 → Right r a x
+  unfolding asked does wrote_at from_at org_at
+  arm_native_stops e h0 h1 q = known q e (omega (arith, sm.first, sm.place)) (omega (arith, sm.first, sm.place)) (inl (omega (arith, sm.first, sm.place))) (λ i list f g8 s. simp (f, g8, h0, ne_eqb x.form 2 h1))
 
-  pub arm_18 : {a : ℕ} → a ≡ 18 → Right (effect_of 0 0 false false false 0 true 0) a x
-  unfolding asked does three three_tests class_at effect_of wrote_at from_at org_at
-  arm_18 e = known e (omega (arith, sm.first, sm.place)) (omega (arith, sm.first, sm.place)) (inl (omega (arith, sm.first, sm.place))) (λ i list f g8 s. refl)
+  pub arm_stops : {a : Arm} {r : Effect} → a ≡ Stops → r ≡ effect_of No 0 false false false 0 true 0 → Right r a x
+  unfolding asked does wrote_at from_at org_at
+  arm_stops e q = known q e (omega (arith, sm.first, sm.place)) (omega (arith, sm.first, sm.place)) (inl (omega (arith, sm.first, sm.place))) (λ i list f g8 s. refl)
 
-  pub arm_19 : {a : ℕ} → a ≡ 19 → Right (effect_of 0 2 false false false 0 false 0) a x
-  unfolding asked does three three_tests class_at effect_of wrote_at from_at org_at
-  arm_19 e = known e (omega (arith, sm.first, sm.place)) (omega (arith, sm.first, sm.place)) (inl (omega (arith, sm.first, sm.place))) (λ i list f g8 s. refl)
+  pub arm_deref : {a : Arm} {r : Effect} → a ≡ Deref → r ≡ effect_of No 2 false false false 0 false 0 → Right r a x
+  unfolding asked does wrote_at from_at org_at
+  arm_deref e q = known q e (omega (arith, sm.first, sm.place)) (omega (arith, sm.first, sm.place)) (inl (omega (arith, sm.first, sm.place))) (λ i list f g8 s. refl)
 
-  pub arm_20 : {a : ℕ} → a ≡ 20 → Right (effect_of 0 0 false false false (x.o0 + 1) false 0) a x
-  unfolding asked does three three_tests class_at effect_of from_at org_at
-  arm_20 e = known e (omega (arith, sm.first, sm.place)) (omega (arith, sm.first, sm.place)) (inl (omega (arith, sm.first, sm.place))) (λ i list f g8 s. simp (wrote_one x.o0))
+  pub arm_writes : {a : Arm} {r : Effect} → a ≡ Writes → r ≡ effect_of No 0 false false false ((read_at x 0).org + 1) false 0 → Right r a x
+  unfolding asked does from_at org_at
+  arm_writes e q = known q e (omega (arith, sm.first, sm.place)) (omega (arith, sm.first, sm.place)) (inl (omega (arith, sm.first, sm.place))) (λ i list f g8 s. simp (wrote_one (read_at x 0).org))
 
-  pub arm_21 : {a : ℕ} → 21 ≤ a → Right (effect_of 0 0 false false false 0 false 0) a x
-  unfolding asked does class_at wrote_at from_at org_at effect_of
-  arm_21 {a} e = record { near = omega arith; wrote = omega arith; from = inl (omega arith); right = λ i list f g8 s. sym (ap (arm i x.p x.divisor (three x.o0 x.o1 x.o2) (three_tests x.l0 x.l1 x.l2) (λ k. x.layout) list) (past_arms a e)) }
+  pub arm_other : {a : Arm} {r : Effect} → a ≡ Other → r ≡ effect_of No 0 false false false 0 false 0 → Right r a x
+  unfolding asked does wrote_at from_at org_at
+  arm_other e q = known q e (omega (arith, sm.first, sm.place)) (omega (arith, sm.first, sm.place)) (inl (omega (arith, sm.first, sm.place))) (λ i list f g8 s. refl)

@@ -13,7 +13,11 @@ use Rattle.words.proofs.Bools.{true_T, both_true, clash, and_no}
 use Rattle.words.proofs.Lists.{same_eq}
 use Rattle.model.specs.Analyse.{Org, Unknown, Frame, Temp, Img, org_code, same_org, alias, inside, sized, movable}
 use Rattle.model.specs.Legal.{readable, steady}
-use Rattle.effects.specs.Origin.{org_at, class_at, num}
+use denote.Enum.Declared.{tag_of}
+use Rattle.effects.specs.Origin.{org_at, class_at, class_of, class_code, num}
+use Rattle.effects.specs.declared.arms.Class.{Class}
+use Rattle.effects.specs.declared.arms.Class.TheVariants.{No, Movable, Free}
+use Rattle.effects.specs.contracts.arms.Class as C
 
 pub temp_at : (k : ℕ) → org_at (4 + 2 * k) ≡ Temp k
 unfolding org_at
@@ -196,6 +200,17 @@ agree_no a b n = sym (ap (λ (t : Bool). cond t (org_at a) Unknown) (same_at a b
 
 -- ---- a class and a flag, by their numbers
 
+pub class_tag : (c : Class) → tag_of C.the_type c ≡ class_code c
+class_tag No = refl
+class_tag Movable = refl
+class_tag Free = refl
+
+pub class_kept : (c : Class) → class_at (class_code c) ≡ class_of c
+unfolding class_at
+class_kept No = refl
+class_kept Movable = refl
+class_kept Free = refl
+
 pub movable_is : (c : ℕ) → movable (class_at c) ≡ eqb c 1
 unfolding class_at
 movable_is zero = refl
@@ -206,8 +221,3 @@ pub num_le : (b : Bool) → num b ≤ 1
 unfolding num
 num_le true = omega arith
 num_le false = omega arith
-
-pub num_is : (b : Bool) → eqb (num b) 1 ≡ b
-unfolding num
-num_is true = refl
-num_is false = refl

@@ -2,6 +2,8 @@
 use Rattle.std.specs.Prelude.{Bool, cond, List, [], ◌∷◌, ℕ, zero, suc, ◌/◌, ◌%◌, eqb, Option, None, Some}
 use Rattle.words.specs.Lists.{hit}
 use Rattle.model.specs.Analyse.{Org, Unknown, Ro, Heap, Frame, Temp, Img, Class, No, Movable, Free}
+use Rattle.effects.specs.declared.arms.Class as D
+use Rattle.effects.specs.declared.arms.Class.TheVariants as C
 
 -- 0 Unknown, 1 Ro, 2 Heap, 3 Frame, 4 + 2 k Temp k, 5 + 2 k Img k
 unfoldable pub org_at : ℕ → Org
@@ -15,6 +17,17 @@ unfoldable pub class_at : ℕ → Class
 class_at zero = No
 class_at (suc zero) = Movable
 class_at (suc (suc n)) = Free
+
+-- a class, and its number in a Fact
+abbrev pub class_of : D.Class → Class
+class_of C.No = No
+class_of C.Movable = Movable
+class_of C.Free = Free
+
+abbrev pub class_code : D.Class → ℕ
+class_code C.No = 0
+class_code C.Movable = 1
+class_code C.Free = 2
 
 -- memory written: 0 none, or an origin's number and 1
 unfoldable pub wrote_at : ℕ → Option Org

@@ -1,17 +1,100 @@
-// The arms of `analyse` (01, "The legal set"; 000's `analyse`), each by its number in the table of kinds: what an instruction
-// does, from what is known of its first three reads.
-ghost use Rattle.std.specs.Prelude.{◌≡◌, true, false, ◌≤◌};
-ghost use Rattle.effects.specs.Arms.{effect_of, Right, Small, leads};
+// The arms of `analyse` (01, "The legal set"; 000's `analyse`): what an instruction does, from what is known of its first three
+// reads.
+ghost use Rattle.std.specs.Prelude.{◌≡◌, true, false};
+ghost use Rattle.inst.specs.Table.{arm_at, arm};
+ghost use Rattle.model.specs.Analyse.{movable};
+ghost use Rattle.effects.specs.Origin.{class_of, class_code};
+ghost use Rattle.effects.specs.Arms.{effect_of, arm_of, Right, Small, leads};
 
-use crate::origin::{address, agree, inside, is_sized};
+use crate::origin::{HEAP, UNKNOWN, Value, address, agree, inside, is_sized};
+use inst::table::arm;
 
 // What stands for the pieces that a Cat reads, to be looked up again.
 pub const PIECES: u32 = 4294967295;
 
-// Class 0 No, 1 Movable, 2 Free; the memory written and the memory read as 0 for none or an origin and 1, or PIECES.
+// The arms, in the order of their numbers in the table of kinds.
+#[derive(Clone, Copy, PartialEq, Eq)]
+pub enum Arm {
+    Const,
+    ConstF,
+    AddrOf,
+    Move,
+    Select,
+    Truth,
+    Bin,
+    Index,
+    Check,
+    DopeLen,
+    Load,
+    Alloc,
+    LayoutOf,
+    Signal,
+    Fills,
+    Store,
+    Cat,
+    Native,
+    Stops,
+    Deref,
+    Writes,
+    Other,
+}
+
+// The arms by their numbers: a `match` on the number proves nothing where no number fits, so they are looked up.
+static ARMS: [Arm; 22] = [
+    Arm::Const,
+    Arm::ConstF,
+    Arm::AddrOf,
+    Arm::Move,
+    Arm::Select,
+    Arm::Truth,
+    Arm::Bin,
+    Arm::Index,
+    Arm::Check,
+    Arm::DopeLen,
+    Arm::Load,
+    Arm::Alloc,
+    Arm::LayoutOf,
+    Arm::Signal,
+    Arm::Fills,
+    Arm::Store,
+    Arm::Cat,
+    Arm::Native,
+    Arm::Stops,
+    Arm::Deref,
+    Arm::Writes,
+    Arm::Other,
+];
+
+// Whether an instruction may move: never, if it is in the legal set, or wherever its value is needed.
+#[derive(Clone, Copy, PartialEq, Eq)]
+pub enum Class {
+    No,
+    Movable,
+    Free,
+}
+
+impl Class {
+    // Its number, as a Fact has it.
+    #[tactic(auto, using(crate::proofs::Origins::class_tag))]
+    pub fn number(self) -> u32
+        ensures { result ≡ class_code self }
+    {
+        self as u32
+    }
+
+    // May it be in the legal set?
+    pub fn is_movable(self) -> bool
+        ensures { result ≡ movable (class_of self) }
+    {
+        matches!(self, Class::Movable)
+    }
+}
+
+// What an instruction does. The memory written and the memory read are as a Fact has them, of which this is the most: 0 for none, an
+// origin and 1, or PIECES.
 #[derive(Clone, Copy)]
 pub struct Effect {
-    pub class: u32,
+    pub class: Class,
     pub org: u32,
     pub len: bool,
     pub layout: bool,
@@ -21,251 +104,241 @@ pub struct Effect {
     pub from: u32,
 }
 
-// What an arm asks: form, length of the list, position; of the first three registers read, where they point and whether they
-// are lengths; whether the second is a constant above 0; whether its own constant is a length; whether the first points to
-// a layout, and the second.
+// What an arm asks: form, length of the list, position; the first three registers read; whether the second of them is a constant
+// above 0; whether its own constant is a length.
 #[derive(Clone, Copy)]
 pub struct Input {
     pub form: u32,
     pub list: u32,
     pub p: u32,
-    pub o0: u32,
-    pub o1: u32,
-    pub o2: u32,
-    pub l0: bool,
-    pub l1: bool,
-    pub l2: bool,
+    pub reads: [Value; 3],
     pub divisor: bool,
     pub small: bool,
-    pub layout: bool,
-    pub layout1: bool,
 }
 
+// It cannot move, and does nothing that the legal set looks at.
+const PLAIN: Effect = Effect {
+    class: Class::No,
+    org: UNKNOWN,
+    len: false,
+    layout: false,
+    creates: false,
+    wrote: 0,
+    barrier: false,
+    from: 0,
+};
+
 // It leaves a value.
-fn value(class: u32, org: u32, len: bool) -> Effect
+fn value(class: Class, org: u32, len: bool) -> Effect
     ensures { result ≡ effect_of class org len false false 0 false 0 }
 {
     Effect {
-        class: class,
-        org: org,
-        len: len,
-        layout: false,
-        creates: false,
-        wrote: 0,
-        barrier: false,
-        from: 0,
+        class,
+        org,
+        len,
+        ..PLAIN
     }
 }
 
 // It can move, and reads memory.
 fn reads(from: u32, org: u32, len: bool) -> Effect
-    ensures { result ≡ effect_of 1 org len false false 0 false from }
+    ensures { result ≡ effect_of Class.Movable org len false false 0 false from }
 {
     Effect {
-        class: 1,
-        org: org,
-        len: len,
-        layout: false,
-        creates: false,
-        wrote: 0,
-        barrier: false,
-        from: from,
+        class: Class::Movable,
+        org,
+        len,
+        from,
+        ..PLAIN
     }
 }
 
 // It can move, and makes a block.
 fn makes(org: u32, layout: bool, from: u32) -> Effect
-    ensures { result ≡ effect_of 1 org false layout true 0 false from }
+    ensures { result ≡ effect_of Class.Movable org false layout true 0 false from }
 {
     Effect {
-        class: 1,
-        org: org,
-        len: false,
-        layout: layout,
+        class: Class::Movable,
+        org,
+        layout,
         creates: true,
-        wrote: 0,
-        barrier: false,
-        from: from,
+        from,
+        ..PLAIN
     }
 }
 
 // It writes memory.
-fn writes(class: u32, to: u32, from: u32) -> Effect
-    ensures { result ≡ effect_of class 0 false false false to false from }
+fn writes(class: Class, wrote: u32, from: u32) -> Effect
+    ensures { result ≡ effect_of class 0 false false false wrote false from }
 {
     Effect {
-        class: class,
-        org: 0,
-        len: false,
-        layout: false,
-        creates: false,
-        wrote: to,
-        barrier: false,
-        from: from,
+        class,
+        wrote,
+        from,
+        ..PLAIN
     }
 }
 
 // It is a barrier.
 fn stops() -> Effect
-    ensures { result ≡ effect_of 0 0 false false false 0 true 0 }
+    ensures { result ≡ effect_of Class.No 0 false false false 0 true 0 }
 {
     Effect {
-        class: 0,
-        org: 0,
-        len: false,
-        layout: false,
-        creates: false,
-        wrote: 0,
         barrier: true,
-        from: 0,
+        ..PLAIN
     }
 }
 
-// Arm 17, CallNative: an image, a light call, or a barrier.
+// A sum, difference or product of lengths, or a length over a constant above 0.
+fn bin(x: Input) -> Effect
+    requires { Small x }
+    ensures { Right result Arm.Bin x }
+{
+    let [first, second, _] = x.reads;
+    let computes = (0 < x.form) & (x.form <= 3) & second.len;
+    if first.len & (computes | ((x.form == 4) & x.divisor)) {
+        return value(Class::Movable, UNKNOWN, true);
+    }
+    PLAIN
+}
+
+// The check of a length.
+fn check(x: Input) -> Effect
+    requires { Small x }
+    ensures { Right result Arm.Check x }
+{
+    let [first, _, _] = x.reads;
+    if (x.form == 3) & first.len {
+        return value(Class::Movable, UNKNOWN, false);
+    }
+    PLAIN
+}
+
+// A word read from memory.
+fn load(x: Input) -> Effect
+    requires { Small x }
+    ensures { Right result Arm.Load x }
+{
+    let [first, _, _] = x.reads;
+    if x.form == 4 {
+        return PLAIN;
+    }
+    reads(
+        first.org + 1,
+        inside(first.org),
+        is_sized(first.org, first.layout),
+    )
+}
+
+// A block, which can move if its length is one.
+fn alloc(x: Input) -> Effect
+    requires { Small x }
+    ensures { Right result Arm.Alloc x }
+{
+    let [first, _, _] = x.reads;
+    if first.len {
+        return makes(4 + 2 * x.p, false, 0);
+    }
+    value(Class::No, 4 + 2 * x.p, false)
+}
+
+// A layout.
+fn layout_of(x: Input) -> Effect
+    requires { Small x }
+    ensures { Right result Arm.LayoutOf x }
+{
+    let [first, _, _] = x.reads;
+    if x.form == 0 {
+        return makes(4 + 2 * x.p, true, first.org + 1);
+    }
+    PLAIN
+}
+
+// A word written to memory.
+fn store(x: Input) -> Effect
+    requires { Small x }
+    ensures { Right result Arm.Store x }
+{
+    let [first, _, _] = x.reads;
+    if x.form == 4 {
+        return PLAIN;
+    }
+    writes(Class::Movable, first.org + 1, 0)
+}
+
+// CallNative: an image, a light call, or a barrier.
 fn native(x: Input) -> Effect
     requires { Small x }
-    ensures { Right result 17 x }
+    ensures { Right result Arm.Native x }
 {
     if (x.form == 1) & (x.list == 1) {
         return makes(5 + 2 * x.p, false, 0);
     }
     if x.form == 2 {
-        return value(0, 4 + 2 * x.p, false);
+        return value(Class::No, 4 + 2 * x.p, false);
     }
     stops()
 }
 
-// The arms from 16 on: Cat, native, stops, deref, writes, other.
-fn from_16(a: u32, x: Input) -> Effect
-    requires { (16 ≤ a) × Small x }
-    ensures { Right result a x }
-{
-    if a < 17 {
-        return writes(1, x.o0 + 1, PIECES);
-    }
-    if a < 18 {
-        return native(x);
-    }
-    if a < 19 {
-        return stops();
-    }
-    if a < 20 {
-        return value(0, 2, false);
-    }
-    if a < 21 {
-        return writes(0, x.o0 + 1, 0);
-    }
-    value(0, 0, false)
-}
-
-// The arms from 12 on: layoutOf, signal, fills, store.
-fn from_12(a: u32, x: Input) -> Effect
-    requires { (12 ≤ a) × Small x }
-    ensures { Right result a x }
-{
-    if a < 13 {
-        if x.form == 0 {
-            return makes(4 + 2 * x.p, true, x.o0 + 1);
+impl Arm {
+    // The arm of a kind with this row in the table.
+    #[tactic(auto, using(crate::proofs::Rows::arm_found))]
+    pub fn of(row: u32) -> Self
+        ensures { arm_of result ≡ arm_at (arm row) }
+    {
+        let n = arm(row) as usize;
+        if n < ARMS.len() {
+            return ARMS[n];
         }
-        return value(0, 0, false);
+        Arm::Other
     }
-    if a < 14 {
-        return value(1, 0, false);
-    }
-    if a < 15 {
-        return writes(1, x.o0 + 1, 0);
-    }
-    if a < 16 {
-        if x.form == 4 {
-            return value(0, 0, false);
-        }
-        return writes(1, x.o0 + 1, 0);
-    }
-    from_16(a, x)
-}
 
-// The arms from 8 on: check, dopeLen, load, alloc.
-fn from_8(a: u32, x: Input) -> Effect
-    requires { (8 ≤ a) × Small x }
-    ensures { Right result a x }
-{
-    if a < 9 {
-        if (x.form == 3) & x.l0 {
-            return value(1, 0, false);
+    // What an instruction of this arm does.
+    pub fn effect(self, x: Input) -> Effect
+        requires { Small x }
+        ensures { Right result self x }
+    {
+        let [first, second, third] = x.reads;
+        match self {
+            Arm::Const => value(Class::Free, UNKNOWN, x.small),
+            Arm::ConstF => value(Class::Free, UNKNOWN, false),
+            Arm::AddrOf => value(Class::Free, address(x.form), false),
+            Arm::Move => value(Class::Movable, first.org, first.len),
+            Arm::Select => value(
+                Class::Movable,
+                agree(second.org, third.org),
+                second.len & third.len,
+            ),
+            Arm::Truth => value(Class::Movable, UNKNOWN, true),
+            Arm::Bin => bin(x),
+            Arm::Index => value(Class::Movable, first.org, false),
+            Arm::Check => check(x),
+            Arm::DopeLen => reads(first.org + 1, UNKNOWN, true),
+            Arm::Load => load(x),
+            Arm::Alloc => alloc(x),
+            Arm::LayoutOf => layout_of(x),
+            Arm::Signal => value(Class::Movable, UNKNOWN, false),
+            Arm::Fills => writes(Class::Movable, first.org + 1, 0),
+            Arm::Store => store(x),
+            Arm::Cat => writes(Class::Movable, first.org + 1, PIECES),
+            Arm::Native => native(x),
+            Arm::Stops => stops(),
+            Arm::Deref => value(Class::No, HEAP, false),
+            Arm::Writes => writes(Class::No, first.org + 1, 0),
+            Arm::Other => PLAIN,
         }
-        return value(0, 0, false);
     }
-    if a < 10 {
-        return reads(x.o0 + 1, 0, true);
-    }
-    if a < 11 {
-        if x.form == 4 {
-            return value(0, 0, false);
+
+    // Does the value of an instruction of this arm, with this effect, point to a layout? It points where the first or the second
+    // register read does, or to a block of its own, or to none.
+    #[tactic(auto, unfolding(crate::specs::Arms::leads))]
+    pub fn leads(self, x: Input, e: Effect) -> bool
+        ensures { result ≡ leads self x e }
+    {
+        match self {
+            Arm::Move | Arm::Index => x.reads[0].layout,
+            Arm::Select => x.reads[1].layout,
+            _ => e.layout,
         }
-        return reads(x.o0 + 1, inside(x.o0), is_sized(x.o0, x.layout));
     }
-    if a < 12 {
-        if x.l0 {
-            return makes(4 + 2 * x.p, false, 0);
-        }
-        return value(0, 4 + 2 * x.p, false);
-    }
-    from_12(a, x)
-}
-
-// Arm 6, Bin: a sum, difference or product of lengths, or a length over a constant above 0.
-fn bin(x: Input) -> Effect
-    requires { Small x }
-    ensures { Right result 6 x }
-{
-    if x.l0 & (((0 < x.form) & (x.form <= 3) & x.l1) | ((x.form == 4) & x.divisor)) {
-        return value(1, 0, true);
-    }
-    value(0, 0, false)
-}
-
-// Does the value of an instruction of arm number a, with this effect, point to a layout? It points where the first or the second
-// register read does, or to a block of its own, or to none.
-pub fn leads(a: u32, x: Input, e: Effect) -> bool
-    ensures { result ≡ leads a x e }
-{
-    if (a == 3) | (a == 7) {
-        return x.layout;
-    }
-    if a == 4 {
-        return x.layout1;
-    }
-    e.layout
-}
-
-// What an instruction of arm number a does: const, constF, addrOf, move, select, truth, bin, index, ..
-pub fn arm(a: u32, x: Input) -> Effect
-    requires { Small x }
-    ensures { Right result a x }
-{
-    if a < 1 {
-        return value(2, 0, x.small);
-    }
-    if a < 2 {
-        return value(2, 0, false);
-    }
-    if a < 3 {
-        return value(2, address(x.form), false);
-    }
-    if a < 4 {
-        return value(1, x.o0, x.l0);
-    }
-    if a < 5 {
-        return value(1, agree(x.o1, x.o2), x.l1 & x.l2);
-    }
-    if a < 6 {
-        return value(1, 0, true);
-    }
-    if a < 7 {
-        return bin(x);
-    }
-    if a < 8 {
-        return value(1, x.o0, false);
-    }
-    from_8(a, x)
 }

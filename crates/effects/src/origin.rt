@@ -4,6 +4,23 @@ ghost use Rattle.std.specs.Prelude.{◌≡◌, cond, ◌||◌, ◌≤◌, ◌<�
 ghost use Rattle.model.specs.Analyse.{Unknown, Ro, Frame, same_org, inside, sized};
 ghost use Rattle.effects.specs.Origin.{org_at};
 
+// An origin stays a number: it stands in a register's word and in a Fact, whose layout is C's.
+pub const UNKNOWN: u32 = 0;
+
+pub const RO: u32 = 1;
+
+pub const HEAP: u32 = 2;
+
+pub const FRAME: u32 = 3;
+
+// What is known of a register's value: where it points, whether it is a length, and whether it points to a layout.
+#[derive(Clone, Copy, PartialEq, Eq)]
+pub struct Value {
+    pub org: u32,
+    pub len: bool,
+    pub layout: bool,
+}
+
 // Where a word read from o points: into o, if that is an image.
 pub fn inside(o: u32) -> u32
     ensures { (org_at result ≡ inside (org_at o)) × (result ≤ o) }
@@ -11,7 +28,7 @@ pub fn inside(o: u32) -> u32
     if (4 <= o) & (o % 2 == 1) {
         return o;
     }
-    0
+    UNKNOWN
 }
 
 // Is a word read from o a length: is o a block, and its maker a layout?
@@ -28,7 +45,7 @@ pub fn agree(a: u32, b: u32) -> u32
     if a == b {
         return a;
     }
-    0
+    UNKNOWN
 }
 
 // Where an address of this form points.
@@ -36,10 +53,10 @@ pub fn address(form: u32) -> u32
     ensures { (org_at result ≡ cond (eqb form 2 || eqb form 4) Ro (cond (eqb form 0) Frame Unknown)) × (result < 4) }
 {
     if (form == 2) | (form == 4) {
-        return 1;
+        return RO;
     }
     if form == 0 {
-        return 3;
+        return FRAME;
     }
-    0
+    UNKNOWN
 }

@@ -4,4 +4,4 @@ use Rattle.analyse.proofs.learn.fact_of.Goals as goal
 
 pub returns : goal.returns
 unfolding fact_of
-returns c = rw c.more.ensures
+returns c = rw (c.number.ensures, c.more.ensures)

@@ -1,6 +1,8 @@
 -- `analyse::learn::learn_one` meets its contract. Assumes nothing.
 use mathlib.Core.Path.{ap, ◌∙◌}
 use native.Mathlib.Omega.{arith}
+use Prim.Native.Nat.{ℕ}
+use Rattle.inst.specs.Table.{arm_at}
 use Rattle.inst.specs.Table as T
 use Rattle.analyse.proofs.Verdict.{reads_below}
 use Rattle.analyse.proofs.Learned.{fits_more, learned}
@@ -26,7 +28,7 @@ fact_of-requires c = c.requires.1.small
 
 pub returns : goal.returns
 returns c = rw c.fact_of.ensures
-    (learned _ _ c.judge-e.result c.may_suspend.result c.ask-y.result c.requires.0 c.requires.2 c.requires.1 (c.arm.ensures ∙ ap T.arm c.row_at-m.ensures)
+    (learned _ _ c.judge-e.result c.may_suspend.result c.ask-y.result c.of.result c.requires.0 c.requires.2 c.requires.1 (c.of.ensures ∙ ap (λ (m : ℕ). arm_at (T.arm m)) c.row_at-m.ensures)
     (rw c.ask-y.ensures.1 at c.judge-e.ensures.0) c.scan-x.ensures (rw (c.stamp-d.ensures.0, c.leads.ensures) at c.mark_record.ensures) c.may_suspend.ensures
     (λ G past el s. c.ask-y.ensures.2 _ G past c.scan-x.ensures el s)
     (λ G past z. c.judge-e.ensures.1 _ G past _ (omega (arith, c.requires.0.in_use, c.requires.0.lent)) c.requires.1.good z))

@@ -23,30 +23,24 @@ bounds-bounds-b-2 c =
 
 pub overflow_sub-result : goal.overflow_sub-result
 overflow_sub-result c =
-    let x = c.wide-s.result in
-    let y = c.wide-e.result in
     let a = c.args in
+    let x = get_or a.bounds.now (2 * c.at-b.result) 0 in
+    let y = get_or a.bounds.now (2 * c.at-b.result + 1) 0 in
     let m = ltb-true x y (right_true (ltb (a.k + 1) a.c.count) (ltb x y) c.if-k-c.true) in
     omega (arith, m)
 
 pub returns-then-k-c : goal.returns-then-k-c
 returns-then-k-c c =
-    let at_past = c.before.before in
-    let at_from = at_past.before.before in
-    let at_block = at_from.before.before in
     let b = c.at-b.ensures ∙ c.nth.ensures in
-    let from = c.wide-s.ensures ∙ ap (λ (n : ℕ). get_or c.args.bounds.now (2 * n) 0) b in
-    let past = c.wide-e.ensures ∙ ap (λ (n : ℕ). get_or c.args.bounds.now (2 * n + 1) 0) b in
+    let from = ap (λ (n : ℕ). get_or c.args.bounds.now (2 * n) 0) b in
+    let past = ap (λ (n : ℕ). get_or c.args.bounds.now (2 * n + 1) 0) b in
     let low = c.shared_slice_known-2-1.given (2 * c.at-b.result + 1) in
-    part_inner c.requires.0 c.requires.1 from past (omega (arith, low, c.wide-e.ensures)) c.if-k-c.true
+    part_inner c.requires.0 c.requires.1 from past (omega (arith, low)) c.if-k-c.true
 
 pub returns : goal.returns
 returns c =
-    let at_past = c.before.before in
-    let at_from = at_past.before.before in
-    let at_block = at_from.before.before in
     let b = c.at-b.ensures ∙ c.nth.ensures in
-    let from = c.wide-s.ensures ∙ ap (λ (n : ℕ). get_or c.args.bounds.now (2 * n) 0) b in
-    let past = c.wide-e.ensures ∙ ap (λ (n : ℕ). get_or c.args.bounds.now (2 * n + 1) 0) b in
+    let from = ap (λ (n : ℕ). get_or c.args.bounds.now (2 * n) 0) b in
+    let past = ap (λ (n : ℕ). get_or c.args.bounds.now (2 * n + 1) 0) b in
     let low = c.shared_slice_known-2-1.given (2 * c.at-b.result + 1) in
-    part_outer c.requires.0 c.requires.1 from past (omega (arith, low, c.wide-e.ensures)) c.if-k-c.false
+    part_outer c.requires.0 c.requires.1 from past (omega (arith, low)) c.if-k-c.false

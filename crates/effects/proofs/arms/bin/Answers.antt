@@ -1,10 +1,10 @@
 -- `effects::arms::bin` meets its contract. Assumes nothing.
 use mathlib.Core.Path.{refl}
-use Rattle.effects.proofs.ByArm.{arm_6a, arm_6b}
+use Rattle.effects.proofs.ByArm.{arm_bin_no, arm_bin_yes}
 use Rattle.effects.proofs.arms.bin.Goals as goal
 
-pub returns-then-x : goal.returns-then-x
-returns-then-x c = rw c.value.ensures (arm_6a c.args.x c.requires refl c.if-x.true)
+pub returns-then-first-computes : goal.returns-then-first-computes
+returns-then-first-computes c = arm_bin_yes c.args.x c.requires refl c.if-first-computes.true c.value.ensures
 
 pub returns : goal.returns
-returns c = rw c.value-2.ensures (arm_6b c.args.x c.requires refl c.if-x.false)
+returns c = arm_bin_no c.args.x c.requires refl c.if-first-computes.false refl

@@ -8,5 +8,5 @@ returns-then-has c = λ P n h q. target_in c.args.self q h c.has.ensures c.if-ha
 
 pub returns : goal.returns
 returns c =
-    let last = c.number-last.ensures ∙ c.last-x.ensures in
+    let last = c.number.ensures ∙ c.last.ensures in
     λ P n h q. target_out c.args.self q h c.has.ensures c.if-has.false c.at-at.ensures last
