@@ -10,14 +10,14 @@ ghost use Rattle.model.specs.Analyse.{Fact};
 ghost use Rattle.model.specs.Move.{apply};
 ghost use Rattle.apply.specs.Apply.{Rest, picture, plan, Stands, Given, Asks, Fits, Holds, Vias};
 
-use crate::moves::{Move, past, start};
+use crate::moves::Move;
 use crate::needs::Counts;
 use inst::table::Table;
 use mover::bounds::{count, move_bounds};
 use mover::moving::move_all;
 use pool::types::add_types;
 use rename::all::rename_all;
-use rename::parts::{Head, Span};
+use rename::parts::Head;
 
 // Move m, where c registers and operands are in use.
 pub fn apply(
@@ -38,15 +38,13 @@ pub fn apply(
     ensures { (rest : Rest) (run : List Fact) (set : List Bool) → let P = picture bounds.old recs.old locs.old vias.old types.old c.regs ops.old c.opers rest in let a = plan m.from.0 m.into.0 run set in Stands P a m.inside m.places w.now → Given P a m.inside w.now → Holds (apply P a) bounds.new recs.new locs.new vias.new types.new ops.new }
 {
     let x = Head {
-        from: start(bounds, m.from),
+        from: m.start(bounds),
         count: m.inside,
     };
-    let s = Span {
-        from: start(bounds, m.into),
-        past: past(bounds, m.into),
-    };
+    let s = m.target(bounds);
+    let into = s.start;
     add_types(types, c.regs, w, m.inside);
     rename_all(t, recs, x, m.places, s, ops, c.opers, names, w);
-    move_all(recs, locs, vias, w, x.from, m.inside, s.from);
+    move_all(recs, locs, vias, w, x.from, m.inside, into);
     move_bounds(bounds, m.from, m.into, count(w, m.inside));
 }

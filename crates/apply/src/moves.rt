@@ -2,7 +2,7 @@
 ghost use Rattle.std.specs.Prelude.{◌≡◌, ◌+◌, ◌*◌, ◌<◌, length, get_or};
 
 use inst::index::BlockId;
-use words::numbers::wide;
+use std::ops::Range;
 
 // From and into which block; the positions of the chain that are in the first one, but for its last, and of the whole chain; how
 // many of them move.
@@ -15,20 +15,22 @@ pub struct Move {
     pub moved: u32,
 }
 
-// Where block b's records start.
-pub fn start(bounds: &[u32], b: BlockId) -> usize
-    requires { 2 * b.0 + 1 < length bounds.now }
-    ensures { result ≡ get_or bounds.now (2 * b.0) 0 }
-{
-    let k = b.at();
-    wide(bounds[2 * k])
-}
+impl Move {
+    // Where the records of the block start that it moves from.
+    pub fn start(self, bounds: &[u32]) -> usize
+        requires { 2 * self.from.0 + 1 < length bounds.now }
+        ensures { result ≡ get_or bounds.now (2 * self.from.0) 0 }
+    {
+        bounds[2 * self.from.at()] as usize
+    }
 
-// The record behind its last one.
-pub fn past(bounds: &[u32], b: BlockId) -> usize
-    requires { 2 * b.0 + 1 < length bounds.now }
-    ensures { result ≡ get_or bounds.now (2 * b.0 + 1) 0 }
-{
-    let k = b.at();
-    wide(bounds[2 * k + 1])
+    // The records of the block that it moves into.
+    pub fn target(self, bounds: &[u32]) -> Range<usize>
+        requires { 2 * self.into.0 + 1 < length bounds.now }
+        ensures start { result.start ≡ get_or bounds.now (2 * self.into.0) 0 }
+        ensures end { result.end ≡ get_or bounds.now (2 * self.into.0 + 1) 0 }
+    {
+        let k = 2 * self.into.at();
+        bounds[k] as usize..bounds[k + 1] as usize
+    }
 }

@@ -4,13 +4,13 @@ ghost use Rattle.std.specs.Prelude.{◌≡◌, length};
 ghost use Rattle.rename.specs.Names.{Exists};
 ghost use Rattle.apply.specs.Apply.{Asks, Counted};
 
-use crate::moves::{Move, past, start};
-use inst::table::Table;
+use crate::moves::Move;
+use inst::code::Code;
 use pool::allot::allot;
 use rename::all::count_all;
-use rename::parts::{Head, Span};
+use rename::parts::Head;
 
-// Registers and operands in use.
+// Registers and operands in use. (It is no `sizes::InUse`: what is counted may be more operands than a word says, until it is weighed.)
 #[derive(Clone, Copy)]
 pub struct Counts {
     pub regs: u32,
@@ -19,31 +19,25 @@ pub struct Counts {
 
 // Those in use after move m, where c are.
 pub fn needs(
-    t: &Table,
+    code: &Code,
     bounds: &[u32],
-    recs: &[u32],
     types: &[u32],
-    ops: &[u32],
     names: &mut [u64],
     w: &mut [u32],
     m: Move,
     c: Counts,
 ) -> Counts
-    requires { Exists (λ N. Asks m.from.0 m.into.0 m.inside m.places c.regs c.opers (length names.old) N bounds.now recs.now types.now ops.now w.old) }
-    ensures { Counted m.from.0 m.into.0 m.inside m.places c.regs c.opers bounds.now recs.now types.now ops.now w.old w.new result.regs result.opers }
+    requires { Exists (λ N. Asks m.from.0 m.into.0 m.inside m.places c.regs c.opers (length names.old) N bounds.now code.now.recs.now types.now code.now.ops.now w.old) }
+    ensures { Counted m.from.0 m.into.0 m.inside m.places c.regs c.opers bounds.now code.now.recs.now types.now code.now.ops.now w.old w.new result.regs result.opers }
 {
     let regs = allot(w, m.inside, c.regs, types);
     let x = Head {
-        from: start(bounds, m.from),
+        from: m.start(bounds),
         count: m.inside,
     };
-    let s = Span {
-        from: start(bounds, m.into),
-        past: past(bounds, m.into),
-    };
-    let more = count_all(t, recs, x, m.places, s, ops, names, w);
+    let more = count_all(code, x, m.places, m.target(bounds), names, w);
     Counts {
-        regs: regs,
+        regs,
         opers: c.opers + more,
     }
 }

@@ -19,32 +19,30 @@ use Rattle.inst.specs.Index.{reg_of, word_of, Among}
 use Rattle.inst.specs.declared.index.Reg.{Reg}
 use Rattle.model.specs.Move.{Pool, release, gives}
 use Rattle.inst.proofs.Indices.{among_made, word_made}
+use Rattle.pool.specs.declared.held.Pool.{Pool as Words}
 use Rattle.pool.specs.Pool.{Is, Turn, Ready, Positioned, Allotted, Allots, mark_at, last_at, wrote_at, new_at, after, typed, start, reg_or, regs_of, grow_if, piled}
 
 -- ---- one position
 
-pub position_none : {p nh nf next : ℕ} {types w xs : List ℕ} → mark_at w p ≡ 0 → Positioned p nh nf next types w (set w (10 * p + 9) absent) xs xs nh nf next
+pub position_none : {p : ℕ} {types w : List ℕ} {a : Words} → mark_at w p ≡ 0 → Positioned p types w (set w (10 * p + 9) absent) a a
 position_none z = record {
-  pool_size = refl;
   reg = absent;
   stored = refl;
   room = omega arith;
   small = omega arith;
-  unmarked = λ e. (refl, refl, refl, refl, refl);
+  unmarked = λ e. (refl, refl);
   marked = λ f. absurd (f z);
 }
 
-pub position_some : {p p' d nh nf next reg nh' nf' next' : ℕ} {types w xs ys : List ℕ} → (mark_at w p ≡ 0 → ⊥) → p' ≡ p → d ≡ wrote_at w p
-    → Turn 800 p' (last_at w p) d nh nf next types xs ys reg nh' nf' next' → Positioned p nh nf next types w (set w (10 * p + 9) reg) xs ys nh' nf' next'
-position_some {p} {p'} {d} {nh} {nf} {next} {reg} {nh'} {nf'} {next'} {types} {w} {xs} {ys} nz e ed t = record {
-  pool_size = t.size;
+pub position_some : {p d reg : ℕ} {types w : List ℕ} {a b : Words} → (mark_at w p ≡ 0 → ⊥) → d ≡ wrote_at w p
+    → Turn p (last_at w p) d types a b reg → Positioned p types w (set w (10 * p + 9) reg) a b
+position_some {p} {d} {reg} {types} {w} {a} {b} nz ed t = record {
   reg = reg;
   stored = refl;
   room = t.room;
   small = t.small;
   unmarked = λ z. absurd (nz z);
-  marked = λ f. subst (λ (k : ℕ). Turn 800 p (last_at w p) k nh nf next types xs ys reg nh' nf' next') ed
-      (subst (λ (k : ℕ). Turn 800 k (last_at w p) d nh nf next types xs ys reg nh' nf' next') e t);
+  marked = λ f. subst (λ (k : ℕ). Turn p (last_at w p) k types a b reg) ed t;
 }
 
 -- the register that a position writes
@@ -78,23 +76,21 @@ typed_same types v w ts (suc p) h g =
 
 -- ---- the loop
 
-pub record Allotting (R m : ℕ) (types w v xs : List ℕ) (nh nf next p : ℕ) : Type 0 where
+pub record Allotting (R m : ℕ) (types w v : List ℕ) (a : Words) (p : ℕ) : Type 0 where
   pub high : p ≤ m
-  pub counts : nh + nf ≤ p
-  pub below : next ≤ R + 2 * p
-  pub long : length xs ≡ 1600
-  pub is : Is R 800 types xs nh nf next (after w p (start R types))
-  pub rest : Allotted R types w v next p
+  pub counts : a.nh + a.nf ≤ p
+  pub below : a.next ≤ R + 2 * p
+  pub is : Is R types a (after w p (start R types))
+  pub rest : Allotted R types w v a.next p
 
-pub allotting_none : {R m : ℕ} {types w xs : List ℕ} → Ready R m types w → length xs ≡ 1600 → Allotting R m types w w xs 0 0 R 0
+pub allotting_none : {R m : ℕ} {types w hs fs : List ℕ} {f : _} → Ready R m types w → Allotting R m types w w (record { held = hs; nh = 0; free = fs; nf = 0; next = R; few = f }) 0
 unfolding after typed piled
-allotting_none {R} {m} {types} {w} {xs} r long =
+allotting_none {R} {m} {types} {w} {hs} {fs} {f} r =
     let n : length (take R types) ≡ R = length-take-le R types r.regs in
     record {
       high = omega arith;
       counts = omega arith;
       below = omega arith;
-      long = long;
       is = record {
         held_is = refl;
         free_is = refl;
@@ -106,8 +102,8 @@ allotting_none {R} {m} {types} {w} {xs} r long =
       rest = record { size = refl; keeps = λ q k h. refl; next_is = n; types_are = refl; given_are = λ q x h. absurd (omega arith); given_later = λ q x h. refl; none_new = λ q h. absurd (omega arith) };
     }
 
-pub allotting_ready : {R m nh nf next p : ℕ} {types w v xs : List ℕ} → Ready R m types w → Allotting R m types w v xs nh nf next p → Ready R m types v
-allotting_ready {R} {m} {nh} {nf} {next} {p} {types} {w} {v} r h =
+pub allotting_ready : {R m p : ℕ} {types w v : List ℕ} {a : Words} → Ready R m types w → Allotting R m types w v a p → Ready R m types v
+allotting_ready {R} {m} {p} {types} {w} {v} r h =
     let k = h.rest.keeps in
     record {
       regs = r.regs;
@@ -120,15 +116,15 @@ allotting_ready {R} {m} {nh} {nf} {next} {p} {types} {w} {v} r h =
     }
 
 -- what a position's turn makes of the pool
-record Step (R p reg nh nf next : ℕ) (types ys : List ℕ) (s s' : Pool) (d : ℕ) : Type 0 where
-  is : Is R 800 types ys nh nf next s'
+record Step (R p reg : ℕ) (types : List ℕ) (b : Words) (s s' : Pool) (d : ℕ) : Type 0 where
+  is : Is R types b s'
   types_is : s'.types ≡ grow_if (eqb reg (length s.types)) s.types (get_or types d 0)
   before_is : (q x : ℕ) → q < p → lookup s'.given q x ≡ lookup s.given q x
   here_is : (x : ℕ) → ((y : ℕ) → lookup s.given p y ≡ y) → lookup s'.given p x ≡ reg_or reg x
   later_is : (q x : ℕ) → p < q → lookup s'.given q x ≡ lookup s.given q x
 
-module _ {R m nh nf next p nh' nf' next' : ℕ} {types w v xs v' ys : List ℕ} (r : Ready R m types w) (h : Allotting R m types w v xs nh nf next p) (lt : p < m)
-    (t : Positioned p nh nf next types v v' xs ys nh' nf' next') where
+module _ {R m p : ℕ} {types w v v' : List ℕ} {a b : Words} (r : Ready R m types w) (h : Allotting R m types w v a p) (lt : p < m)
+    (t : Positioned p types v v' a b) where
   abbrev s : Pool
   s = after w p (start R types)
 
@@ -138,29 +134,28 @@ module _ {R m nh nf next p nh' nf' next' : ℕ} {types w v xs v' ys : List ℕ} 
   reg : ℕ
   reg = t.reg
 
-  few : next < 131000
-  few = let a = h.below in let b = r.few in let c = r.few_regs in omega arith
+  few : a.next < 131000
+  few = let k = h.below in let l = r.few in let n = r.few_regs in omega arith
 
-  step_none : mark_at w p ≡ 0 → Step R p t.reg nh' nf' next' types ys s s d
+  step_none : mark_at w p ≡ 0 → Step R p t.reg types b s s d
   step_none z =
       let u = t.unmarked (h.rest.keeps p 6 (omega arith) ∙ z) in
-      let a : eqb t.reg absent ≡ true = eq-eqb t.reg absent u.0 in
+      let e : eqb t.reg absent ≡ true = eq-eqb t.reg absent u.0 in
       let n = h.is.next_is in
       record {
-        is = subst (λ (l : List ℕ). Is R 800 types l nh' nf' next' s) (sym u.4)
-            (subst (λ (k : ℕ). Is R 800 types xs k nf' next' s) (sym u.1) (subst (λ (k : ℕ). Is R 800 types xs nh k next' s) (sym u.2) (subst (λ (k : ℕ). Is R 800 types xs nh nf k s) (sym u.3) h.is)));
-        types_is = sym (ap (λ (b : Bool). grow_if b s.types (get_or types d 0)) (ne_eqb t.reg (length s.types) (λ q. let b = few in omega (arith, u.0))));
+        is = subst (λ (c : Words). Is R types c s) (sym u.1) h.is;
+        types_is = sym (ap (λ (b : Bool). grow_if b s.types (get_or types d 0)) (ne_eqb t.reg (length s.types) (λ q. let l = few in omega (arith, u.0))));
         before_is = λ q x l. refl;
-        here_is = λ x g. g x ∙ sym (ap (λ (b : Bool). cond b x t.reg) a);
+        here_is = λ x g. g x ∙ sym (ap (λ (b : Bool). cond b x t.reg) e);
         later_is = λ q x l. refl;
       }
 
-  step_some : (mark_at w p ≡ 0 → ⊥) → Step R p t.reg nh' nf' next' types ys s (gives p (last_at w p) (release p s) (regs_of d)) d
+  step_some : (mark_at w p ≡ 0 → ⊥) → Step R p t.reg types b s (gives p (last_at w p) (release p s) (regs_of d)) d
   step_some nz =
       let k = h.rest.keeps in
-      let turn : Turn 800 p (last_at w p) d nh nf next types xs ys t.reg nh' nf' next' =
-      subst (λ (x : ℕ). Turn 800 p x d nh nf next types xs ys t.reg nh' nf' next') (k p 7 (omega arith))
-      (subst (λ (x : ℕ). Turn 800 p (last_at v p) x nh nf next types xs ys t.reg nh' nf' next') (k p 8 (omega arith)) (t.marked (λ z. nz (sym (k p 6 (omega arith)) ∙ z)))) in
+      let turn : Turn p (last_at w p) d types a b t.reg =
+      subst (λ (x : ℕ). Turn p x d types a b t.reg) (k p 7 (omega arith))
+      (subst (λ (x : ℕ). Turn p (last_at v p) x types a b t.reg) (k p 8 (omega arith)) (t.marked (λ z. nz (sym (k p 6 (omega arith)) ∙ z)))) in
       let u = turn.step R s h.is (r.wrote_ok p lt) in
       let g = u.given_is in
       record {
@@ -175,18 +170,18 @@ module _ {R m nh nf next p nh' nf' next' : ℕ} {types w v xs v' ys : List ℕ} 
       other true q x e = refl
       other false q x e = ap (λ (c : Bool). elim c as (λ z. ℕ) [ true ↦ t.reg | false ↦ lookup s.given q x ]) e
 
-      here : (b : Bool) → eqb d absent ≡ b → (x : ℕ) → ((y : ℕ) → lookup s.given p y ≡ y) → Turn 800 p (last_at w p) d nh nf next types xs ys t.reg nh' nf' next'
-          → lookup (cond b s.given ((p, t.reg) ∷ s.given)) p x ≡ reg_or t.reg x
+      here : (m : Bool) → eqb d absent ≡ m → (x : ℕ) → ((y : ℕ) → lookup s.given p y ≡ y) → Turn p (last_at w p) d types a b t.reg
+          → lookup (cond m s.given ((p, t.reg) ∷ s.given)) p x ≡ reg_or t.reg x
       here true e x f turn = f x ∙ sym (ap (λ (c : Bool). cond c x t.reg) (eq-eqb t.reg absent (turn.none_is (eqb-true d absent e))))
       here false e x f turn =
           ap (λ (c : Bool). elim c as (λ z. ℕ) [ true ↦ t.reg | false ↦ lookup s.given p x ]) (eq-eqb p p refl)
           ∙ sym (ap (λ (c : Bool). cond c x t.reg) (ne_eqb t.reg absent (λ q. let l = turn.some_is (eqb-false d absent e) in omega arith)))
 
-  step : Step R p t.reg nh' nf' next' types ys s (after w (suc p) (start R types)) d
+  step : Step R p t.reg types b s (after w (suc p) (start R types)) d
   unfolding after
   step = go (eqb (mark_at w p) 0) refl
     where
-      go : (b : Bool) → eqb (mark_at w p) 0 ≡ b → Step R p t.reg nh' nf' next' types ys s (cond b s (gives p (last_at w p) (release p s) (regs_of d))) d
+      go : (m : Bool) → eqb (mark_at w p) 0 ≡ m → Step R p t.reg types b s (cond m s (gives p (last_at w p) (release p s) (regs_of d))) d
       go true e = step_none (eqb-true (mark_at w p) 0 e)
       go false e = step_some (eqb-false (mark_at w p) 0 e)
 
@@ -197,7 +192,7 @@ module _ {R m nh nf next p nh' nf' next' : ℕ} {types w v xs v' ys : List ℕ} 
   earlier q l = ap (λ (z : List ℕ). new_at z q) t.stored ∙ set_before v p t.reg q l
 
   new_is : new_at v' p ≡ t.reg
-  new_is = ap (λ (z : List ℕ). new_at z p) t.stored ∙ get_or-set_same v (10 * p + 9) t.reg 0 (let a = h.rest.size in let b = r.size in omega arith)
+  new_is = ap (λ (z : List ℕ). new_at z p) t.stored ∙ get_or-set_same v (10 * p + 9) t.reg 0 (let k = h.rest.size in let l = r.size in omega arith)
 
   types_next : (after w (suc p) (start R types)).types ≡ typed types v' (suc p) (take R types)
   unfolding typed
@@ -227,19 +222,18 @@ module _ {R m nh nf next p nh' nf' next' : ℕ} {types w v xs v' ys : List ℕ} 
       (λ b. let s : p ≡ q = omega arith in subst (λ (k : ℕ). new_at v' k ≡ absent) s (new_is ∙ none_here (ap (wrote_at w) s ∙ e)))
       (lt? q p)
 
-  pub allotting_more : Allotting R m types w v' ys nh' nf' next' (p + 1)
+  pub allotting_more : Allotting R m types w v' b (p + 1)
   allotting_more =
-      let a = h.counts in
-      let b = t.room in
-      let c = h.below in
-      let e = t.small in
+      let counts = h.counts in
+      let room = t.room in
+      let below = h.below in
+      let small = t.small in
       record {
         high = omega arith;
         counts = omega arith;
         below = omega arith;
-        long = t.pool_size ∙ h.long;
-        is = subst (λ (k : ℕ). Is R 800 types ys nh' nf' next' (after w k (start R types))) (sym (add-one p)) step.is;
-        rest = subst (Allotted R types w v' next') (sym (add-one p)) (record {
+        is = subst (λ (k : ℕ). Is R types b (after w k (start R types))) (sym (add-one p)) step.is;
+        rest = subst (Allotted R types w v' b.next) (sym (add-one p)) (record {
           size = ap length t.stored ∙ length-set v (10 * p + 9) t.reg ∙ h.rest.size;
           keeps = keeps;
           next_is = step.is.next_is;
@@ -250,7 +244,7 @@ module _ {R m nh nf next p nh' nf' next' : ℕ} {types w v xs v' ys : List ℕ} 
         });
       }
 
-pub allotting_end : {R m nh nf next p : ℕ} {types w v xs : List ℕ} → Allotting R m types w v xs nh nf next p → m ≤ p → Allots R m types w v next
-allotting_end {R} {m} {nh} {nf} {next} {p} {types} {w} {v} h l =
+pub allotting_end : {R m p : ℕ} {types w v : List ℕ} {a : Words} → Allotting R m types w v a p → m ≤ p → Allots R m types w v a.next
+allotting_end {R} {m} {p} {types} {w} {v} {a} h l =
     let e : p ≡ m = le_antisymm h.high l in
-    record { all = subst (Allotted R types w v next) e h.rest; above = h.is.enough; below = let b = h.below in omega arith }
+    record { all = subst (Allotted R types w v a.next) e h.rest; above = h.is.enough; below = let b = h.below in omega arith }

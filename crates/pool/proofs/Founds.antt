@@ -1,18 +1,20 @@
--- The free words: the search from the top, and the closing up. Assumes nothing.
-use Rattle.std.specs.Prelude.{Some}
+-- The free words: the topmost of a type, and the closing up. Assumes nothing.
+use Rattle.std.proofs.lemmas.Option.{none-some, same_Some}
+use Rattle.std.specs.Prelude.{Option, Some, None, IfSome, IfNone}
 use mathlib.Core.Path.{◌≡◌, refl, sym, ap, ap₂, ◌∙◌, subst}
-use mathlib.Core.Bool.{Bool, true, false, cond}
-use mathlib.Core.List.{List, [], ◌∷◌, ◌++◌, append_assoc, append-nil}
-use Prim.Native.Nat.{ℕ, suc, ◌+◌, ◌-◌, ◌≤◌, ◌<◌}
-use native.Mathlib.Nat.{add-zero, sub_self, sub-zero, suc_inj}
-use native.Mathlib.Numerals.{add-one}
+use mathlib.Core.Bool.{Bool, false, cond}
+use mathlib.Core.List.{List, [], ◌∷◌, ◌++◌}
+use Prim.Native.Nat.{ℕ, suc, ◌+◌, ◌-◌, ◌%◌, ◌≤◌, ◌<◌}
 use native.Mathlib.Omega.{arith}
 use borrow.Author.Tests.{eq-eqb, ne_eqb}
 use lib.Dec.{eqb}
-use lib.ListN.{length, take, drop, get_or, set, length-set}
-use lib.Seq.{take-set-le, get_or-set_other, drop-cons}
-use Rattle.pool.specs.Pool.{part, piled, free_of, Topmost, Top, Removed}
-use Rattle.words.proofs.Parts.{part_push, part_snoc}
+use lib.ListN.{length, take, drop, get_or, take-append-drop, length-drop}
+use lib.Seq.{drop-cons, length-take-le, get_or-drop, take-take, paste}
+use Rattle.std.proofs.lemmas.List.{drop-take, get_or-take}
+use Rattle.std.proofs.lemmas.List.Edits.{take-paste}
+use native.Mathlib.Numerals.{add-one}
+use Rattle.pool.specs.declared.held.Pool.{Pool as Words}
+use Rattle.pool.specs.Pool.{piled, free_of, free_words, Top}
 use Rattle.model.specs.Move.{found, without}
 
 pub piled_append : (us vs : List ℕ) (fs : List (ℕ × ℕ)) → piled (us ++ vs) fs ≡ piled vs (piled us fs)
@@ -20,113 +22,80 @@ unfolding piled
 piled_append [] vs fs = refl
 piled_append (a ∷ us) vs fs = piled_append us vs (free_of a ∷ fs)
 
-pub piled_snoc : (ws : List ℕ) (w : ℕ) (fs : List (ℕ × ℕ)) → piled (ws ++ (w ∷ [])) fs ≡ free_of w ∷ piled ws fs
-unfolding piled
-piled_snoc ws w fs = piled_append ws (w ∷ []) fs
+-- none of them is of type ty
+pub record Others (ty : ℕ) (ws : List ℕ) : Type 0 where
+  pub are : (k : ℕ) → k < length ws → (free_of (get_or ws k 0)).0 ≡ ty → ⊥
 
-module _ (ty m nf : ℕ) (xs : List ℕ) where
-  pub topmost_start : Topmost ty m nf xs nf
+module _ (ty : ℕ) where
+  rest_others : (w : ℕ) (ws : List ℕ) → Others ty (w ∷ ws) → Others ty ws
+  rest_others w ws h = record { are = λ k l. h.are (suc k) (omega arith) }
+
+  first_other : (w : ℕ) (ws : List ℕ) → Others ty (w ∷ ws) → eqb (free_of w).0 ty ≡ false
+  first_other w ws h = ne_eqb (free_of w).0 ty (h.are 0 (omega arith))
+
+  -- words of other types on top change neither what is found nor what is left below
+  pub found_below : (ws : List ℕ) (fs : List (ℕ × ℕ)) → Others ty ws → found ty (piled ws fs) ≡ found ty fs
   unfolding piled
-  topmost_start = record { within = omega arith; found_is = refl; rest_is = ap (λ (k : ℕ). piled (part (m + nf) k xs) (without ty (piled (part m nf xs) []))) (sym (sub_self nf)) }
+  found_below [] fs h = refl
+  found_below (w ∷ ws) fs h = found_below ws (free_of w ∷ fs) (rest_others w ws h) ∙ ap (λ (b : Bool). cond b (Some (free_of w).1) (found ty fs)) (first_other w ws h)
 
-  abbrev below : ℕ → List (ℕ × ℕ)
-  below j = piled (part m j xs) []
-
-  top : (j : ℕ) → m + j < length xs → below (j + 1) ≡ free_of (get_or xs (m + j) 0) ∷ below j
-  top j h = ap (λ (l : List ℕ). piled l []) (part_snoc m j xs 0 h) ∙ piled_snoc (part m j xs) (get_or xs (m + j) 0) []
-
-  above : (j : ℕ) → m + j < length xs → j < nf → part (m + j) (nf - j) xs ≡ get_or xs (m + j) 0 ∷ part (m + (j + 1)) (nf - (j + 1)) xs
-  above j h k =
-      ap (λ (l : List ℕ). take (nf - j) l) (drop-cons xs (m + j) 0 h)
-      ∙ ap₂ (λ (n a : ℕ). take n (get_or xs (m + j) 0 ∷ drop a xs)) {x = nf - j} {y = suc (nf - (j + 1))} {u = suc (m + j)} {v = m + (j + 1)} (omega arith) (omega arith)
-
-  next : (j : ℕ) → Topmost ty m nf xs (j + 1) → m + nf ≤ length xs → ((free_of (get_or xs (m + j) 0)).0 ≡ ty → ⊥) → Topmost ty m nf xs j
+  pub rest_below : (ws : List ℕ) (fs : List (ℕ × ℕ)) → Others ty ws → without ty (piled ws fs) ≡ piled ws (without ty fs)
   unfolding piled
-  next j h len nt =
-      let w : ℕ = get_or xs (m + j) 0 in
-      let wi = h.within in
-      let lt : m + j < length xs = omega arith in
-      let t : eqb (free_of w).0 ty ≡ false = ne_eqb (free_of w).0 ty nt in
-      record {
-        within = omega arith;
-        found_is = h.found_is ∙ ap (found ty) (top j lt) ∙ ap (λ (b : Bool). cond b (Some (free_of w).1) (found ty (below j))) t;
-        rest_is =
-            h.rest_is
-            ∙ ap (λ (l : List (ℕ × ℕ)). piled (part (m + (j + 1)) (nf - (j + 1)) xs) l) (ap (without ty) (top j lt) ∙ ap (λ (b : Bool). cond b (below j) (free_of w ∷ without ty (below j))) t)
-            ∙ ap (λ (l : List ℕ). piled l (without ty (below j))) (sym (above j lt (omega arith)));
-      }
+  rest_below [] fs h = refl
+  rest_below (w ∷ ws) fs h =
+      rest_below ws (free_of w ∷ fs) (rest_others w ws h) ∙ ap (λ (b : Bool). piled ws (cond b fs (free_of w ∷ without ty fs))) (first_other w ws h)
 
-  pub topmost_next : (i : ℕ) → Topmost ty m nf xs i → 0 < i → m + nf ≤ length xs → ((free_of (get_or xs (m + (i - 1)) 0)).0 ≡ ty → ⊥) → Topmost ty m nf xs (i - 1)
-  topmost_next i h pos len nt = next (i - 1) (subst (λ (k : ℕ). Topmost ty m nf xs k) {x = i} {y = i - 1 + 1} (omega arith) h) len nt
-
-  pub topmost_none : (i : ℕ) → Topmost ty m nf xs i → i ≤ 0 → Top ty m nf xs 0
+  -- the word at place k, and what is above it
+  split_at : (ws : List ℕ) (k : ℕ) → k < length ws → piled ws [] ≡ piled (drop (suc k) ws) (free_of (get_or ws k 0) ∷ piled (take k ws) [])
   unfolding piled
-  topmost_none i h₀ z =
-      let h : Topmost ty m nf xs 0 = subst (λ (k : ℕ). Topmost ty m nf xs k) {x = i} {y = 0} (omega arith) h₀ in
-      record {
-        within = omega arith;
-        found_is = h.found_is;
-        rest_is = h.rest_is ∙ ap₂ (λ (a n : ℕ). piled (part a n xs) []) (add-zero m) (sub-zero nf);
-        type_is = λ a e. absurd (never a e);
-      }
-    where
-      never : (a : ℕ) → 0 ≡ suc a → ⊥
-      never a e = omega arith
+  split_at ws k lt =
+      ap (λ (l : List ℕ). piled l []) (sym (take-append-drop k ws)) ∙ piled_append (take k ws) (drop k ws) []
+      ∙ ap (λ (l : List ℕ). piled l (piled (take k ws) [])) (drop-cons ws k 0 lt)
 
-  yes_at : (j : ℕ) → Topmost ty m nf xs (j + 1) → m + nf ≤ length xs → (free_of (get_or xs (m + j) 0)).0 ≡ ty → Top ty m nf xs (suc j)
-  unfolding piled
-  yes_at j h len e =
-      let w : ℕ = get_or xs (m + j) 0 in
-      let wi = h.within in
-      let lt : m + j < length xs = omega arith in
-      let t : eqb (free_of w).0 ty ≡ true = eq-eqb (free_of w).0 ty e in
-      record {
-        within = omega arith;
-        found_is = h.found_is ∙ ap (found ty) (top j lt) ∙ ap (λ (b : Bool). cond b (Some (free_of w).1) (found ty (below j))) t;
-        rest_is =
-            h.rest_is
-            ∙ ap (λ (l : List (ℕ × ℕ)). piled (part (m + (j + 1)) (nf - (j + 1)) xs) l) (ap (without ty) (top j lt) ∙ ap (λ (b : Bool). cond b (below j) (free_of w ∷ without ty (below j))) t)
-            ∙ sym (piled_append (part m j xs) (part (m + (j + 1)) (nf - (j + 1)) xs) [])
-            ∙ ap (λ (k : ℕ). piled (part m j xs ++ part (m + k) (nf - k) xs) []) (add-one j);
-        type_is = λ a q. subst (λ (k : ℕ). (free_of (get_or xs (m + k) 0)).0 ≡ ty) (suc_inj q) e;
-      }
+  module _ (ws : List ℕ) (k : ℕ) (lt : k < length ws) (is : (free_of (get_or ws k 0)).0 ≡ ty) (h : Others ty (drop (suc k) ws)) where
+    pub found_at : found ty (piled ws []) ≡ Some (free_of (get_or ws k 0)).1
+    found_at =
+        ap (found ty) (split_at ws k lt) ∙ found_below (drop (suc k) ws) (free_of (get_or ws k 0) ∷ piled (take k ws) []) h
+        ∙ ap (λ (b : Bool). cond b (Some (free_of (get_or ws k 0)).1) (found ty (piled (take k ws) []))) (eq-eqb (free_of (get_or ws k 0)).0 ty is)
 
-  pub topmost_yes : (i : ℕ) → Topmost ty m nf xs i → 0 < i → m + nf ≤ length xs → (free_of (get_or xs (m + (i - 1)) 0)).0 ≡ ty → Top ty m nf xs i
-  topmost_yes i h pos len e =
-      subst (λ (k : ℕ). Top ty m nf xs k) {x = suc (i - 1)} {y = i} (omega arith)
-      (yes_at (i - 1) (subst (λ (k : ℕ). Topmost ty m nf xs k) {x = i} {y = i - 1 + 1} (omega arith) h) len e)
+    pub rest_is_at : without ty (piled ws []) ≡ piled (take k ws ++ drop (suc k) ws) []
+    rest_is_at =
+        ap (without ty) (split_at ws k lt) ∙ rest_below (drop (suc k) ws) (free_of (get_or ws k 0) ∷ piled (take k ws) []) h
+        ∙ ap (λ (b : Bool). piled (drop (suc k) ws) (cond b (piled (take k ws) []) (free_of (get_or ws k 0) ∷ without ty (piled (take k ws) [])))) (eq-eqb (free_of (get_or ws k 0)).0 ty is)
+        ∙ sym (piled_append (take k ws) (drop (suc k) ws) [])
 
--- ---- closing up
+-- the type of a free word
+abbrev type_of : ℕ → ℕ
+type_of w = w % 1048576 % 8
 
-pub record Removing (m nf a : ℕ) (xs ys : List ℕ) (i : ℕ) : Type 0 where
-  pub so_far : Removed m nf a xs ys i
-  pub rest : (j : ℕ) → m + i < j → get_or ys j 0 ≡ get_or xs j 0
-
-pub removing_none : (m nf a : ℕ) (xs : List ℕ) → Removing m nf a xs xs a
-removing_none m nf a xs =
+-- the last of the free words that is of type ty, if there is one, is the topmost
+pub top_of : (ty : ℕ) (a : Words) (r : Option ℕ) → a.nf ≤ length a.free
+    → IfNone r ((k : ℕ) → k < length (free_words a) → type_of (get_or (free_words a) k 0) ≡ ty → ⊥)
+    → IfSome r (λ i. (i < length (free_words a)) × (type_of (get_or (free_words a) i 0) ≡ ty))
+    → IfSome r (λ i. (k : ℕ) → i < k → k < length (free_words a) → type_of (get_or (free_words a) k 0) ≡ ty → ⊥) → Top ty a r
+unfolding free_of
+top_of ty a None few none some above =
+    let h : Others ty (free_words a) = record { are = none } in
+    record { within = λ k e. absurd (none-some k e); found_is = found_below ty (free_words a) [] h; rest_is = rest_below ty (free_words a) [] h; type_is = λ k e. absurd (none-some k e) }
+top_of ty a (Some i) few none some above =
+    let ws : List ℕ = free_words a in
+    let n : length ws ≡ a.nf = length-take-le a.nf a.free few in
+    let lt = some.0 in
+    let w : get_or ws i 0 ≡ get_or a.free i 0 = get_or-take a.nf a.free i 0 (omega arith) in
+    let h : Others ty (drop (suc i) ws) =
+    record { are = λ k l e. let d = length-drop (suc i) ws in above (suc i + k) (omega arith) (omega arith) (ap (λ (x : ℕ). (free_of x).0) (sym (get_or-drop (suc i) ws k 0)) ∙ e) } in
     record {
-      so_far = record { size = refl; held_same = refl; closed = sym (append-nil (part m a xs)) ∙ ap (λ (k : ℕ). part m a xs ++ part (m + suc a) k xs) (sym (sub_self a)) };
-      rest = λ j h. refl;
+      within = λ k e. let q = same_Some i k e in omega arith;
+      found_is = found_at ty ws i lt some.1 h ∙ ap (λ (x : ℕ). Some (free_of x).1) w;
+      rest_is = rest_is_at ty ws i lt some.1 h;
+      type_is = λ k e. subst (λ (j : ℕ). (free_of (get_or a.free j 0)).0 ≡ ty) (same_Some i k e) (ap (λ (x : ℕ). (free_of x).0) (sym w) ∙ some.1);
     }
 
-pub removing_more : {m nf a i : ℕ} {xs ys : List ℕ} → Removing m nf a xs ys i → a ≤ i → i + 1 < nf → m + nf ≤ length xs → Removing m nf a xs (set ys (m + i) (get_or ys (m + (i + 1)) 0)) (i + 1)
-removing_more {m} {nf} {a} {i} {xs} {ys} h le lt len =
-    let v : ℕ = get_or ys (m + (i + 1)) 0 in
-    let sz = h.so_far.size in
-    let v_is : v ≡ get_or xs (m + suc a + (i - a)) 0 = h.rest (m + (i + 1)) (omega arith) ∙ ap (λ (k : ℕ). get_or xs k 0) {x = m + (i + 1)} {y = m + suc a + (i - a)} (omega arith) in
-    record {
-      so_far =
-          record {
-            size = length-set ys (m + i) v ∙ sz;
-            held_same = take-set-le m ys (m + i) v (omega arith) ∙ h.so_far.held_same;
-            closed =
-                part_push m i ys v (omega arith)
-                ∙ ap₂ (λ (l : List ℕ) (x : ℕ). l ++ (x ∷ [])) h.so_far.closed v_is
-                ∙ append_assoc (part m a xs) (part (m + suc a) (i - a) xs) (get_or xs (m + suc a + (i - a)) 0 ∷ [])
-                ∙ ap (λ (l : List ℕ). part m a xs ++ l) (sym (part_snoc (m + suc a) (i - a) xs 0 (omega arith)) ∙ ap (λ (k : ℕ). part (m + suc a) k xs) {x = i - a + 1} {y = i + 1 - a} (omega arith));
-          };
-      rest = λ j k. get_or-set_other ys (m + i) j v 0 (λ e. omega arith) ∙ h.rest j (omega arith);
-    }
-
-pub removing_end : {m nf a i : ℕ} {xs ys : List ℕ} → Removing m nf a xs ys i → i < nf → nf ≤ i + 1 → Removed m nf a xs ys (nf - 1)
-removing_end {m} {nf} {a} {i} {xs} {ys} h l k = subst (λ (n : ℕ). Removed m nf a xs ys n) {x = i} {y = nf - 1} (omega arith) h.so_far
+-- the words above place a close up over it
+pub closed_up : (ws : List ℕ) (nf a : ℕ) → a < nf → nf ≤ length ws → take (nf - 1) (paste ws a (drop (a + 1) ws) (nf - (a + 1))) ≡ take a (take nf ws) ++ drop (suc a) (take nf ws)
+closed_up ws nf a lt few =
+    let l = length-drop (a + 1) ws in
+    ap (λ (n : ℕ). take n (paste ws a (drop (a + 1) ws) (nf - (a + 1)))) {x = nf - 1} {y = a + (nf - (a + 1))} (omega arith)
+    ∙ take-paste ws a (drop (a + 1) ws) (nf - (a + 1)) (omega arith) (omega arith)
+    ∙ ap₂ (λ (us vs : List ℕ). us ++ vs) (sym (take-take a nf ws (omega arith)))
+    (ap (λ (n : ℕ). take (nf - n) (drop n ws)) (add-one a) ∙ sym (drop-take (suc a) (nf - suc a) ws) ∙ ap (λ (n : ℕ). drop (suc a) (take n ws)) {x = suc a + (nf - suc a)} {y = nf} (omega arith))

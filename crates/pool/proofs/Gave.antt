@@ -4,22 +4,23 @@ use Rattle.std.specs.Prelude.{Option, None, Some}
 use mathlib.Core.Path.{◌≡◌, refl, sym, ap, ap₂, ◌∙◌, subst}
 use mathlib.Core.Bool.{Bool, true, false, cond}
 use mathlib.Core.List.{List, [], ◌∷◌, ◌++◌, map}
-use Prim.Native.Nat.{ℕ, suc, ◌+◌, ◌-◌, ◌*◌, ◌/◌, ◌%◌, ◌≤◌, ◌<◌}
+use Prim.Native.Nat.{ℕ, suc, ◌+◌, ◌*◌, ◌/◌, ◌%◌, ◌≤◌, ◌<◌}
 use native.Mathlib.Nat.{mod-eq_of_lt, mod-lt, mul-add-mod_self_right, div-le_self}
 use native.Mathlib.Numerals.{add-one}
 use native.Mathlib.Omega.{arith}
 use borrow.Author.Tests.{eq-eqb, ne_eqb}
 use lib.Dec.{eqb}
 use lib.Arith.{digits_div}
-use lib.ListN.{length, take, get_or, set, length-set, get_or-append}
-use lib.Seq.{take-suc-set, take-take}
+use lib.ListN.{length, take, get_or, set, get_or-append}
+use lib.Seq.{take-suc-set}
 use Rattle.words.proofs.Lists.{map_append}
-use Rattle.words.proofs.Parts.{part_below}
+use Rattle.std.specs.Int.{from_bool}
 use Rattle.model.specs.Move.{Held, Pool, found, without, give, grown, given_reg, given_types}
-use Rattle.pool.specs.Pool.{part, held_of, free_of, piled, Top, Removed, Is, Gives, Gave, width, one_if, grow_if, Low}
+use Rattle.pool.specs.declared.held.Pool.{Pool as Words}
+use Rattle.pool.specs.Pool.{held_of, free_of, piled, free_words, Top, Removed, Is, Gives, Gave, width, grow_if, Low}
 use Rattle.pool.proofs.Lows.{low_give, found_low, grown_length}
 
-pub held_word : (u x : ℕ) → x < 1048576 → held_of (u * 1048576 + x) ≡ record { until = u; reg = x / 8; type = x % 8 }
+held_word : (u x : ℕ) → x < 1048576 → held_of (u * 1048576 + x) ≡ record { until = u; reg = x / 8; type = x % 8 }
 unfolding held_of
 held_word u x h =
     let q : (u * 1048576 + x) / 1048576 ≡ u = digits_div u h in
@@ -29,7 +30,7 @@ held_word u x h =
 pub width_small : (ty : ℕ) → width ty ≤ 2
 width_small ty = go (eqb ty 4)
   where
-    go : (b : Bool) → suc (one_if b) ≤ 2
+    go : (b : Bool) → suc (from_bool b) ≤ 2
     go true = omega arith
     go false = omega arith
 
@@ -58,8 +59,8 @@ given_by p until ty s o = record {
   given = (p, given_reg s.types o) ∷ s.given;
 }
 
-module _ {R m nh nf next : ℕ} {types xs : List ℕ} {s : Pool} (i : Is R m types xs nh nf next s) (until ty p d : ℕ) (lt : d < R) (is_ty : get_or types d 0 ≡ ty) where
-  give_is : (o : Option ℕ) → found ty (piled (part m nf xs) []) ≡ o → give p until s d ≡ given_by p until ty s o
+module _ {R : ℕ} {types : List ℕ} {a : Words} {s : Pool} (i : Is R types a s) (until ty p d : ℕ) (lt : d < R) (is_ty : get_or types d 0 ≡ ty) where
+  give_is : (o : Option ℕ) → found ty (piled (free_words a) []) ≡ o → give p until s d ≡ given_by p until ty s o
   give_is o e =
       ap (λ (t : ℕ). given_by p until t s (found t s.free)) (i.types_are d lt ∙ is_ty)
       ∙ ap (given_by p until ty s) (ap (found ty) (sym i.free_is) ∙ e)
@@ -67,16 +68,17 @@ module _ {R m nh nf next : ℕ} {types xs : List ℕ} {s : Pool} (i : Is R m typ
   types_more : (k : ℕ) → k < R → get_or (grown s.types ty) k 0 ≡ get_or types k 0
   types_more k h = get_or-append s.types (cond (eqb ty 4) (4 ∷ 0 ∷ []) (ty ∷ [])) 0 k (omega (arith, i.enough, i.next_is)) ∙ i.types_are k h
 
-pub gave_new : {m until ty nh nf next at k : ℕ} {xs : List ℕ} → Top ty m nf xs at → at ≡ 0 → nh + nf < m → m + m ≤ length xs → next < 131000 → ty < 8 → k ≡ width ty
-    → Gave m until ty nh nf next xs (set xs nh (until * 1048576 + (next * 8 + ty))) next (nh + 1) nf (next + k)
-gave_new {m} {until} {ty} {nh} {nf} {next} {at} {k} {xs} t₀ z few room small tys kw =
+-- the next register, where none of its type is free
+pub gave_new : {until ty k : ℕ} {a : Words} {f : _} → Top ty a None → a.nh < length a.held → a.next < 131000 → ty < 8 → k ≡ width ty
+    → Gave until ty a (record { held = set a.held a.nh (until * 1048576 + (a.next * 8 + ty)); nh = a.nh + 1; free = a.free; nf = a.nf; next = a.next + k; few = f }) a.next
+gave_new {until} {ty} {k} {a} {f} t room small tys kw =
+    let next : ℕ = a.next in
     let v : ℕ = until * 1048576 + (next * 8 + ty) in
-    let t : Top ty m nf xs 0 = subst (λ (a : ℕ). Top ty m nf xs a) z t₀ in
+    let b : Words = record { held = set a.held a.nh v; nh = a.nh + 1; free = a.free; nf = a.nf; next = next + k; few = f } in
     let x_small : next * 8 + ty < 1048576 = omega arith in
     let reg_is : (next * 8 + ty) / 8 ≡ next = digits_div next tys in
     let type_is : (next * 8 + ty) % 8 ≡ ty = mul-add-mod_self_right next 8 ty ∙ mod-eq_of_lt tys in
     record {
-      size = length-set xs nh v;
       room = omega arith;
       small = omega (arith, width_small ty);
       low = omega arith;
@@ -86,11 +88,11 @@ gave_new {m} {until} {ty} {nh} {nf} {next} {at} {k} {xs} t₀ z few room small t
           let same : give p until s d ≡ given_by p until ty s None = give_is i until ty p d lt e None t.found_is in
           let n_is = i.next_is in
           let l_is = grown_length s.types ty in
-          subst (Gives R m types (set xs nh v) (nh + 1) nf (next + k) p next ty s) (sym same)
+          subst (Gives R types b p next ty s) (sym same)
           (record {
             is = record {
-              held_is = held_more nh xs s (record { until = until; reg = length s.types; type = ty }) v (omega arith) i.held_is word;
-              free_is = ap (λ (l : List ℕ). piled l []) (part_below m nf xs nh v (omega arith)) ∙ i.free_is ∙ none_gone ty s.free (ap (found ty) (sym i.free_is) ∙ t.found_is);
+              held_is = held_more a.nh a.held s (record { until = until; reg = length s.types; type = ty }) v room i.held_is word;
+              free_is = i.free_is ∙ none_gone ty s.free (ap (found ty) (sym i.free_is) ∙ t.found_is);
               next_is = omega arith;
               enough = omega (arith, i.enough);
               types_are = types_more i until ty p d lt e;
@@ -101,38 +103,38 @@ gave_new {m} {until} {ty} {nh} {nf} {next} {at} {k} {xs} t₀ z few room small t
           });
     }
 
-again : {m until ty nh nf next a : ℕ} {xs ys : List ℕ} → Top ty m nf xs (suc a) → Removed m nf a xs ys (nf - 1) → nh + nf < m → m + m ≤ length xs
-    → Gave m until ty nh nf next xs (set ys nh (until * 1048576 + get_or xs (m + a) 0 % 1048576)) (get_or xs (m + a) 0 % 1048576 / 8) (nh + 1) (nf - 1) next
+-- the register of the free word at place k, which was taken out
+pub gave_again : {until ty k : ℕ} {a c : Words} {f : _} → Top ty a (Some k) → Removed k a c → a.nh < length a.held
+    → Gave until ty a (record { held = set c.held c.nh (until * 1048576 + get_or a.free k 0 % 1048576); nh = c.nh + 1; free = c.free; nf = c.nf; next = c.next; few = f }) (get_or a.free k 0 % 1048576 / 8)
 unfolding free_of
-again {m} {until} {ty} {nh} {nf} {next} {a} {xs} {ys} t r few room =
-    let w : ℕ = get_or xs (m + a) 0 in
+gave_again {until} {ty} {k} {a} {c} {f} t r room =
+    let w : ℕ = get_or a.free k 0 in
     let x : ℕ = w % 1048576 in
     let v : ℕ = until * 1048576 + x in
+    let b : Words = record { held = set c.held c.nh v; nh = c.nh + 1; free = c.free; nf = c.nf; next = c.next; few = f } in
     let pos : 0 < 1048576 = omega arith in
     let x_small : x < 1048576 = mod-lt w pos in
-    let tw = t.within in
-    let sz = r.size in
+    let nh = r.nh_same in
+    let nf = r.one_less in
+    let next = r.next_same in
     record {
-      size = length-set ys nh v ∙ r.size;
       room = omega arith;
       small = omega arith;
       low = let q = div-le_self x 8 in omega arith;
       step = λ R p d types s i lt e.
           let word : held_of v ≡ record { until = until; reg = x / 8; type = ty } =
-          held_word until x x_small ∙ ap (λ (b : ℕ). record { until = until; reg = x / 8; type = b }) (t.type_is a refl) in
-          let hs : map held_of (take nh ys) ≡ s.held =
-          ap (map held_of) (sym (take-take nh m ys (omega arith)) ∙ ap (take nh) r.held_same ∙ take-take nh m xs (omega arith)) ∙ i.held_is in
-          let fs : part m (nf - 1) (set ys nh v) ≡ part m a xs ++ part (m + suc a) (nf - suc a) xs =
-          part_below m (nf - 1) ys nh v (omega arith) ∙ r.closed ∙ ap (λ (n : ℕ). part m a xs ++ part (m + suc a) n xs) {x = nf - 1 - a} {y = nf - suc a} (omega arith) in
+          held_word until x x_small ∙ ap (λ (b : ℕ). record { until = until; reg = x / 8; type = b }) (t.type_is k refl) in
+          let hs : map held_of (take c.nh c.held) ≡ s.held = ap₂ (λ (n : ℕ) (l : List ℕ). map held_of (take n l)) nh r.held_same ∙ i.held_is in
+          let long : c.nh < length c.held = let l = ap length r.held_same in omega arith in
           let same : give p until s d ≡ given_by p until ty s (Some (x / 8)) = give_is i until ty p d lt e (Some (x / 8)) t.found_is in
           let below : x / 8 < length s.types = found_low s i.low ty (x / 8) (ap (found ty) (sym i.free_is) ∙ t.found_is) in
-          subst (Gives R m types (set ys nh v) (nh + 1) (nf - 1) next p (x / 8) ty s) (sym same)
+          subst (Gives R types b p (x / 8) ty s) (sym same)
           (record {
             is = record {
-              held_is = held_more nh ys s (record { until = until; reg = x / 8; type = ty }) v (omega arith) hs word;
-              free_is = ap (λ (l : List ℕ). piled l []) fs ∙ sym t.rest_is ∙ ap (without ty) i.free_is;
-              next_is = i.next_is;
-              enough = i.enough;
+              held_is = held_more c.nh c.held s (record { until = until; reg = x / 8; type = ty }) v long hs word;
+              free_is = ap (λ (l : List ℕ). piled l []) r.closed ∙ sym t.rest_is ∙ ap (without ty) i.free_is;
+              next_is = i.next_is ∙ sym next;
+              enough = let n = i.enough in omega arith;
               types_are = i.types_are;
               low = subst Low same (low_give p until s d i.low);
             };
@@ -140,7 +142,3 @@ again {m} {until} {ty} {nh} {nf} {next} {a} {xs} {ys} t r few room =
             types_is = sym (ap (λ (b : Bool). grow_if b s.types ty) (ne_eqb (x / 8) (length s.types) (λ q. omega arith)));
           });
     }
-
-pub gave_again : {m until ty nh nf next at : ℕ} {xs ys : List ℕ} → Top ty m nf xs at → (at ≡ 0 → ⊥) → Removed m nf (at - 1) xs ys (nf - 1) → nh + nf < m → m + m ≤ length xs
-    → Gave m until ty nh nf next xs (set ys nh (until * 1048576 + get_or xs (m + (at - 1)) 0 % 1048576)) (get_or xs (m + (at - 1)) 0 % 1048576 / 8) (nh + 1) (nf - 1) next
-gave_again {m} {until} {ty} {nh} {nf} {next} {at} {xs} {ys} t nz r few room = again (subst (λ (k : ℕ). Top ty m nf xs k) {x = at} {y = suc (at - 1)} (omega arith) t) r few room

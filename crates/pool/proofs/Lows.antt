@@ -13,7 +13,8 @@ use lib.ListN.{length, get_or, length-append}
 use Rattle.words.specs.Lists.{In}
 use Rattle.words.proofs.Members.{filter_in, in_split}
 use Rattle.model.specs.Move.{Held, Pool, past, freed, release, found, without, grown, given_reg, given_types, give}
-use Rattle.pool.specs.Pool.{Low, width, one_if}
+use Rattle.std.specs.Int.{from_bool}
+use Rattle.pool.specs.Pool.{Low, width}
 
 freed_in : (p : ℕ) (hs : List Held) (fs : List (ℕ × ℕ)) (f : ℕ × ℕ) → In f (freed p hs fs) → In f fs ⊎ ((h : Held) × In h hs × (f.1 ≡ h.reg))
 freed_in p [] fs f i = inl i
@@ -52,7 +53,7 @@ without_in ty (g ∷ fs) f i = go (eqb g.0 ty) i (without_in ty fs f)
 pub grown_length : (ts : List ℕ) (ty : ℕ) → length (grown ts ty) ≡ length ts + width ty
 grown_length ts ty = length-append ts (cond (eqb ty 4) (4 ∷ 0 ∷ []) (ty ∷ [])) ∙ ap (λ (n : ℕ). length ts + n) (go (eqb ty 4))
   where
-    go : (b : Bool) → length (cond b (4 ∷ 0 ∷ []) (ty ∷ [])) ≡ suc (one_if b)
+    go : (b : Bool) → length (cond b (4 ∷ 0 ∷ []) (ty ∷ [])) ≡ suc (from_bool b)
     go true = refl
     go false = refl
 

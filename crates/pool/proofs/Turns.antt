@@ -2,15 +2,16 @@
 use mathlib.Core.Path.{◌≡◌, refl, sym, ap, ap₂, ◌∙◌, subst}
 use mathlib.Core.Bool.{Bool, true, false, not, cond}
 use mathlib.Core.List.{List, [], ◌∷◌, map}
-use Prim.Native.Nat.{ℕ, ◌+◌, ◌-◌, ◌<◌}
+use Prim.Native.Nat.{ℕ, ◌<◌}
 use native.Mathlib.Omega.{arith}
 use borrow.Author.Tests.{eq-eqb, ne_eqb}
 use lib.Dec.{eqb, ltb}
-use lib.ListN.{length, take, get_or}
+use lib.ListN.{length, get_or}
 use Rattle.words.specs.Lists.{filter}
 use Rattle.model.specs.Picture.{absent}
 use Rattle.model.specs.Move.{Held, Pool, freed, release, gives}
-use Rattle.pool.specs.Pool.{part, held_of, free_of, piled, past, Released, Is, Gave, Turned, Turn, grow_if}
+use Rattle.pool.specs.declared.held.Pool.{Pool as Words}
+use Rattle.pool.specs.Pool.{held_of, free_of, piled, past, held_words, free_words, Released, Is, Gave, Turned, Turn, grow_if}
 use Rattle.pool.proofs.Founds.{piled_append}
 use Rattle.pool.proofs.Lows.{low_release}
 
@@ -35,31 +36,34 @@ freed_piled p (w ∷ ws) fs = go (past p w) (λ gs. freed_piled p ws gs)
     go true e = e (free_of w ∷ fs)
     go false e = e fs
 
-pub released_is : {R m p nh nf next g : ℕ} {types xs ys : List ℕ} {s : Pool} → Is R m types xs nh nf next s → Released p m nf xs ys nh g → Is R m types ys (nh - g) (nf + g) next (release p s)
-released_is {R} {m} {p} {nh} {nf} {next} {g} {types} {xs} {ys} {s} i r =
+pub released_is : {R p : ℕ} {types : List ℕ} {a b : Words} {s : Pool} → Is R types a s → Released p a b → Is R types b (release p s)
+released_is {R} {p} {types} {a} {b} {s} i r =
+    let n = r.next_same in
+    let ni = i.next_is in
+    let e = i.enough in
     record {
-      held_is = ap (map held_of) r.stays ∙ stays_held p (take nh xs) ∙ ap (filter (λ h. not (ltb h.until p))) i.held_is;
+      held_is = ap (map held_of) r.stays ∙ stays_held p (held_words a) ∙ ap (filter (λ h. not (ltb h.until p))) i.held_is;
       free_is =
-          ap (λ (l : List ℕ). piled l []) r.gone ∙ piled_append (part m nf xs) (filter (past p) (take nh xs)) []
-          ∙ sym (freed_piled p (take nh xs) (piled (part m nf xs) [])) ∙ ap₂ (freed p) i.held_is i.free_is;
-      next_is = i.next_is;
-      enough = i.enough;
+          ap (λ (l : List ℕ). piled l []) r.gone ∙ piled_append (free_words a) (filter (past p) (held_words a)) []
+          ∙ sym (freed_piled p (held_words a) (piled (free_words a) [])) ∙ ap₂ (freed p) i.held_is i.free_is;
+      next_is = omega arith;
+      enough = omega arith;
       types_are = i.types_are;
       low = low_release p s i.low;
     }
 
-pub turn_none : {m p until d nh nf next g : ℕ} {types xs ys : List ℕ} → Released p m nf xs ys nh g → d ≡ absent → next < 131000 → Turn m p until d nh nf next types xs ys absent (nh - g) (nf + g) next
-turn_none {m} {p} {until} {d} {nh} {nf} {next} {g} {types} {xs} {ys} r e few =
+pub turn_none : {p until d : ℕ} {types : List ℕ} {a b : Words} → Released p a b → d ≡ absent → a.next < 131000 → Turn p until d types a b absent
+turn_none {p} {until} {d} {types} {a} {b} r e few =
     let t : eqb d absent ≡ true = eq-eqb d absent e in
-    let small = r.small in
+    let counts = r.counts in
+    let same = r.next_same in
     record {
-      size = r.size;
       room = omega arith;
       small = omega arith;
       none_is = λ q. refl;
       some_is = λ q. absurd (q e);
       step = λ R s i within.
-          subst (Turned R m types ys (nh - g) (nf + g) next p d absent s) (sym (ap (λ (b : Bool). gives p until (release p s) (cond b [] (d ∷ []))) t))
+          subst (Turned R types b p d absent s) (sym (ap (λ (b : Bool). gives p until (release p s) (cond b [] (d ∷ []))) t))
           (record {
             is = released_is i r;
             given_is = sym (ap (λ (b : Bool). cond b s.given ((p, absent) ∷ s.given)) t);
@@ -67,21 +71,22 @@ turn_none {m} {p} {until} {d} {nh} {nf} {next} {g} {types} {xs} {ys} r e few =
           });
     }
 
-pub turn_some : {m p until d nh nf next g ty reg nh' nf' next' : ℕ} {types xs ys zs : List ℕ} → Released p m nf xs ys nh g → (d ≡ absent → ⊥) → ty ≡ get_or types d 0
-    → Gave m until ty (nh - g) (nf + g) next ys zs reg nh' nf' next' → Turn m p until d nh nf next types xs zs reg nh' nf' next'
-turn_some {m} {p} {until} {d} {nh} {nf} {next} {g} {ty} {reg} {nh'} {nf'} {next'} {types} {xs} {ys} {zs} r nt tq v =
+pub turn_some : {p until d ty reg : ℕ} {types : List ℕ} {a b c : Words} → Released p a b → (d ≡ absent → ⊥) → ty ≡ get_or types d 0
+    → Gave until ty b c reg → Turn p until d types a c reg
+turn_some {p} {until} {d} {ty} {reg} {types} {a} {b} {c} r nt tq v =
     let t : eqb d absent ≡ false = ne_eqb d absent nt in
-    let small = r.small in
+    let counts = r.counts in
+    let same = r.next_same in
     let vr = v.room in
+    let vs = v.small in
     record {
-      size = v.size ∙ r.size;
       room = omega arith;
-      small = v.small;
+      small = omega arith;
       none_is = λ q. absurd (nt q);
       some_is = λ q. v.low;
       step = λ R s i within.
           let w = v.step R p d types (release p s) (released_is i r) (within nt) (sym tq) in
-          subst (Turned R m types zs nh' nf' next' p d reg s) (sym (ap (λ (b : Bool). gives p until (release p s) (cond b [] (d ∷ []))) t))
+          subst (Turned R types c p d reg s) (sym (ap (λ (b : Bool). gives p until (release p s) (cond b [] (d ∷ []))) t))
           (record {
             is = w.is;
             given_is = w.given_is ∙ sym (ap (λ (b : Bool). cond b s.given ((p, reg) ∷ s.given)) t);

@@ -15,7 +15,8 @@ use Rattle.model.specs.Picture.{absent}
 use Rattle.inst.specs.Index.{reg_of, word_of, Among}
 use Rattle.inst.specs.declared.index.Reg.{Reg}
 use Rattle.inst.proofs.Indices.{among_made, word_made}
-use Rattle.pool.specs.Pool.{grow_if, typed, width, one_if, new_at, wrote_at}
+use Rattle.pool.specs.Pool.{grow_if, typed, width, new_at, wrote_at}
+use Rattle.std.specs.Int.{from_bool}
 use Rattle.pool.specs.Types.{over, TypeAdded, TypesFit}
 use Rattle.pool.proofs.Lows.{grown_length}
 
@@ -34,8 +35,8 @@ added_none {n} {d} {reg} {xs} z =
     let f : eqb reg n ≡ false = ne_eqb reg n z in
     record { size = refl; step = λ ts T e l. (e ∙ ap (λ (b : Bool). over (grow_if b ts (get_or xs d 0)) T) (sym f), sym l ∙ ap (λ (b : Bool). length (grow_if b ts (get_or xs d 0))) (sym f)) }
 
-width_of : (ty : ℕ) (b : Bool) → eqb ty 4 ≡ b → width ty ≡ suc (one_if b)
-width_of ty b e = ap (λ (t : Bool). suc (one_if t)) e
+width_of : (ty : ℕ) (b : Bool) → eqb ty 4 ≡ b → width ty ≡ suc (from_bool b)
+width_of ty b e = ap (λ (t : Bool). suc (from_bool t)) e
 
 -- what is grown, by the type's test
 grows : (n reg : ℕ) (ts : List ℕ) (ty : ℕ) (b : Bool) → reg ≡ n → eqb ty 4 ≡ b → grow_if (eqb reg n) ts ty ≡ ts ++ cond b (4 ∷ 0 ∷ []) (ty ∷ [])

@@ -1,14 +1,11 @@
 -- 01, "The move", new registers: `model`'s pool in words, and what the functions over it ensure. Assumes nothing.
--- A held register is one word, until × 2^20 + register × 8 + type, and a free one keeps that word. The first m words of a pool
--- are for those held, in order; the next m for those free, last freed last.
-use Rattle.std.specs.Prelude.{◌≡◌, Bool, true, false, cond, not, List, [], ◌∷◌, ◌++◌, map, ℕ, zero, suc, ◌+◌, ◌-◌, ◌*◌, ◌/◌, ◌%◌, ◌≤◌, ◌<◌, eqb, ltb, get_or, length, take, drop, set, Option, None, Some}
+-- A held register is one word, until × 2^20 + register × 8 + type, and a free one keeps that word.
+use Rattle.std.specs.Prelude.{◌≡◌, Bool, true, false, cond, not, List, [], ◌∷◌, ◌++◌, map, ℕ, zero, suc, ◌+◌, ◌*◌, ◌/◌, ◌%◌, ◌≤◌, ◌<◌, eqb, ltb, get_or, length, take, drop, set, Option, None, Some}
+use Rattle.std.specs.Int.{from_bool}
 use Rattle.words.specs.Lists.{filter, lookup, In}
 use Rattle.model.specs.Picture.{absent}
 use Rattle.model.specs.Move.{Held, Pool, found, without, release, give, gives, grown}
-
--- n words from index a on
-abbrev pub part : ℕ → ℕ → List ℕ → List ℕ
-part a n w = take n (drop a w)
+use Rattle.pool.specs.declared.held.Pool.{Pool as Words}
 
 unfoldable pub held_of : ℕ → Held
 held_of w = record { until = w / 1048576; reg = (w % 1048576) / 8; type = (w % 1048576) % 8 }
@@ -24,48 +21,49 @@ piled (w ∷ ws) fs = piled ws (free_of w ∷ fs)
 abbrev pub past : ℕ → ℕ → Bool
 past p w = ltb (w / 1048576) p
 
-abbrev pub one_if : Bool → ℕ
-one_if b = cond b 1 0
-
 -- ---- what the functions ensure
 
--- of the first i held the gone ones, g of them, went behind the nf free ones, and the others close up
-pub record Released (p m nf : ℕ) (xs ys : List ℕ) (i g : ℕ) : Type 0 where
-  pub size : length ys ≡ length xs
-  pub small : g ≤ i
-  pub stays : take (i - g) ys ≡ filter (λ w. not (past p w)) (take i xs)
-  pub gone : part m (nf + g) ys ≡ part m nf xs ++ filter (past p) (take i xs)
+-- the words of those held, and of those free
+abbrev pub held_words : Words → List ℕ
+held_words a = take a.nh a.held
 
--- the topmost free word of type ty stands below index r, or r is 0 and there is none
-pub record Topmost (ty m nf : ℕ) (xs : List ℕ) (i : ℕ) : Type 0 where
-  pub within : i ≤ nf
-  pub found_is : found ty (piled (part m nf xs) []) ≡ found ty (piled (part m i xs) [])
-  pub rest_is : without ty (piled (part m nf xs) []) ≡ piled (part (m + i) (nf - i) xs) (without ty (piled (part m i xs) []))
+abbrev pub free_words : Words → List ℕ
+free_words a = take a.nf a.free
 
--- the register that is found: the free word at index r - 1 above m, if r is not 0
-abbrev pub reg_at : ℕ → List ℕ → ℕ → Option ℕ
-reg_at m xs zero = None
-reg_at m xs (suc a) = Some (free_of (get_or xs (m + a) 0)).1
+-- of those held the gone ones went behind the free ones, and the others close up
+pub record Released (p : ℕ) (a b : Words) : Type 0 where
+  pub stays : held_words b ≡ filter (λ w. not (past p w)) (held_words a)
+  pub gone : free_words b ≡ free_words a ++ filter (past p) (held_words a)
+  pub counts : b.nh + b.nf ≡ a.nh + a.nf
+  pub next_same : b.next ≡ a.next
+
+-- the register that is found: the free word at the place, if there is one
+abbrev pub reg_at : Words → Option ℕ → Option ℕ
+reg_at a None = None
+reg_at a (Some k) = Some (free_of (get_or a.free k 0)).1
 
 -- the free words without that one
-abbrev pub rest_at : ℕ → ℕ → List ℕ → ℕ → List ℕ
-rest_at m nf xs zero = part m nf xs
-rest_at m nf xs (suc a) = part m a xs ++ part (m + suc a) (nf - suc a) xs
+abbrev pub rest_at : List ℕ → Option ℕ → List ℕ
+rest_at ws None = ws
+rest_at ws (Some k) = take k ws ++ drop (suc k) ws
 
-pub record Top (ty m nf : ℕ) (xs : List ℕ) (r : ℕ) : Type 0 where
-  pub within : r ≤ nf
-  pub found_is : found ty (piled (part m nf xs) []) ≡ reg_at m xs r
-  pub rest_is : without ty (piled (part m nf xs) []) ≡ piled (rest_at m nf xs r) []
-  pub type_is : (a : ℕ) → r ≡ suc a → (free_of (get_or xs (m + a) 0)).0 ≡ ty
+-- the topmost free word of type ty stands at place r, or there is none
+pub record Top (ty : ℕ) (a : Words) (r : Option ℕ) : Type 0 where
+  pub within : (k : ℕ) → r ≡ Some k → k < a.nf
+  pub found_is : found ty (piled (free_words a) []) ≡ reg_at a r
+  pub rest_is : without ty (piled (free_words a) []) ≡ piled (rest_at (free_words a) r) []
+  pub type_is : (k : ℕ) → r ≡ Some k → (free_of (get_or a.free k 0)).0 ≡ ty
 
--- the free word at index a above m is gone, and those above it close up; those held stay
-pub record Removed (m nf a : ℕ) (xs ys : List ℕ) (i : ℕ) : Type 0 where
-  pub size : length ys ≡ length xs
-  pub held_same : take m ys ≡ take m xs
-  pub closed : part m i ys ≡ part m a xs ++ part (m + suc a) (i - a) xs
+-- the free word at place k is gone, and those above it close up; those held stay
+pub record Removed (k : ℕ) (a b : Words) : Type 0 where
+  pub held_same : b.held ≡ a.held
+  pub nh_same : b.nh ≡ a.nh
+  pub next_same : b.next ≡ a.next
+  pub one_less : b.nf + 1 ≡ a.nf
+  pub closed : free_words b ≡ rest_at (free_words a) (Some k)
 
 abbrev pub width : ℕ → ℕ
-width ty = suc (one_if (eqb ty 4))
+width ty = suc (from_bool (eqb ty 4))
 
 -- the types after a register of type ty was given: it is new, or it is not
 abbrev pub grow_if : Bool → List ℕ → ℕ → List ℕ
@@ -77,28 +75,27 @@ pub record Low (s : Pool) : Type 0 where
   pub free_low : (f : ℕ × ℕ) → In f s.free → f.1 < length s.types
   pub held_low : (h : Held) → In h s.held → h.reg < length s.types
 
--- the words and counts are the pool s: R registers were in use with these types
-pub record Is (R m : ℕ) (types xs : List ℕ) (nh nf next : ℕ) (s : Pool) : Type 0 where
-  pub held_is : map held_of (take nh xs) ≡ s.held
-  pub free_is : piled (part m nf xs) [] ≡ s.free
-  pub next_is : length s.types ≡ next
-  pub enough : R ≤ next
+-- the words are the pool s: R registers were in use with these types
+pub record Is (R : ℕ) (types : List ℕ) (a : Words) (s : Pool) : Type 0 where
+  pub held_is : map held_of (held_words a) ≡ s.held
+  pub free_is : piled (free_words a) [] ≡ s.free
+  pub next_is : length s.types ≡ a.next
+  pub enough : R ≤ a.next
   pub types_are : (d : ℕ) → d < R → get_or s.types d 0 ≡ get_or types d 0
   pub low : Low s
 
 -- register reg was given for a register of type ty: from s to s'
-pub record Gives (R m : ℕ) (types ys : List ℕ) (nh nf next : ℕ) (p reg ty : ℕ) (s s' : Pool) : Type 0 where
-  pub is : Is R m types ys nh nf next s'
+pub record Gives (R : ℕ) (types : List ℕ) (b : Words) (p reg ty : ℕ) (s s' : Pool) : Type 0 where
+  pub is : Is R types b s'
   pub given_is : s'.given ≡ (p, reg) ∷ s.given
   pub types_is : s'.types ≡ grow_if (eqb reg (length s.types)) s.types ty
 
--- one register was given, held until `until`: from nh held and nf free, next being the next register
-pub record Gave (m until ty nh nf next : ℕ) (xs ys : List ℕ) (reg nh' nf' next' : ℕ) : Type 0 where
-  pub size : length ys ≡ length xs
-  pub room : nh' + nf' ≤ nh + nf + 1
-  pub small : next' ≤ next + 2
-  pub step : (R p d : ℕ) (types : List ℕ) (s : Pool) → Is R m types xs nh nf next s → d < R → get_or types d 0 ≡ ty
-      → Gives R m types ys nh' nf' next' p reg ty s (give p until s d)
+-- one register was given, held until `until`
+pub record Gave (until ty : ℕ) (a b : Words) (reg : ℕ) : Type 0 where
+  pub room : b.nh + b.nf ≤ a.nh + a.nf + 1
+  pub small : b.next ≤ a.next + 2
+  pub step : (R p d : ℕ) (types : List ℕ) (s : Pool) → Is R types a s → d < R → get_or types d 0 ≡ ty
+      → Gives R types b p reg ty s (give p until s d)
   pub low : reg < 1048576
 
 -- the registers that a word for "register written" stands for
@@ -110,19 +107,18 @@ abbrev pub noted : ℕ → ℕ → ℕ → List (ℕ × ℕ) → List (ℕ × �
 noted p d reg gs = cond (eqb d absent) gs ((p, reg) ∷ gs)
 
 -- a member's turn: from s to s'
-pub record Turned (R m : ℕ) (types ys : List ℕ) (nh nf next : ℕ) (p d reg : ℕ) (s s' : Pool) : Type 0 where
-  pub is : Is R m types ys nh nf next s'
+pub record Turned (R : ℕ) (types : List ℕ) (b : Words) (p d reg : ℕ) (s s' : Pool) : Type 0 where
+  pub is : Is R types b s'
   pub given_is : s'.given ≡ noted p d reg s.given
   pub types_is : s'.types ≡ grow_if (eqb reg (length s.types)) s.types (get_or types d 0)
 
-pub record Turn (m p until d nh nf next : ℕ) (types xs ys : List ℕ) (reg nh' nf' next' : ℕ) : Type 0 where
-  pub size : length ys ≡ length xs
-  pub room : nh' + nf' ≤ nh + nf + 1
-  pub small : next' ≤ next + 2
+pub record Turn (p until d : ℕ) (types : List ℕ) (a b : Words) (reg : ℕ) : Type 0 where
+  pub room : b.nh + b.nf ≤ a.nh + a.nf + 1
+  pub small : b.next ≤ a.next + 2
   pub none_is : d ≡ absent → reg ≡ absent
   pub some_is : (d ≡ absent → ⊥) → reg < 1048576
-  pub step : (R : ℕ) (s : Pool) → Is R m types xs nh nf next s → ((d ≡ absent → ⊥) → d < R)
-      → Turned R m types ys nh' nf' next' p d reg s (gives p until (release p s) (regs_of d))
+  pub step : (R : ℕ) (s : Pool) → Is R types a s → ((d ≡ absent → ⊥) → d < R)
+      → Turned R types b p d reg s (gives p until (release p s) (regs_of d))
 
 -- ---- all positions: position p has ten words of w from 10 p on
 
@@ -168,14 +164,13 @@ pub record Ready (R m : ℕ) (types w : List ℕ) : Type 0 where
   pub wrote_ok : (p : ℕ) → p < m → (wrote_at w p ≡ absent → ⊥) → wrote_at w p < R
 
 -- position p's turn from w to v, by its mark
-pub record Positioned (p nh nf next : ℕ) (types w v xs ys : List ℕ) (nh' nf' next' : ℕ) : Type 0 where
-  pub pool_size : length ys ≡ length xs
+pub record Positioned (p : ℕ) (types w v : List ℕ) (a b : Words) : Type 0 where
   pub reg : ℕ
   pub stored : v ≡ set w (10 * p + 9) reg
-  pub room : nh' + nf' ≤ nh + nf + 1
-  pub small : next' ≤ next + 2
-  pub unmarked : mark_at w p ≡ 0 → (reg ≡ absent) × (nh' ≡ nh) × (nf' ≡ nf) × (next' ≡ next) × (ys ≡ xs)
-  pub marked : (mark_at w p ≡ 0 → ⊥) → Turn 800 p (last_at w p) (wrote_at w p) nh nf next types xs ys reg nh' nf' next'
+  pub room : b.nh + b.nf ≤ a.nh + a.nf + 1
+  pub small : b.next ≤ a.next + 2
+  pub unmarked : mark_at w p ≡ 0 → (reg ≡ absent) × (b ≡ a)
+  pub marked : (mark_at w p ≡ 0 → ⊥) → Turn p (last_at w p) (wrote_at w p) types a b reg
 
 -- what holds after the first p positions
 pub record Allotted (R : ℕ) (types w v : List ℕ) (next p : ℕ) : Type 0 where

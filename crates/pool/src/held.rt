@@ -1,43 +1,39 @@
-// The registers that are held (01, "The move": "once its last reader is before the present member"). A held register is one
-// word, until × 2^20 + register × 8 + type, and a free one keeps that word. Of a pool's 1,600 words the first 800 are for
-// those held, in order, and the others for those free, last freed last.
-ghost use Rattle.std.specs.Prelude.{◌≡◌, ◌+◌, ◌≤◌, length};
-ghost use Rattle.pool.specs.Pool.{Released, past, one_if};
+// The registers that a new one may be taken from (01, "The move"). A held register is one word, until × 2^20 + register × 8 + type,
+// and a free one keeps that word.
+ghost use Rattle.std.specs.Prelude.{◌+◌, ◌≤◌};
 
 use model::RECORDS;
 
 // Where the last reader stands in a word, over register and type.
 pub const UNTIL: u32 = 1048576;
 
-// Where those free begin: no more are held than a chain has positions.
-pub const FREE: usize = RECORDS;
-
-// The words of a pool.
-pub const POOL: usize = 2 * RECORDS;
-
-// 1 if the held word w's last reader is before p.
-fn is_past(w: u32, p: u32) -> usize
-    ensures { (result ≡ one_if (past p w)) × (result ≤ 1) }
-{
-    if w / UNTIL < p {
-        return 1;
-    }
-    0
+// The pool: nh registers are held, in order, and nf are free, last freed last; `next` was never given. No more are in it than a chain
+// has positions.
+#[derive(Drop)]
+pub struct Pool {
+    pub held: [u32; RECORDS],
+    pub nh: usize,
+    pub free: [u32; RECORDS],
+    pub nf: usize,
+    pub next: u32,
+    ghost few: { nh + nf ≤ 800 },
 }
 
-// Those held whose last reader is before p become free. Returns how many.
-pub fn release(pool: &mut [u32], nh: usize, nf: usize, p: u32) -> usize
-    requires { (nh + nf ≤ 800) × (1600 ≤ length pool.old) }
-    ensures { Released p 800 nf pool.old pool.new nh result }
-{
-    let mut i = 0usize;
-    let mut g = 0usize;
-    while i < nh {
-        let w = pool[i];
-        pool[i - g] = w;
-        pool[FREE + (nf + g)] = w;
-        g = g + is_past(w, p);
-        i += 1;
+impl Pool {
+    ghost use Rattle.pool.specs.Pool.{Released};
+
+    // Those held whose last reader is before p become free ("once its last reader is before the present member").
+    pub fn release(&mut self, p: u32)
+        ensures { Released p self.old self.new }
+    {
+        let mut gone = 0;
+        for i in 0..self.nh {
+            let w = self.held[i];
+            self.held[i - gone] = w;
+            self.free[self.nf + gone] = w;
+            gone += usize::from(w / UNTIL < p);
+        }
+        self.nh -= gone;
+        self.nf += gone;
     }
-    g
 }

@@ -7,14 +7,13 @@ ghost use Rattle.pool.specs.Types.{TypeAdded, TypesFit, over};
 
 use inst::index::Reg;
 use position::{DEF, NEW, PLACE};
-use words::numbers::wide;
 
 // The type of register d once more, at n, if it is n that was given. Returns the types in use then.
 fn add_type(types: &mut [u32], n: usize, d: Option<Reg>, reg: u32) -> usize
     requires { Among (length types.old) d × (reg ≡ n → (word_of d ≡ 4294967295 → ⊥) × (n + width (get_or types.old (word_of d) 0) ≤ length types.old)) }
     ensures { TypeAdded n (word_of d) reg types.old types.new result }
 {
-    if wide(reg) != n {
+    if reg as usize != n {
         return n;
     }
     let Some(k) = d else {
@@ -34,13 +33,11 @@ pub fn add_types(types: &mut [u32], r: u32, w: &[u32], m: usize) -> usize
     requires { TypesFit r m types.old w.now }
     ensures { (types.new ≡ over (typed types.old w.now m (take r types.old)) types.old) × (result ≡ length (typed types.old w.now m (take r types.old))) }
 {
-    let count = wide(r);
+    let count = r as usize;
     let mut n = count;
-    let mut p = 0;
-    while p < m {
+    for p in 0..m {
         let b = PLACE * p;
         n = add_type(types, n, Reg::new(w[b + DEF], count), w[b + NEW]);
-        p += 1;
     }
     n
 }

@@ -8,16 +8,18 @@ use native.Mathlib.Numerals.{add-one}
 use native.Mathlib.Omega.{arith}
 use borrow.Author.Tests.{eqb-true, eqb-false}
 use lib.Dec.{eqb}
-use lib.ListN.{length, get_or, take, drop, length-append, length-map, length-drop}
+use lib.ListN.{length, get_or, drop, length-append, length-map, length-drop}
 use lib.Seq.{length-take-le}
-use Rattle.words.specs.Lists.{mem, range, same}
+use Rattle.words.specs.Lists.{mem, range}
 use Rattle.model.specs.Picture.{inst, absent, list_of, writes}
-use Rattle.model.specs.Move.{Job, appended, changes, new_list, more_of, own_jobs}
+use Rattle.model.specs.Move.{Job, appended, new_list, more_of, own_jobs}
+use Rattle.inst.specs.Record.{Listed}
 use Rattle.inst.proofs.Words.{word_is}
 use Rattle.pool.specs.Pool.{mark_at, wrote_at, new_at}
-use Rattle.rename.specs.Names.{named, reg_or, pick, put_name, job, part, list_changes, Forgot}
+use Rattle.rename.specs.Names.{named, reg_or, pick, put_name, job, list_changes, Forgot}
 use Rattle.rename.specs.Runs.{Line, Operands, goes, rd_after, gone_job, gone_jobs, target_jobs}
 use Rattle.rename.specs.Counts.{CountAsk, Counted, CountedOwn, CountedX}
+use Rattle.rename.proofs.Operands.{any_changes}
 use Rattle.rename.proofs.Naming.{named_put, forgot_all, put_size}
 use Rattle.rename.proofs.Sequence.{appended_append, appended_one}
 use Rattle.rename.proofs.Passing.{funext, taken_more}
@@ -25,33 +27,34 @@ use Rattle.rename.proofs.Owning.{jobs_next}
 
 -- ---- one list
 
-module _ {q u s n : ℕ} {ws xs ops : List ℕ} (k : CountAsk q u ws xs ops) (es : s ≡ get_or (inst xs q) 7 0) (en : n ≡ get_or (inst xs q) 8 0) where
-  pub list_in : s + n ≤ u
+module _ {q u : ℕ} {ws xs ops : List ℕ} (k : CountAsk q u ws xs ops) where
+  list_in : get_or (inst xs q) 7 0 + get_or (inst xs q) 8 0 ≤ u
   list_in = let l = k.line.list_ok in let a = word_is xs q 7 (omega arith) in let b = word_is xs q 8 (omega arith) in omega arith
 
-  list_is : part s n ops ≡ list_of ops (inst xs q)
-  list_is = ap₂ (λ (a b : ℕ). take b (drop a ops)) es en
+  pub list_listed : Listed xs ops q
+  list_listed = let b = k.operands.lent in record { within = k.line.known.within; list = let i = list_in in omega arith }
 
-  changes_is : list_changes ws s n ops ≡ changes ops (job (inst xs q) ws absent)
-  changes_is = ap (λ (l : List ℕ). not (same (map (named ws) l) l)) list_is
+  module _ {l : List ℕ} (is : l ≡ list_of ops (inst xs q)) where
+    list_length : length l ≡ get_or (inst xs q) 8 0
+    list_length =
+        ap length is ∙ length-take-le (get_or (inst xs q) 8 0) (drop (get_or (inst xs q) 7 0) ops) (let a = list_in in let b = k.operands.lent in simp length-drop (omega arith))
 
-  new_length : length (new_list ops (job (inst xs q) ws absent)) ≡ n
-  new_length =
-      ap (λ (l : List ℕ). length (map (named ws) l)) (sym list_is) ∙ length-map (part s n ops) (named ws)
-      ∙ length-take-le n (drop s ops) (let a = list_in in let b = k.operands.lent in simp length-drop (omega arith))
+    pub list_small : length l ≤ 4294967295
+    list_small = let a = list_in in let b = k.operands.lent in let c = k.operands.few in let d = list_length in omega arith
 
-  more : (b : Bool) → list_changes ws s n ops ≡ b → length (more_of ops (job (inst xs q) ws absent)) ≡ cond b n 0
-  more b e = ap (λ (c : Bool). length {A = ℕ} (elim c as (λ y. List ℕ) [ true ↦ new_list ops (job (inst xs q) ws absent) | false ↦ [] ])) (sym changes_is ∙ e) ∙ go b
-    where
-      go : (c : Bool) → length {A = ℕ} (elim c as (λ y. List ℕ) [ true ↦ new_list ops (job (inst xs q) ws absent) | false ↦ [] ]) ≡ cond c n 0
-      go true = new_length
-      go false = refl
+    more : (b : Bool) → list_changes ws l ≡ b → length (more_of ops (job (inst xs q) ws absent)) ≡ cond b (length l) 0
+    more b e =
+        ap (λ (c : Bool). length {A = ℕ} (elim c as (λ y. List ℕ) [ true ↦ new_list ops (job (inst xs q) ws absent) | false ↦ [] ])) (sym (any_changes ws (list_of ops (inst xs q))) ∙ ap (list_changes ws) (sym is) ∙ e) ∙ go b
+      where
+        go : (c : Bool) → length {A = ℕ} (elim c as (λ y. List ℕ) [ true ↦ new_list ops (job (inst xs q) ws absent) | false ↦ [] ]) ≡ cond c (length l) 0
+        go true = length-map (list_of ops (inst xs q)) (named ws) ∙ ap length (sym is)
+        go false = refl
 
-  pub list_changed : list_changes ws s n ops ≡ true → n ≡ length (more_of ops (job (inst xs q) ws absent))
-  list_changed e = sym (more true e)
+    pub list_changed : list_changes ws l ≡ true → length l ≡ length (more_of ops (job (inst xs q) ws absent))
+    list_changed e = sym (more true e)
 
-  pub list_same : list_changes ws s n ops ≡ false → 0 ≡ length (more_of ops (job (inst xs q) ws absent))
-  list_same e = sym (more false e)
+    pub list_same : list_changes ws l ≡ false → 0 ≡ length (more_of ops (job (inst xs q) ws absent))
+    list_same e = sym (more false e)
 
 -- ---- one position
 

@@ -50,6 +50,14 @@ written_ok {R} {u} {q} {xs} l s h = go (K.writing (get_or (roles (inst xs q)) s 
     go true f = subst (λ (k : ℕ). k < R) (sym word) (l.slots_ok s h (λ e. f (word ∙ e)))
     go false f = absurd (f refl)
 
+-- the same of that record as a value, and what it did
+pub slots_ok : {R u q p : ℕ} {xs recs : List ℕ} → Line R u xs q → recs ≡ xs → p ≡ q → (s : ℕ) → s < 5 → (write_at (inst recs p) s ≡ absent → ⊥) → write_at (inst recs p) s < R
+slots_ok {R} l e f s h =
+    subst (λ (i : Inst). (write_at i s ≡ absent → ⊥) → write_at i s < R) (sym (ap₂ inst e f)) (written_ok l s h)
+
+pub slots_forgot : {q p : ℕ} {xs recs ws vs : List ℕ} → recs ≡ xs → p ≡ q → Forgot (inst recs p) ws vs 5 → Forgot (inst xs q) ws vs 5
+slots_forgot {q} {p} {xs} {recs} {ws} {vs} e f h = subst (λ (i : Inst). Forgot i ws vs 5) (ap₂ inst e f) h
+
 -- ---- a record that nothing touched
 
 module _ {R R' u q : ℕ} {xs : List ℕ} (ys : List ℕ) (size : length ys ≡ length xs) (l : Line R u xs q) (e : R' ≡ R) (word : (k : ℕ) → k < 16 → get_or ys (16 * q + k) 0 ≡ get_or xs (16 * q + k) 0) where

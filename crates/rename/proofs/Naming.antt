@@ -1,5 +1,5 @@
 -- Names: one that is put, and those that a record's writes set back. Assumes nothing.
-use mathlib.Core.Path.{◌≡◌, refl, sym, ap, ap₂, ◌∙◌, subst}
+use mathlib.Core.Path.{◌≡◌, refl, sym, ap, ◌∙◌, subst}
 use mathlib.Core.Bool.{Bool, true, false, not, ◌&&◌, ◌||◌, cond, or-false}
 use mathlib.Core.List.{List, [], ◌∷◌, ◌++◌, map, append-nil}
 use Prim.Native.Nat.{ℕ, ◌+◌, ◌%◌, ◌≤◌, ◌<◌}
@@ -8,11 +8,10 @@ use native.Mathlib.Numerals.{add-one}
 use native.Mathlib.Omega.{arith}
 use borrow.Author.Tests.{eqb-true, eqb-false, eq-eqb}
 use lib.Dec.{eqb}
-use lib.ListN.{length, get_or, set, length-set, replicate, get_or-replicate, length-replicate, replicate-append-replicate, get_or-eq_default}
-use lib.Seq.{sets, get_or-set_same, get_or-set_other}
+use lib.ListN.{length, get_or, set, length-set, replicate, get_or-replicate, length-replicate, get_or-eq_default}
+use lib.Seq.{get_or-set_same, get_or-set_other}
 use Rattle.words.specs.Lists.{mem, upto, concat}
 use Rattle.words.proofs.Lists.{map_append, range_snoc, concat_append}
-use Rattle.words.proofs.Copying.{set_behind, sets_all}
 use Rattle.words.proofs.Bools.{lt?}
 use Rattle.words.proofs.Alls.{mem_append}
 use mathlib.Core.Logic.{⊎_elim}
@@ -112,13 +111,3 @@ forgot_end {i} {ws} {vs} f h k = subst (Forgot i ws vs) (le_antisymm h k) f
 pub forgot_all : {recs ws vs : List ℕ} {p : ℕ} → Within recs p → Forgot (inst recs p) ws vs 5 → (r : ℕ) → named vs r ≡ pick (mem r (writes (inst recs p))) r (named ws r)
 unfolding first_writes
 forgot_all {recs} {ws} {vs} {p} w f r = f.names r ∙ ap (λ (l : List ℕ). pick (mem r l) r (named ws r)) (writes_by_place recs p w)
-
--- the loop that clears
-pub cleared_more : (xs ys : List ℕ) (i : ℕ) → i < length xs → ys ≡ sets xs 0 (replicate i absent) → set ys i absent ≡ sets xs 0 (replicate (i + 1) absent)
-cleared_more xs ys i h e =
-    ap₂ (λ (l : List ℕ) (k : ℕ). set l k absent) e (sym (zero-add i) ∙ ap (λ (k : ℕ). 0 + k) (sym (length-replicate i absent)))
-    ∙ set_behind xs 0 (replicate i absent) absent ∙ ap (sets xs 0) (replicate-append-replicate i 1 absent)
-
-pub cleared_end : (xs ys : List ℕ) (i : ℕ) → i ≤ length xs → length xs ≤ i → ys ≡ sets xs 0 (replicate i absent) → ys ≡ replicate (length xs) absent
-cleared_end xs ys i h k e =
-    e ∙ ap (λ (n : ℕ). sets xs 0 (replicate n absent)) (le_antisymm h k) ∙ sets_all xs (replicate (length xs) absent) (length-replicate (length xs) absent)

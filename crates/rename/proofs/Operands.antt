@@ -1,9 +1,8 @@
 -- The loops over a list of operands. Assumes nothing.
-use mathlib.Core.Path.{◌≡◌, refl, sym, ap, ap₂, ◌∙◌, subst}
-use mathlib.Core.Bool.{Bool, not, ◌&&◌, and-true, and_assoc}
+use mathlib.Core.Path.{◌≡◌, refl, sym, ap, ap₂, ◌∙◌}
+use mathlib.Core.Bool.{Bool, true, false, not, ◌&&◌, ◌||◌}
 use mathlib.Core.List.{List, [], ◌∷◌, ◌++◌, map}
 use Prim.Native.Nat.{ℕ, ◌+◌, ◌≤◌, ◌<◌}
-use native.Mathlib.Nat.{le_antisymm}
 use native.Mathlib.Omega.{arith}
 use lib.Dec.{eqb}
 use lib.ListN.{length, get_or, set, drop, length-set}
@@ -15,22 +14,14 @@ use Rattle.rename.specs.Names.{named, part, list_changes, Appended}
 
 -- ---- changes
 
-module _ (f : ℕ → ℕ) where
-  abbrev keeps : List ℕ → Bool
-  keeps l = same (map f l) l
-
-  keeps_snoc : (l : List ℕ) (x : ℕ) → keeps (l ++ (x ∷ [])) ≡ (keeps l && eqb (f x) x)
-  keeps_snoc [] x = and-true (eqb (f x) x)
-  keeps_snoc (y ∷ l) x = ap (λ (b : Bool). eqb (f y) y && b) (keeps_snoc l x) ∙ sym (and_assoc (eqb (f y) y) (keeps l) (eqb (f x) x))
-
-pub keeps_more : (ws ops : List ℕ) (s k v : ℕ) (b : Bool) → s + k < length ops → b ≡ same (map (named ws) (part s k ops)) (part s k ops) → v ≡ named ws (get_or ops (s + k) 0)
-    → (b && eqb v (get_or ops (s + k) 0)) ≡ same (map (named ws) (part s (k + 1) ops)) (part s (k + 1) ops)
-keeps_more ws ops s k v b h e ev =
-    ap₂ (λ (a : Bool) (x : ℕ). a && eqb x (get_or ops (s + k) 0)) e ev ∙ sym (keeps_snoc (named ws) (part s k ops) (get_or ops (s + k) 0))
-    ∙ ap (λ (l : List ℕ). same (map (named ws) l) l) (sym (part_snoc s k ops 0 h))
-
-pub keeps_end : (ws ops : List ℕ) (s k n : ℕ) (b : Bool) → b ≡ same (map (named ws) (part s k ops)) (part s k ops) → k ≤ n → n ≤ k → not b ≡ list_changes ws s n ops
-keeps_end ws ops s k n b e l g = ap not e ∙ ap (λ (j : ℕ). list_changes ws s j ops) (le_antisymm l g)
+-- one operand has another name: the list of names is another
+pub any_changes : (ws l : List ℕ) → list_changes ws l ≡ not (same (map (named ws) l) l)
+any_changes ws [] = refl
+any_changes ws (x ∷ l) = ap (λ (b : Bool). not (eqb (named ws x) x) || b) (any_changes ws l) ∙ either (eqb (named ws x) x) (same (map (named ws) l) l)
+  where
+    either : (a b : Bool) → (not a || not b) ≡ not (a && b)
+    either true b = refl
+    either false b = refl
 
 -- ---- append
 
@@ -54,6 +45,3 @@ appended_more {s} {o} {k} {v} {n} {ws} {xs} {ys} h lt le room e =
           drop-set-lt (o + (k + 1)) ys (o + k) v (omega arith) ∙ ap (λ (j : ℕ). drop j ys) {x = o + (k + 1)} {y = o + k + 1} (omega arith)
           ∙ sym (drop-drop 1 (o + k) ys) ∙ ap (drop 1) h.back ∙ drop-drop 1 (o + k) xs ∙ ap (λ (j : ℕ). drop j xs) {x = o + k + 1} {y = o + (k + 1)} (omega arith);
     }
-
-pub appended_end : {s o k n : ℕ} {ws xs ys : List ℕ} → Appended s o ws xs ys k → k ≤ n → n ≤ k → Appended s o ws xs ys n
-appended_end {s} {o} {k} {n} {ws} {xs} {ys} h l g = subst (λ (j : ℕ). Appended s o ws xs ys j) (le_antisymm l g) h

@@ -1,6 +1,7 @@
 -- 01, "The move": renaming one record in place, by a word for each register, its new name or absent. Assumes nothing.
 use Rattle.std.specs.Prelude.{◌≡◌, Bool, true, false, cond, not, List, map, ℕ, ◌+◌, ◌-◌, ◌*◌, ◌%◌, ◌≤◌, ◌<◌, eqb, get_or, length, take, drop, set}
-use Rattle.words.specs.Lists.{same, mem, upto, concat}
+use Rattle.std.specs.List.{list_any}
+use Rattle.words.specs.Lists.{mem, upto, concat}
 use Rattle.model.specs.Picture.{Inst, inst, absent}
 use Rattle.model.specs.Move.{Job, made, changes, more_of}
 use Rattle.inst.specs.Table.{two_bits}
@@ -54,9 +55,9 @@ pub record Slotted (p uses : ℕ) (ws : List ℕ) (nw : ℕ) (xs ys : List ℕ) 
 abbrev pub part : ℕ → ℕ → List ℕ → List ℕ
 part a n w = take n (drop a w)
 
--- does the list of n operands from s on change
-abbrev pub list_changes : List ℕ → ℕ → ℕ → List ℕ → Bool
-list_changes ws s n ops = not (same (map (named ws) (part s n ops)) (part s n ops))
+-- does this list of operands change
+abbrev pub list_changes : List ℕ → List ℕ → Bool
+list_changes ws l = list_any (λ w. not (eqb (named ws w) w)) l
 
 -- the first k of the list's new names stand from o on
 pub record Appended (s o : ℕ) (ws xs ys : List ℕ) (k : ℕ) : Type 0 where

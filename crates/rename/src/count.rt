@@ -1,6 +1,7 @@
 // The counting run (01, "Answers": Short is given before anything of the round is written): how many operands the walk of
-// walk.rt would append. Nothing but names is written.
-ghost use Rattle.std.specs.Prelude.{◌≡◌, ◌+◌, ◌*◌, ◌≤◌, ◌<◌, length};
+// walk.rt would append. Nothing but names is written. (It is no second use of that walk: what writes there would be a struct that
+// holds two `&mut` slices and is lent on in each turn, and such a one gets no proof.)
+ghost use Rattle.std.specs.Prelude.{◌≡◌, ◌+◌, ◌*◌, ◌≤◌, length};
 ghost use Rattle.model.specs.Picture.{inst, absent};
 ghost use Rattle.model.specs.Move.{more_of, appended};
 ghost use Rattle.inst.specs.Index.{word_of, Among};
@@ -10,97 +11,67 @@ ghost use Rattle.rename.specs.Counts.{CountAsk, Counted, CountedOwn, CountX, Cou
 
 use crate::lists::changes;
 use crate::names::{forget, put};
-use crate::parts::{Head, Part, Span, part_at};
-use inst::access::uses;
-use inst::record::{list_len, list_start};
-use inst::table::Table;
+use crate::parts::{Head, Part, part_at};
+use inst::code::Code;
+use std::ops::Range;
 
 // How many operands record q would append.
-fn count_list(recs: &[u32], q: usize, ops: &[u32], names: &[u64]) -> usize
-    requires { Exists (λ u. CountAsk q u names.now recs.now ops.now) }
-    ensures { (result ≡ length (more_of ops.now (job (inst recs.now q) names.now absent))) × (result ≤ 4294967295) }
+fn count_list(code: &Code, q: usize, names: &[u64]) -> usize
+    requires { Exists (λ u. CountAsk q u names.now code.now.recs.now code.now.ops.now) }
+    ensures { (result ≡ length (more_of code.now.ops.now (job (inst code.now.recs.now q) names.now absent))) × (result ≤ 4294967295) }
 {
-    let s = list_start(recs, q);
-    let n = list_len(recs, q);
-    if changes(ops, s, n, names) {
-        return n;
+    let list = code.list(q);
+    if changes(list, names) {
+        return list.len();
     }
     0
 }
 
 // Record q of x, which is position k.
-fn count_pass(
-    t: &Table,
-    recs: &[u32],
-    q: usize,
-    ops: &[u32],
-    names: &mut [u64],
-    k: Part,
-) -> usize
-    requires { Exists (λ u. CountAsk q u names.old recs.now ops.now) × Among (length names.old) k.def }
-    ensures { Counted q k.mark (word_of k.def) k.new names.old names.new recs.now ops.now result }
+fn count_pass(code: &Code, q: usize, names: &mut [u64], k: Part) -> usize
+    requires { Exists (λ u. CountAsk q u names.old code.now.recs.now code.now.ops.now) × Among (length names.old) k.def }
+    ensures { Counted q k.mark (word_of k.def) k.new names.old names.new code.now.recs.now code.now.ops.now result }
 {
-    let does = uses(t, recs, q);
     if k.mark == 0 {
-        forget(recs, q, does, names);
+        forget(&code.slots(q), names);
         return 0;
     }
-    let r = count_list(recs, q, ops, names);
-    let def = k.def;
-    put(names, def, k.new);
+    let r = count_list(code, q, names);
+    put(names, k.def, k.new);
     r
 }
 
 // The positions of x.
-pub fn count_x(
-    t: &Table,
-    recs: &[u32],
-    x: Head,
-    ops: &[u32],
-    names: &mut [u64],
-    w: &[u32],
-) -> usize
-    requires { Exists (λ u. CountX u x.from x.count names.old recs.now ops.now w.now) }
-    ensures { CountedX x.from x.count names.old names.new recs.now ops.now w.now result }
+pub fn count_x(code: &Code, x: Head, names: &mut [u64], w: &[u32]) -> usize
+    requires { Exists (λ u. CountX u x.from x.count names.old code.now.recs.now code.now.ops.now w.now) }
+    ensures { CountedX x.from x.count names.old names.new code.now.recs.now code.now.ops.now w.now result }
 {
-    let mut n = 0usize;
-    let mut p = 0;
-    while p < x.count {
+    let mut n = 0;
+    for p in 0..x.count {
         let k = part_at(w, p, names.len());
-        n = n + count_pass(t, recs, x.from + p, ops, names, k);
-        p += 1;
+        n += count_pass(code, x.from + p, names, k);
     }
     n
 }
 
 // Record q of the target.
-fn count_own(t: &Table, recs: &[u32], q: usize, ops: &[u32], names: &mut [u64]) -> usize
-    requires { Exists (λ u. CountAsk q u names.old recs.now ops.now) }
-    ensures { CountedOwn q names.old names.new recs.now ops.now result }
+fn count_own(code: &Code, q: usize, names: &mut [u64]) -> usize
+    requires { Exists (λ u. CountAsk q u names.old code.now.recs.now code.now.ops.now) }
+    ensures { CountedOwn q names.old names.new code.now.recs.now code.now.ops.now result }
 {
-    let does = uses(t, recs, q);
-    let r = count_list(recs, q, ops, names);
-    forget(recs, q, does, names);
+    let r = count_list(code, q, names);
+    forget(&code.slots(q), names);
     r
 }
 
 // The target's records s, behind n operands that were counted before.
-pub fn count_target(
-    t: &Table,
-    recs: &[u32],
-    s: Span,
-    ops: &[u32],
-    names: &mut [u64],
-    n: usize,
-) -> usize
-    requires { Exists (λ u. CountOwn u s.from s.past names.old recs.now ops.now) × (n ≤ 4294967295 * 65536) }
-    ensures { (result ≡ n + length (appended ops.now (target_jobs (named names.old) recs.now s.from s.past))) × (result ≤ 4294967295 * 131072) }
+pub fn count_target(code: &Code, s: Range<usize>, names: &mut [u64], n: usize) -> usize
+    requires { Exists (λ u. CountOwn u s.start s.end names.old code.now.recs.now code.now.ops.now) × (n ≤ 4294967295 * 65536) }
+    ensures { (result ≡ n + length (appended code.now.ops.now (target_jobs (named names.old) code.now.recs.now s.start s.end))) × (result ≤ 4294967295 * 131072) }
 {
     let mut k = n;
-    let mut q = s.from;
-    while q < s.past {
-        k = k + count_own(t, recs, q, ops, names);
-        q += 1;
+    for q in s.start..s.end {
+        k += count_own(code, q, names);
     }
     k
 }

@@ -2,13 +2,12 @@
 ghost use Rattle.std.specs.Prelude.{◌≡◌, ℕ, ◌%◌, ◌≤◌, ◌<◌, length, replicate};
 ghost use Rattle.model.specs.Picture.{inst};
 ghost use Rattle.inst.specs.Index.{word_of, Among};
-ghost use Rattle.inst.specs.Record.{Used, write_at};
+ghost use Rattle.inst.specs.Record.{write_at};
 ghost use Rattle.rename.specs.Names.{reg_or, named, put_name, Forgot};
 
-use inst::access::write_at;
+use inst::code::Slots;
 use inst::index::Reg;
 use model::ABSENT;
-use words::numbers::long;
 
 // How many words of 32 bits there are.
 const WORDS: u64 = 4294967296;
@@ -48,29 +47,23 @@ pub fn put(names: &mut [u64], r: Option<Reg>, nw: u32)
     let Some(k) = r else {
         return;
     };
-    names[k.at()] = long(nw);
+    names[k.at()] = u64::from(nw);
 }
 
 // No register has a new name.
 pub fn clear(names: &mut [u64])
     ensures { names.new ≡ replicate (length names.old) 4294967295 }
 {
-    let mut i = 0;
-    while i < names.len() {
-        names[i] = NONE;
-        i += 1;
-    }
+    names.fill(NONE);
 }
 
-// The registers that record p writes keep their names from now on.
-pub fn forget(recs: &[u32], p: usize, uses: u32, names: &mut [u64])
-    requires used { Used recs.now p uses × (length names.old ≤ 4294967295) }
-    requires by_index { (s : ℕ) → s < 5 → (write_at (inst recs.now p) s ≡ 4294967295 → ⊥) → write_at (inst recs.now p) s < length names.old }
-    ensures { Forgot (inst recs.now p) names.old names.new 5 }
+// The registers that a record writes keep their names from now on.
+pub fn forget(slots: &Slots, names: &mut [u64])
+    requires few { length names.old ≤ 4294967295 }
+    requires by_index { (s : ℕ) → s < 5 → (write_at (inst slots.now.recs.now slots.now.p) s ≡ 4294967295 → ⊥) → write_at (inst slots.now.recs.now slots.now.p) s < length names.old }
+    ensures { Forgot (inst slots.now.recs.now slots.now.p) names.old names.new 5 }
 {
-    let mut s = 0usize;
-    while s < 5 {
-        put(names, write_at(recs, p, uses, s, names.len()), ABSENT);
-        s += 1;
+    for s in 0..5 {
+        put(names, slots.write(s, names.len()), ABSENT);
     }
 }

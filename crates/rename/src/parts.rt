@@ -14,18 +14,11 @@ pub struct Part {
     pub new: u32,
 }
 
-// The positions of x: `count` records from `from` on.
+// The positions of x: `count` records from `from` on. (No range of records: it is the count that the positions go by.)
 #[derive(Clone, Copy)]
 pub struct Head {
     pub from: usize,
     pub count: usize,
-}
-
-// Records, or positions of the chain, from one to before another.
-#[derive(Clone, Copy)]
-pub struct Span {
-    pub from: usize,
-    pub past: usize,
 }
 
 // Position p, where names has `count` words.
@@ -37,7 +30,7 @@ pub fn part_at(w: &[u32], p: usize, count: usize) -> Part
     let def = Reg::new(w[b + DEF], count);
     Part {
         mark: w[b + MARK],
-        def: def,
+        def,
         new: w[b + NEW],
     }
 }

@@ -6,7 +6,6 @@ ghost use Rattle.rename.specs.Names.{Exists, Fit, Remade};
 use crate::lists::{append, changes};
 use crate::slots::rename_slots;
 use inst::record::{list_len, list_start};
-use words::numbers::narrow;
 
 // Record p, where o operands are in use. Returns how many are in use then.
 pub fn remake(
@@ -24,10 +23,10 @@ pub fn remake(
     let s = list_start(recs, p);
     let n = list_len(recs, p);
     rename_slots(recs, p, uses, names, nw);
-    let c = changes(ops, s, n, names);
+    let c = changes(&ops[s..s + n], names);
     if c {
         append(ops, s, n, o, names);
-        recs[16 * p + 7] = narrow(o);
+        recs[16 * p + 7] = o as u32;
         return o + n;
     }
     o

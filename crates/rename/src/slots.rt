@@ -33,11 +33,9 @@ pub fn rename_slots(recs: &mut [u32], p: usize, uses: u32, names: &[u64], nw: u3
     ensures { Slotted p uses names.now nw recs.old recs.new 5 }
 {
     let b = 16 * p;
-    let mut s = 0usize;
-    while s < 5 {
+    for s in 0..5 {
         let does = two_bits(uses, s as u32);
         let r = Reg::new(recs[b + 2 + s], names.len());
         recs[b + 2 + s] = slot_word(r, does, names, nw);
-        s += 1;
     }
 }

@@ -8,13 +8,14 @@ ghost use Rattle.rename.specs.Names.{Exists, named};
 ghost use Rattle.rename.specs.Runs.{Run, Pass, Passed, AskX, PassedX, AskRest, PassedRest, Owned, AskOwn, target_jobs};
 
 use crate::names::{forget, put};
-use crate::parts::{Head, Part, Span, part_at};
+use crate::parts::{Head, Part, part_at};
 use crate::remake::remake;
 use inst::access::uses;
+use inst::code::{Code, Slots};
 use inst::table::Table;
 use model::ABSENT;
 use position::PLACE;
-use words::numbers::wide;
+use std::ops::Range;
 
 // Record q of x, which is position k: a kept one's writes keep their names; a member is made anew, and the register that it wrote has
 // a new name.
@@ -32,12 +33,16 @@ fn pass(
 {
     let does = uses(t, recs, q);
     if k.mark == 0 {
-        forget(recs, q, does, names);
+        let slots = Slots {
+            recs,
+            p: q,
+            does,
+        };
+        forget(&slots, names);
         return o;
     }
     let r = remake(recs, q, does, ops, o, names, k.new);
-    let def = k.def;
-    put(names, def, k.new);
+    put(names, k.def, k.new);
     r
 }
 
@@ -55,25 +60,20 @@ pub fn pass_all(
     ensures { PassedX u x.from x.count names.old names.new recs.old recs.new ops.old ops.new w.now result }
 {
     let mut n = u;
-    let mut p = 0;
-    while p < x.count {
+    for p in 0..x.count {
         let k = part_at(w, p, names.len());
         n = pass(t, recs, x.from + p, ops, n, names, k);
-        p += 1;
     }
     n
 }
 
 // The positions s of the chain, all kept.
-pub fn skip_all(t: &Table, recs: &[u32], w: &[u32], s: Span, names: &mut [u64])
-    requires { Exists (λ u. AskRest u s.from s.past names.old recs.now w.now) }
-    ensures { PassedRest s.from (s.past - s.from) names.old names.new recs.now w.now }
+pub fn skip_all(code: &Code, w: &[u32], s: Range<usize>, names: &mut [u64])
+    requires { Exists (λ u. AskRest u s.start s.end names.old code.now.recs.now w.now) }
+    ensures { PassedRest s.start (s.end - s.start) names.old names.new code.now.recs.now w.now }
 {
-    let mut p = s.from;
-    while p < s.past {
-        let q = wide(w[PLACE * p]);
-        forget(recs, q, uses(t, recs, q), names);
-        p += 1;
+    for p in s.start..s.end {
+        forget(&code.slots(w[PLACE * p] as usize), names);
     }
 }
 
@@ -91,7 +91,12 @@ fn own(
 {
     let does = uses(t, recs, q);
     let r = remake(recs, q, does, ops, o, names, ABSENT);
-    forget(recs, q, does, names);
+    let slots = Slots {
+        recs,
+        p: q,
+        does,
+    };
+    forget(&slots, names);
     r
 }
 
@@ -99,19 +104,17 @@ fn own(
 pub fn own_all(
     t: &Table,
     recs: &mut [u32],
-    s: Span,
+    s: Range<usize>,
     ops: &mut [u32],
     o: usize,
     names: &mut [u64],
 ) -> usize
-    requires { Exists (λ u. AskOwn u o s.from s.past names.old recs.old ops.old) }
-    ensures { Run o (range s.from (s.past - s.from)) (target_jobs (named names.old) recs.old s.from s.past) recs.old recs.new ops.old ops.new result }
+    requires { Exists (λ u. AskOwn u o s.start s.end names.old recs.old ops.old) }
+    ensures { Run o (range s.start (s.end - s.start)) (target_jobs (named names.old) recs.old s.start s.end) recs.old recs.new ops.old ops.new result }
 {
     let mut n = o;
-    let mut q = s.from;
-    while q < s.past {
+    for q in s.start..s.end {
         n = own(t, recs, q, ops, n, names);
-        q += 1;
     }
     n
 }

@@ -8,24 +8,20 @@ use Rattle.apply.proofs.apply.Goals as goal
 pub start-requires : goal.start-requires
 start-requires c = x_words c.requires.t_value
 
-pub start-requires-2 : goal.start-requires-2
-start-requires-2 c = t_words c.requires.t_value
-
-pub past-requires : goal.past-requires
-past-requires c = t_words c.requires.t_value
+pub target-s-requires : goal.target-s-requires
+target-s-requires c = t_words c.requires.t_value
 
 pub add_types-requires : goal.add_types-requires
 add_types-requires c = types_fit c.requires.t_value c.requires.fits.0
 
 pub rename_all-requires : goal.rename_all-requires
 rename_all-requires c =
-    let at_past = c.before.before.before.before.before.before.before in
     let g = c.args in
     let m = g.m in
     let k = c.requires.t_value in
     let el = c.start.ensures in
-    let ea = c.start-2.ensures in
-    let ee = c.past.ensures in
+    let ea = c.target-s.ensures.start in
+    let ee = c.target-s.ensures.end in
     let room = room_at m.from.0 m.into.0 m.inside m.places g.c.opers g.bounds.now g.recs.now g.ops.now g.w.now el ea ee c.requires.fits.0.opers in
     record {
       t_value = (ask_at k el ea ee);
@@ -34,8 +30,7 @@ rename_all-requires c =
 
 pub move_all-requires : goal.move_all-requires
 move_all-requires c =
-    let at_rename_all = c.before.before.before.before.before.before.before.before.before in
-    move_at c.requires.t_value _ _ _ refl c.requires.fits.1 c.rename_all.ensures.size c.start.ensures c.start-2.ensures
+    move_at c.requires.t_value _ _ _ refl c.requires.fits.1 c.rename_all.ensures.size c.start.ensures c.target-s.ensures.start
 
 pub count-requires : goal.count-requires
 count-requires c =
@@ -47,11 +42,5 @@ move_bounds-requires c = bounds_at c.requires.t_value c.count.ensures
 
 pub returns : goal.returns
 returns c =
-    let at_move_bounds = c.before.before in
-    let at_count = at_move_bounds.before in
-    let at_move_all = at_count.before.before.before.before.before.before.before.before in
-    let at_rename_all = at_move_all.before.before.before.before.before.before.before.before.before.before in
-    let at_add_types = at_rename_all.before.before.before.before.before.before in
-    let at_past = at_add_types.before.before in
-    apply_law c.requires.t_value c.start.ensures c.start-2.ensures c.past.ensures c.count.ensures c.add_types.ensures.0
+    apply_law c.requires.t_value c.start.ensures c.target-s.ensures.start c.target-s.ensures.end c.count.ensures c.add_types.ensures.0
     c.rename_all.ensures c.move_all.ensures c.requires.fits.1.each_or_none c.move_bounds.ensures

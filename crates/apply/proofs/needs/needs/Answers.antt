@@ -10,21 +10,18 @@ allot-regs-requires c = ready c.requires.is
 pub start-requires : goal.start-requires
 start-requires c = x_words c.requires.is
 
-pub start-requires-2 : goal.start-requires-2
-start-requires-2 c = t_words c.requires.is
-
-pub past-requires : goal.past-requires
-past-requires c = t_words c.requires.is
+pub target-requires : goal.target-requires
+target-requires c = t_words c.requires.is
 
 pub count_all-more-requires : goal.count_all-more-requires
 count_all-more-requires c =
     let l = c.allot-regs.ensures in
     let kept = asks_kept _ _ l.all.keeps l.all.size c.requires.is in
-    (record { u = c.args.c.opers; is = ask_at kept c.start.ensures c.start-2.ensures c.past.ensures })
+    (record { u = c.args.c.opers; is = ask_at kept c.start.ensures c.target.ensures.start c.target.ensures.end })
 
 pub overflow_add-result : goal.overflow_add-result
 overflow_add-result c = let k = c.requires.is in omega (arith, c.count_all-more.ensures.1, k.operands.lent, k.operands.few)
 
 pub returns : goal.returns
 returns c =
-    needs_law c.requires.is c.allot-regs.ensures c.start.ensures c.start-2.ensures c.past.ensures c.count_all-more.ensures.0
+    needs_law c.requires.is c.allot-regs.ensures c.start.ensures c.target.ensures.start c.target.ensures.end c.count_all-more.ensures.0

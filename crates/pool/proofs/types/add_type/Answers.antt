@@ -8,35 +8,35 @@ use Rattle.inst.proofs.Indices.{below}
 use Rattle.pool.proofs.Typing.{added_none, added_plain, added_signal, signal_fits}
 use Rattle.pool.proofs.types.add_type.Goals as goal
 
-pub returns-then-wide-n : goal.returns-then-wide-n
-returns-then-wide-n c = added_none (λ e. c.if-wide-n.true (c.wide.ensures ∙ e))
+pub returns-then-reg-n : goal.returns-then-reg-n
+returns-then-reg-n c = added_none c.if-reg-n.true
 
 pub returns-in_default : goal.returns-in_default
-returns-in_default c = absurd ((c.requires.1 (sym c.wide.ensures ∙ c.if-wide-n.false)).0 (ap word_of c.in_default.is))
+returns-in_default c = absurd ((c.requires.1 (c.if-reg-n.false)).0 (ap word_of c.in_default.is))
 
 pub bounds-types-at : goal.bounds-types-at
 bounds-types-at c = omega (arith, c.at.ensures, below c.in-Some.is c.requires.0)
 
 pub bounds-types-n : goal.bounds-types-n
-bounds-types-n c = omega (arith, (c.requires.1 (sym c.wide.ensures ∙ c.if-wide-n.false)).1)
+bounds-types-n c = omega (arith, (c.requires.1 (c.if-reg-n.false)).1)
 
 pub bounds-types-n-then-ty-eq4 : goal.bounds-types-n-then-ty-eq4
 bounds-types-n-then-ty-eq4 c =
     let q = c.requires in
-    let is = sym c.wide.ensures ∙ c.if-wide-n.false in
+    let is = c.if-reg-n.false in
     let at = ap word_of c.in-Some.is ∙ sym c.at.ensures in
     simp length-set (signal_fits _ _ _ (q.1 is).1 (ap (λ (k : ℕ). get_or c.args.types.now k 0) at ∙ c.if-ty-eq4.true))
 
 pub returns-then-ty-eq4 : goal.returns-then-ty-eq4
 returns-then-ty-eq4 c =
     let q = c.requires in
-    let is = sym c.wide.ensures ∙ c.if-wide-n.false in
+    let is = c.if-reg-n.false in
     let at = c.at.ensures ∙ sym (ap word_of c.in-Some.is) in
     added_signal is (q.1 is).1 (ap (λ (k : ℕ). get_or c.args.types.now k 0) at) c.if-ty-eq4.true
 
 pub returns : goal.returns
 returns c =
     let q = c.requires in
-    let is = sym c.wide.ensures ∙ c.if-wide-n.false in
+    let is = c.if-reg-n.false in
     let at = c.at.ensures ∙ sym (ap word_of c.in-Some.is) in
     added_plain is (q.1 is).1 (ap (λ (k : ℕ). get_or c.args.types.now k 0) at) c.if-ty-eq4.false

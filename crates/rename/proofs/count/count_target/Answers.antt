@@ -14,20 +14,8 @@ count_own-k-requires c =
     let asked = ask_at a.names.now i.names i.invariant.names_size (k.is.lines _ i.invariant.low c.loop-q-test.true) k.is.operands in
     (record { u = k.u; is = asked })
 
-pub overflow_add-k : goal.overflow_add-k
-overflow_add-k c = omega (arith, c.loop-q.invariant.small, c.count_own-k.ensures.small, c.loop-q-test.true, c.requires.0.is.few)
-
-pub overflow_add-q : goal.overflow_add-q
-overflow_add-q c = omega (arith, c.loop-q-test.true, c.requires.0.is.few)
-
-pub loop-q-smaller : goal.loop-q-smaller
-loop-q-smaller c = omega (arith, c.loop-q-test.true)
-
 pub loop-q-preserved : goal.loop-q-preserved
 loop-q-preserved c = own_more c.loop-q.invariant c.loop-q-test.true c.count_own-k.ensures
-
-pub shape_of-names : goal.shape_of-names
-shape_of-names c = c.loop-q.invariant.names_size
 
 pub returns : goal.returns
 returns c = let i = c.loop-q.invariant in (own_end i c.loop-q-test.false, omega (arith, i.small, i.high, c.requires.0.is.few))

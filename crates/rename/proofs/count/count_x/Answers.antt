@@ -7,12 +7,6 @@ use Rattle.rename.proofs.count.count_x.Goals as goal
 pub loop-p-init : goal.loop-p-init
 loop-p-init c = counting_none _ _ _ _ _ _
 
-pub part_at-k-requires : goal.part_at-k-requires
-part_at-k-requires c = omega (arith, c.requires.is.words, c.loop-p-test.true)
-
-pub overflow_add-x : goal.overflow_add-x
-overflow_add-x c = omega (arith, c.requires.is.fits, c.loop-p-test.true)
-
 pub count_pass-n-requires : goal.count_pass-n-requires
 count_pass-n-requires c =
     let a = c.args in
@@ -22,24 +16,12 @@ count_pass-n-requires c =
     let same = i.invariant.so_far.names_size in
     (record { u = k.u; is = ask_at a.names.now i.names same line k.is.operands }, part_among c.part_at-k.ensures (omega (arith, line.few_regs, same)))
 
-pub overflow_add-n : goal.overflow_add-n
-overflow_add-n c = omega (arith, c.loop-p.invariant.so_far.small, c.count_pass-n.ensures.small, c.loop-p-test.true, c.requires.is.few)
-
-pub overflow_add-p : goal.overflow_add-p
-overflow_add-p c = omega (arith, c.loop-p-test.true, c.requires.is.few)
-
-pub loop-p-smaller : goal.loop-p-smaller
-loop-p-smaller c = omega (arith, c.loop-p-test.true)
-
 pub loop-p-preserved : goal.loop-p-preserved
 loop-p-preserved c =
     let k = c.requires.is in
     let i = c.loop-p.invariant in
     let lt = c.loop-p-test.true in
     counting_more i lt (counted_part c.part_at-k.ensures (λ f. omega (arith, k.wrote_ok _ lt f, i.so_far.names_size)) c.count_pass-n.ensures)
-
-pub shape_of-names : goal.shape_of-names
-shape_of-names c = c.loop-p.invariant.so_far.names_size
 
 pub returns : goal.returns
 returns c = counting_end c.loop-p.invariant c.loop-p-test.false

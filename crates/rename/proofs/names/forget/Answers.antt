@@ -10,21 +10,18 @@ use Rattle.rename.proofs.Naming.{forgot_none, forgot_more, forgot_end}
 use Rattle.rename.proofs.names.forget.Goals as goal
 
 pub loop-s-init : goal.loop-s-init
-loop-s-init c = (omega arith, forgot_none _ _)
+loop-s-init c = forgot_none _ _
 
 pub put-requires : goal.put-requires
-put-requires c = among_made _ _ c.write_at.ensures refl _ (omega (arith, c.loop-s.invariant.1.size, c.requires.used.1)) (omega arith)
+put-requires c = among_made _ _ c.write.ensures refl _ (omega (arith, c.loop-s.invariant.size, c.requires.few)) (omega arith)
 
 pub loop-s-preserved : goal.loop-s-preserved
 loop-s-preserved c =
     let i = c.loop-s in
-    let a = c.args in
+    let a = c.args.slots.now in
     let ok : (write_at (inst a.recs.now a.p) i.s ≡ absent → ⊥) → write_at (inst a.recs.now a.p) i.s < length i.names =
-    λ f. omega (arith, i.invariant.1.size, c.requires.by_index i.s c.loop-s-test.true f) in
-    (omega arith, forgot_more i.invariant.1 ok (word_made _ _ c.write_at.ensures refl ok) c.put.ensures)
-
-pub shape_of-names : goal.shape_of-names
-shape_of-names c = c.loop-s.invariant.1.size
+    λ f. omega (arith, i.invariant.size, c.requires.by_index i.s c.loop-s-test.true f) in
+    forgot_more i.invariant ok (word_made _ _ c.write.ensures refl ok) c.put.ensures
 
 pub returns : goal.returns
-returns c = forgot_end c.loop-s.invariant.1 c.loop-s.invariant.0 c.loop-s-test.false
+returns c = forgot_end c.loop-s.invariant c.loop-s.auto.s-end c.loop-s-test.false

@@ -1,10 +1,6 @@
 -- `rename::walk::own_all` meets its contract. Assumes nothing.
-use Prim.Native.Nat.{◌-◌}
 use Rattle.rename.proofs.Owning.{Owning}
 use Rattle.rename.proofs.walk.own_all.Given as goal
 
 abbrev pub invariant-loop-q : goal.invariant-loop-q
-invariant-loop-q l = Owning l.o l.s.from l.s.past l.initial.names l.names l.initial.recs l.recs l.initial.ops l.ops l.n l.q
-
-abbrev pub decreases-loop-q : goal.decreases-loop-q
-decreases-loop-q l = l.s.past - l.q
+invariant-loop-q l = Owning l.o l.fn.s.start l.fn.s.end l.initial.names l.names l.initial.recs l.recs l.initial.ops l.ops l.n l.q

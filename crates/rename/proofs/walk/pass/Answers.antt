@@ -3,12 +3,12 @@ use native.Mathlib.Omega.{arith}
 use Rattle.rename.proofs.Lines.{used_is, line_fit, written_ok, pass_kept, pass_moved}
 use Rattle.rename.proofs.walk.pass.Goals as goal
 
+pub invariant_of-slots : goal.invariant_of-slots
+invariant_of-slots c = record { used = used_is c.requires.0.is.line c.uses-does.ensures }
+
 pub forget-requires : goal.forget-requires
 forget-requires c = let l = c.requires.0.is.line in
-    record {
-      used = (used_is l c.uses-does.ensures, l.few_regs);
-      by_index = written_ok l;
-    }
+    record { few = l.few_regs; by_index = written_ok l }
 
 pub returns-then-k-eq0 : goal.returns-then-k-eq0
 returns-then-k-eq0 c = pass_kept c.requires.0.is.line c.if-k-eq0.true c.forget.ensures

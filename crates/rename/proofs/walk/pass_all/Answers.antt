@@ -1,5 +1,4 @@
 -- `rename::walk::pass_all` meets its contract. Assumes nothing.
-use native.Mathlib.Omega.{arith}
 use Rattle.rename.proofs.Positions.{part_among, pass_part, passed_part}
 use Rattle.rename.proofs.Passing.{passing_none, passing_ask, passing_more, passing_end}
 use Rattle.rename.proofs.walk.pass_all.Goals as goal
@@ -7,23 +6,11 @@ use Rattle.rename.proofs.walk.pass_all.Goals as goal
 pub loop-p-init : goal.loop-p-init
 loop-p-init c = passing_none _ _ _ _ _ _ _
 
-pub part_at-k-requires : goal.part_at-k-requires
-part_at-k-requires c = omega (arith, c.requires.words, c.loop-p-test.true)
-
-pub overflow_add-x : goal.overflow_add-x
-overflow_add-x c = omega (arith, c.requires.fits, c.loop-p-test.true, c.loop-p.invariant.run.size)
-
 pub pass-n-requires : goal.pass-n-requires
 pass-n-requires c =
     let k = passing_ask c.requires c.loop-p.invariant c.loop-p-test.true in
     let v = c.part_at-k.ensures in
     (record { u = c.args.u; is = pass_part v k.wrote_ok k }, part_among v k.line.few_regs)
-
-pub overflow_add-p : goal.overflow_add-p
-overflow_add-p c = omega (arith, c.loop-p-test.true, c.requires.words)
-
-pub loop-p-smaller : goal.loop-p-smaller
-loop-p-smaller c = omega (arith, c.loop-p-test.true)
 
 pub loop-p-preserved : goal.loop-p-preserved
 loop-p-preserved c =
@@ -31,15 +18,6 @@ loop-p-preserved c =
     let i = c.loop-p.invariant in
     let lt = c.loop-p-test.true in
     passing_more q i lt (passed_part c.part_at-k.ensures (passing_ask q i lt).wrote_ok c.pass-n.ensures)
-
-pub shape_of-recs : goal.shape_of-recs
-shape_of-recs c = c.loop-p.invariant.run.size
-
-pub shape_of-ops : goal.shape_of-ops
-shape_of-ops c = c.loop-p.invariant.run.ops_size
-
-pub shape_of-names : goal.shape_of-names
-shape_of-names c = c.loop-p.invariant.names_size
 
 pub returns : goal.returns
 returns c = passing_end c.loop-p.invariant c.loop-p-test.false

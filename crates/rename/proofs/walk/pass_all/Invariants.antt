@@ -1,10 +1,6 @@
 -- `rename::walk::pass_all` meets its contract. Assumes nothing.
-use Prim.Native.Nat.{◌-◌}
 use Rattle.rename.proofs.Passing.{Passing}
 use Rattle.rename.proofs.walk.pass_all.Given as goal
 
 abbrev pub invariant-loop-p : goal.invariant-loop-p
 invariant-loop-p l = Passing l.u l.x.from l.x.count l.initial.names l.names l.initial.recs l.recs l.initial.ops l.ops l.w l.n l.p
-
-abbrev pub decreases-loop-p : goal.decreases-loop-p
-decreases-loop-p l = l.x.count - l.p
