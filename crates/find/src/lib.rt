@@ -7,8 +7,8 @@ pub mod stand; // stand.rt: where the search stands
 ghost use Rattle.std.specs.Prelude.{◌≡◌, ◌≤◌, length};
 ghost use Rattle.find.specs.Find.{Finding, Searched};
 
-use apply::moves::Move;
 use crate::stand::{Stand, go_on, open, outcome};
+use apply::moves::Move;
 use facts::Fact;
 use inst::table::Table;
 use sizes::Sizes;
@@ -36,8 +36,7 @@ pub fn find_move<'a>(
         let r = try_chain(
             t, bounds, recs, ops, pairs, targets, replay, work64, work32, facts, s, k,
         );
-        let next = go_on(bounds, recs, replay, work32, s, k, r);
-        at = next;
+        at = go_on(bounds, recs, replay, work32, s, k, r);
     }
     outcome(at)
 }

@@ -19,10 +19,10 @@ pub enum Stand {
 fn stand_of(r: Option<Look>) -> Stand
     ensures { result ≡ stand_of r }
 {
-    let Some(k) = r else {
-        return Stand::Ends;
-    };
-    Stand::Looks(k)
+    match r {
+        Some(k) => Stand::Looks(k),
+        None => Stand::Ends,
+    }
 }
 
 // At the start of a round: live-in anew, and the first chain.
@@ -59,16 +59,15 @@ pub fn go_on(
     if let Some(mv) = r {
         return Stand::Moves(mv);
     }
-    let x = k.x;
-    stand_of(seek(bounds, recs, replay, work32, s, x.number() + 1))
+    stand_of(seek(bounds, recs, replay, work32, s, k.x.number() + 1))
 }
 
 // The move, where the search is at its end.
 pub fn outcome(at: Stand) -> Option<Move>
     ensures { result ≡ outcome at }
 {
-    let Stand::Moves(mv) = at else {
-        return None;
-    };
-    Some(mv)
+    match at {
+        Stand::Moves(mv) => Some(mv),
+        Stand::Looks(_) | Stand::Ends => None,
+    }
 }

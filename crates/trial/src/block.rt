@@ -11,7 +11,6 @@ use inst::index::BlockId;
 use inst::table::Table;
 use search::find::Look;
 use sizes::Sizes;
-use words::numbers::wide;
 use worth::look::replays;
 
 // What t is tried with, of n positions along the chain of k.
@@ -19,16 +18,12 @@ fn toward_t(bounds: &[u32], replay: &[u32], k: Look, n: usize) -> Goal
     requires { (k.x.0 < 4096) × (2 * k.x.0 + 1 < length bounds.now) × (get_or bounds.now (2 * k.x.0) 0 < get_or bounds.now (2 * k.x.0 + 1) 0) }
     ensures { result ≡ toward_t bounds.now replay.now k n }
 {
-    let t = k.c.t;
-    let f = k.c.f;
     let x = k.x.at();
-    let inside = wide(bounds[2 * x + 1] - bounds[2 * x]) - 1;
-    let least = Sink::minimum(replays(replay, t, f));
     Goal {
-        into: t,
-        other: f,
-        least: least,
-        inside: inside,
+        into: k.c.t,
+        other: k.c.f,
+        least: Sink::minimum(replays(replay, k.c.t, k.c.f)),
+        inside: (bounds[2 * x + 1] - bounds[2 * x]) as usize - 1,
         places: n,
     }
 }
@@ -37,15 +32,12 @@ fn toward_t(bounds: &[u32], replay: &[u32], k: Look, n: usize) -> Goal
 fn toward_f(g: Goal, moved: u32) -> Goal
     ensures { result ≡ toward_f g moved }
 {
-    let t = g.into;
-    let f = g.other;
     let least = if moved == 0 { g.least } else { 0 };
     Goal {
-        into: f,
-        other: t,
-        least: least,
-        inside: g.inside,
-        places: g.places,
+        into: g.other,
+        other: g.into,
+        least,
+        ..g
     }
 }
 
@@ -53,27 +45,18 @@ fn toward_f(g: Goal, moved: u32) -> Goal
 fn found(x: BlockId, g: Goal, k: u32, l: u32) -> Option<Move>
     ensures { result ≡ found x g k l }
 {
-    let t = g.into;
-    let f = g.other;
+    let moves = |into, moved| Move {
+        from: x,
+        into,
+        inside: g.inside,
+        places: g.places,
+        moved,
+    };
     if 0 < k {
-        let mv = Move {
-            from: x,
-            into: t,
-            inside: g.inside,
-            places: g.places,
-            moved: k,
-        };
-        return Some(mv);
+        return Some(moves(g.into, k));
     }
     if 0 < l {
-        let mv = Move {
-            from: x,
-            into: f,
-            inside: g.inside,
-            places: g.places,
-            moved: l,
-        };
-        return Some(mv);
+        return Some(moves(g.other, l));
     }
     None
 }

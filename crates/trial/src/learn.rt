@@ -16,10 +16,8 @@ fn copy_regs(work64: &[u64], work32: &mut [u32], a: usize, r: usize)
     requires { Copying work64.now a r work32.old }
     ensures { Copied work64.now a r work32.old work32.new }
 {
-    let mut i = 0usize;
-    while i < r {
+    for i in 0..r {
         work32[COPIED + i] = (work64[a + i] % LEFT) as u32;
-        i += 1;
     }
 }
 

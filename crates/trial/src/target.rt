@@ -13,7 +13,6 @@ use plan::set::legal_set;
 use plan::settle::Cycle;
 use sizes::{COPIED, Sizes, at_needed, at_preds, at_stamps};
 use words::bits::width;
-use words::numbers::wide;
 
 // What one target is tried with: the block that members are to move into, and the other branch; the fewest members that a move has, or
 // 0 where none is wanted; the positions in the first block, but for its last, and all positions of the chain.
@@ -52,11 +51,11 @@ fn from_start(o: usize, s: usize, m: usize, n: usize, least: u32) -> Cycle
         ahead: false,
         quiet: false,
         done: false,
-        o: o,
-        s: s,
-        m: m,
-        n: n,
-        least: least,
+        o,
+        s,
+        m,
+        n,
+        least,
         left: 0,
     }
 }
@@ -80,15 +79,13 @@ fn take_aim<'a>(
 {
     let o = at_needed(s);
     let st = at_stamps(s);
-    let end = COPIED + wide(s.regs);
     let k = at_preds(s);
     let wanted = (g.least != 0) & c.is_target(&work32[k..], g.into);
     if !wanted {
-        let none = from_start(o, st, 0, 0, 1);
         return Aim {
             least: 0,
             end: COPIED,
-            sweeps: none,
+            sweeps: from_start(o, st, 0, 0, 1),
         };
     }
     put_needed(
@@ -98,15 +95,14 @@ fn take_aim<'a>(
         pairs,
         targets,
         work64,
-        width(wide(s.regs)),
+        width(s.regs as usize),
         g.into,
         g.other,
     );
-    let all = from_start(o, st, g.inside, g.places, g.least);
     Aim {
         least: g.least,
-        end: end,
-        sweeps: all,
+        end: COPIED + s.regs as usize,
+        sweeps: from_start(o, st, g.inside, g.places, g.least),
     }
 }
 

@@ -12,28 +12,12 @@ use chains::chain::Chain;
 use chains::pass::Sink;
 use chains::places::chain_len;
 use inst::index::BlockId;
-use words::numbers::wide;
-
-// Is block b in the list?
-fn has(xs: &[u32], b: BlockId) -> bool
-    ensures { result ≡ mem b.0 xs.now }
-{
-    let x = b.number();
-    let mut j = 0usize;
-    while j < xs.len() {
-        if x == xs[j] {
-            return true;
-        }
-        j += 1;
-    }
-    false
-}
 
 // Is t or f in replay?
 pub fn replays(replay: &[u32], t: BlockId, f: BlockId) -> bool
     ensures { result ≡ (mem t.0 replay.now || mem f.0 replay.now) }
 {
-    has(replay, t) | has(replay, f)
+    replay.contains(&t.number()) | replay.contains(&f.number())
 }
 
 // Is one of the records from a up to e a Cat of form 0?
@@ -41,12 +25,11 @@ pub fn plain_cat_in(recs: &[u32], a: usize, e: usize) -> bool
     requires { (a ≤ e) × (16 * e ≤ length recs.now) }
     ensures { result ≡ any plain_cat (map (inst recs.now) (range a (e - a))) }
 {
-    let mut p = a;
-    while p < e {
+    // `(a..e).any(..)` would say so in a line, but what it answers over a range is not proved.
+    for p in a..e {
         if plain_cat(recs, p) {
             return true;
         }
-        p += 1;
     }
     false
 }
@@ -58,12 +41,12 @@ pub fn worth_a_look(bounds: &[u32], recs: &[u32], replay: &[u32], c: Chain, x: B
 {
     let again = replays(replay, c.t, c.f);
     let k = x.at();
-    let a = wide(bounds[2 * k]);
-    let e = wide(bounds[2 * k + 1]);
-    if e - a <= wide(Sink::minimum(again)) {
+    let a = bounds[2 * k] as usize;
+    let e = bounds[2 * k + 1] as usize;
+    if e - a <= Sink::minimum(again) as usize {
         return false;
     }
-    if wide(Sink::MAX_SEQ) < chain_len(bounds, c) {
+    if (Sink::MAX_SEQ as usize) < chain_len(bounds, c) {
         return false;
     }
     if again {

@@ -7,7 +7,7 @@ use Rattle.chainwords.proofs.Copying.{copied_none, copied_more}
 use Rattle.trial.proofs.learn.copy_regs.Goals as goal
 
 pub loop-i-init : goal.loop-i-init
-loop-i-init c = (omega arith, copied_none _ _ _)
+loop-i-init c = copied_none _ _ _
 
 pub overflow_add-work32 : goal.overflow_add-work32
 overflow_add-work32 c = let p = c.requires in omega (arith, p.there)
@@ -16,13 +16,13 @@ pub bounds-work64-a : goal.bounds-work64-a
 bounds-work64-a c = let p = c.requires in omega (arith, p.there)
 
 pub bounds-work32-i : goal.bounds-work32-i
-bounds-work32-i c = let p = c.requires in omega (arith, p.room, c.loop-i.invariant.1.size)
+bounds-work32-i c = let p = c.requires in omega (arith, p.room, c.loop-i.invariant.size)
 
 pub loop-i-preserved : goal.loop-i-preserved
-loop-i-preserved c = let p = c.requires in (omega arith, copied_more c.loop-i.invariant.1 (omega (arith, p.there)) (omega (arith, p.room)))
+loop-i-preserved c = let p = c.requires in copied_more c.loop-i.invariant (omega (arith, p.there)) (omega (arith, p.room))
 
 pub shape_of-work32 : goal.shape_of-work32
-shape_of-work32 c = c.loop-i.invariant.1.size
+shape_of-work32 c = c.loop-i.invariant.size
 
 pub returns : goal.returns
-returns c = let e : c.loop-i.i ≡ c.args.r = omega arith in subst (λ (x : ℕ). Copied c.args.work64.now c.args.a x c.args.work32.now c.loop-i.work32) e c.loop-i.invariant.1
+returns c = let e : c.loop-i.i ≡ c.args.r = omega arith in subst (λ (x : ℕ). Copied c.args.work64.now c.args.a x c.args.work32.now c.loop-i.work32) e c.loop-i.invariant
