@@ -16,7 +16,7 @@ loop-p-smaller c = let z = c.skip-p.ensures.from in omega arith
 
 pub loop-p-preserved : goal.loop-p-preserved
 loop-p-preserved c = let a = c.args in
-    (c.skip-p.ensures.upto, seen_past _ _ _ _ c.requires (seen_more _ _ _ _ _ c.loop-p.invariant.1 c.bad_kind.ensures c.if-bad_kind.false c.bad_regs_at.ensures c.bad_list.ensures c.bad_branch.ensures (cc)) c.skip-p.ensures)
+    (c.skip-p.ensures.upto, seen_past _ _ _ _ c.requires (seen_more _ _ _ _ _ c.loop-p.invariant.1 c.bad_kind.ensures c.if-bad_kind.false c.bad_regs_at-regs.ensures c.bad_list-lists.ensures c.bad_branch-branches.ensures (cc)) c.skip-p.ensures)
 
 pub returns : goal.returns
 returns c = seen_all _ _ _ _ c.loop-p.invariant.0 c.loop-p-test.false c.loop-p.invariant.1
