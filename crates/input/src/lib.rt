@@ -18,7 +18,8 @@ fn read_at<R: Read>(input: &mut R, out: &mut [u8], at: usize) -> io::Result<usiz
     input.read(&mut out[at..])
 }
 
-// Reads until `out` is full or the input ends, and returns how many bytes came; they stand at the head of `out`.
+// Reads until `out` is full or the input ends, and returns how many bytes came; they stand at the head of `out`. (By hand: std's
+// `read_exact` does not say how many came, and its `read_to_end` takes a `Vec`.)
 pub fn read_full<R: Read>(input: &mut R, out: &mut [u8]) -> io::Result<usize>
     ensures count { IfOk result (λ n. n ≤ length out.new) }
     ensures bytes { IfOk result (λ n. Consumes (R.remaining input.old) (R.remaining input.new) (take n out.new)) }

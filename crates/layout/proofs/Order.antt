@@ -9,8 +9,8 @@ use native.Mathlib.Omega.{arith}
 use Rattle.layout.specs.declared.Counts.{Counts}
 use Rattle.layout.specs.declared.Part.{Part}
 use Rattle.layout.specs.declared.Part.TheVariants.{Bounds, Recs, Locs, Vias, Types, Ops, Pairs, Targets, Replay}
-use Rattle.layout.specs.Layout.{within, held, readable, words_in, start, at_end, room, part_of}
-use Rattle.layout.proofs.Reading.{Sizes, sizes, Whole, whole, part_words, words_reach, room_is, room_all}
+use Rattle.layout.specs.Layout.{held, readable, words_in, start, at_end, room, part_of}
+use Rattle.layout.proofs.Reading.{Whole, whole, part_words, words_reach, room_is, room_all}
 
 -- how many parts lie before a part
 abbrev pub rank : Part → ℕ
@@ -34,9 +34,6 @@ ends_within c Ops = omega arith
 ends_within c Pairs = omega arith
 ends_within c Targets = omega arith
 ends_within c Replay = omega arith
-
-pub short : (c : Counts) (p : Part) → within c ≡ true → start p c + words_in p c ≤ 13256
-short c p h = let s : Sizes c = sizes c h in omega (arith, ends_within c p)
 
 -- what stands where a part is read
 pub part_read : (bs : List ℕ) (c : Counts) (p : Part) (n k l : ℕ) → readable bs ≡ true → c ≡ held bs → n ≡ min (words_in p c) l → k + n ≡ l

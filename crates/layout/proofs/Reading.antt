@@ -13,7 +13,7 @@ use Rattle.words.specs.Bytes.{word_of, word, words_of}
 use Rattle.words.proofs.Bools.{lt?}
 use Rattle.words.proofs.Encoding.{word_drop, length_words}
 use Rattle.layout.specs.declared.Counts.{Counts}
-use Rattle.layout.specs.Layout.{counts, held, within, at_end, readable, part, padded, room}
+use Rattle.layout.specs.Layout.{held, within, at_end, readable, part, padded, room}
 
 -- ---- words
 
@@ -59,11 +59,6 @@ words_reach bs n h =
     omega (arith, length-take n (words_of bs))
 
 -- ---- counts
-
-pub same_counts : (ws : List ℕ) (a b c d e f g h : ℕ) → a ≡ get_or ws 0 0 → b ≡ get_or ws 1 0 → c ≡ get_or ws 2 0 → d ≡ get_or ws 3 0 → e ≡ get_or ws 4 0
-    → f ≡ get_or ws 5 0 → g ≡ get_or ws 6 0 → h ≡ get_or ws 7 0
-    → ◌≡◌ {A = Counts} (record { blocks = a; insts = b; registers = c; operands = d; pairs = e; targets = f; replay = g; vias = h }) (counts ws)
-same_counts ws a b c d e f g h p q r s t u v w = rw (p, q, r, s, t, u, v, w)
 
 -- what `within` says
 pub record Sizes (c : Counts) : Type 0 where

@@ -1,4 +1,4 @@
-// A picture as bytes and the text of `sinkrounds` (document 01, "One listing whole"): specs/Layout and specs/Text define them.
+// A picture as bytes (document 01, "One listing whole"): specs/Layout defines it.
 #![tactic(auto)]
 
 mod parts; // parts.rt: how long each part is, and where it begins

@@ -8,6 +8,7 @@ use crate::{Counts, HEAD_BYTES, Part};
 use words::bytes::{get_words, word_at};
 
 // Word i of the bytes.
+#[tactic(auto, using(crate::proofs::Reading::word_number))]
 fn count(bytes: &[u8], i: usize) -> u32
     requires { 4 * i + 4 ≤ length bytes.now }
     ensures { result ≡ get_or (words_of bytes.now) i 0 }
