@@ -3,21 +3,19 @@
 ghost use Rattle.std.specs.Prelude.{◌≡◌};
 ghost use Rattle.inst.specs.Index.{reg_of, block_of};
 
-#[derive(Clone, Copy)]
+#[derive(Clone, Copy, PartialEq, Eq, PartialOrd, Ord, Debug)]
 pub struct Reg(u32);
 
-#[derive(Clone, Copy)]
+#[derive(Clone, Copy, PartialEq, Eq, PartialOrd, Ord, Debug)]
 pub struct BlockId(u32);
 
 impl Reg {
     // The register n of count, or none.
+    #[tactic(auto, unfolding(crate::specs::Index::reg_of))]
     pub fn new(n: u32, count: usize) -> Option<Reg>
         ensures { result ≡ reg_of n count }
     {
-        if (n as usize) < count {
-            return Some(Reg(n));
-        }
-        None
+        ((n as usize) < count).then_some(Reg(n))
     }
 
     // Its place in a list of registers.
@@ -37,13 +35,11 @@ impl Reg {
 
 impl BlockId {
     // The block n of count, or none.
+    #[tactic(auto, unfolding(crate::specs::Index::block_of))]
     pub fn new(n: u32, count: u32) -> Option<BlockId>
         ensures { result ≡ block_of n count }
     {
-        if n < count {
-            return Some(BlockId(n));
-        }
-        None
+        (n < count).then_some(BlockId(n))
     }
 
     // Its place in a list of blocks.
