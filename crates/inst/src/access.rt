@@ -91,7 +91,7 @@ pub struct Firsts {
 
 impl Firsts {
     // Those of a list that is read.
-    pub fn of_list(xs: &[u32]) -> Firsts
+    pub(crate) fn of_list(xs: &[u32]) -> Firsts
         ensures { Heads xs.now [] result }
     {
         Firsts {
@@ -104,7 +104,7 @@ impl Firsts {
     }
 
     // Register r, or absent, is read before those of self.
-    pub fn after_read(self, r: u32) -> Firsts
+    pub(crate) fn after_read(self, r: u32) -> Firsts
         ensures { (rs ds : List ℕ) → Heads rs ds self → Heads (present r ++ rs) ds result }
     {
         if r == ABSENT {
@@ -119,7 +119,7 @@ impl Firsts {
     }
 
     // Register r, or absent, is written before those of self.
-    pub fn after_write(self, r: u32) -> Firsts
+    pub(crate) fn after_write(self, r: u32) -> Firsts
         ensures { (rs ds : List ℕ) → Heads rs ds self → Heads rs (present r ++ ds) result }
     {
         if r == ABSENT {

@@ -2,4 +2,4 @@
 use Rattle.checks.proofs.plain.simple.Goals as goal
 
 pub returns : goal.returns
-returns c = rw (c.least-a.ensures, c.most-e.ensures, c.has_list.ensures, c.shape.ensures)
+returns c = rw (c.least-a.ensures, c.most-e.ensures, c.has_list.ensures, c.stops.ensures)
