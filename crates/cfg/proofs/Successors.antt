@@ -1,17 +1,20 @@
 -- The words that the code returns are the successors that `model` gives. Assumes nothing.
 use mathlib.Core.Path.{◌≡◌, refl, sym, ap, ◌∙◌, subst}
-use mathlib.Core.Logic.{◌⊎◌, inl, inr}
 use mathlib.Core.Bool.{Bool, true, false}
 use mathlib.Core.List.{List, [], ◌∷◌}
-use Prim.Native.Nat.{ℕ, zero, suc, ◌+◌, ◌-◌, ◌*◌, ◌/◌, ◌≤◌, ◌<◌}
+use Prim.Native.Nat.{ℕ, ◌+◌, ◌-◌, ◌*◌, ◌/◌, ◌≤◌, ◌<◌}
 use native.Mathlib.Omega.{arith}
 use lib.ListN.{get_or, length, take, drop, get_or-eq_default}
 use lib.Seq.{drop-cons}
 use borrow.Author.Tests.{eq-eqb, ne_eqb}
+use Rattle.model.specs.Kinds.{kind_of}
 use Rattle.model.specs.Picture.{inst, kind, End, goes, parts, cases, stops, end_of, end_succs, size, table, succs}
 use Rattle.inst.specs.Table.{packed, shape}
+use Rattle.inst.specs.Shape.{shape_of}
+use Rattle.inst.specs.declared.table.Shape.{Shape}
+use Rattle.inst.specs.declared.table.Shape.TheVariants.{Stops, Goes, Parts, Cases}
 use Rattle.inst.specs.Record.{Known, word}
-use Rattle.inst.proofs.Ends.{Ends, ends}
+use Rattle.inst.proofs.Ends.{EndsAs, ends}
 use Rattle.inst.proofs.Lists.{part_is}
 use Rattle.inst.proofs.Words.{word_is}
 use Rattle.cfg.specs.Drawn.{drawn}
@@ -19,12 +22,15 @@ use Rattle.cfg.specs.Graph.{Tables, Graph}
 
 -- ---- case tables
 
-module _ (pairs targets : List ℕ) (k i : ℕ) (e : i ≡ k) where
-  pub no_table : length pairs ≤ 2 * i + 1 → [] ≡ table (drawn [] [] [] pairs targets) k
-  no_table h = sym (ap (λ (n : ℕ). take n (drop (get_or pairs (2 * k) 0) targets)) (get_or-eq_default pairs 0 (rw e at h)))
+module _ (bounds recs pairs targets : List ℕ) (k : ℕ) where
+  abbrev cases_of : List ℕ
+  cases_of = table (drawn bounds recs [] pairs targets) k
 
-  pub one_table : (a l : ℕ) → a ≡ get_or pairs (2 * i) 0 → l ≡ get_or pairs (2 * i + 1) 0 → take (a + l - a) (drop a targets) ≡ table (drawn [] [] [] pairs targets) k
-  one_table a l p q = part_is targets (rw e at p) (rw e at q)
+  pub no_table : length pairs ≤ 2 * k + 1 → [] ≡ cases_of
+  no_table h = sym (ap (λ (n : ℕ). take n (drop (get_or pairs (2 * k) 0) targets)) (get_or-eq_default pairs 0 h))
+
+  pub one_table : (a l : ℕ) → a ≡ get_or pairs (2 * k) 0 → l ≡ get_or pairs (2 * k + 1) 0 → take (a + l - a) (drop a targets) ≡ cases_of
+  one_table a l p q = part_is targets p q
 
 pub table_fits : {pairs targets : List ℕ} {a l : ℕ} (i : ℕ) → Tables pairs targets → 2 * i + 1 < length pairs → a ≡ get_or pairs (2 * i) 0 → l ≡ get_or pairs (2 * i + 1) 0 → a + l ≤ length targets
 table_fits i t h p q = omega (arith, t.inside i h)
@@ -47,40 +53,38 @@ take_two xs a h =
     ap (take 2) (drop-cons xs a 0 (omega arith)) ∙ ap (λ (l : List ℕ). get_or xs a 0 ∷ take 1 l) (ap (λ (n : ℕ). drop n xs) (sym (native.Mathlib.Numerals.add-one a)))
     ∙ ap (λ (l : List ℕ). get_or xs a 0 ∷ l) (take_one xs (a + 1) h)
 
-module _ (recs pairs targets : List ℕ) (p s : ℕ) (w : Known recs p) (e : s ≡ shape (packed (kind (inst recs p)))) where
-  how : Ends s (inst recs p)
-  how = rw e (ends (inst recs p) w.kind)
+-- the shape that the code looks up
+pub shape_is : {s : Shape} {m k w : ℕ} → s ≡ shape_of (shape m) → m ≡ packed (kind_of k) → k ≡ w → s ≡ shape_of (shape (packed (kind_of w)))
+shape_is e q h = e ∙ ap (λ (m : ℕ). shape_of (shape m)) (q ∙ ap (λ (k : ℕ). packed (kind_of k)) h)
 
-  pub case_end : s ≡ 3 → (l : List ℕ) (k : ℕ) → k ≡ word recs p 9 → l ≡ table (drawn [] [] [] pairs targets) k
-      → l ≡ end_succs (drawn [] recs [] pairs targets) (end_of (inst recs p))
-  case_end h l k q t = t ∙ ap (table (drawn [] [] [] pairs targets)) q ∙ ap (end_succs (drawn [] recs [] pairs targets)) (sym (how.case h))
+-- the words that the code takes for a shape are those that its end names
+module _ (bounds recs pairs targets : List ℕ) (p : ℕ) {s : Shape} (w : Known recs p) (e : s ≡ shape_of (shape (packed (kind (inst recs p))))) where
+  abbrev goes_on : End → List ℕ
+  goes_on = end_succs (drawn bounds recs [] pairs targets)
 
-  small : (s ≡ 3 → ⊥) → (s ≡ 0) ⊎ ((s ≡ 1) ⊎ (s ≡ 2))
-  small h = go s (omega arith) h
+  ends_as : (t : Shape) → s ≡ t → EndsAs t (inst recs p)
+  ends_as t h = ends (inst recs p) w.kind (sym h ∙ e)
+
+  pub no_end : s ≡ Stops → {l : List ℕ} → l ≡ take 0 (drop (16 * p + 9) recs) → l ≡ goes_on (end_of (inst recs p))
+  no_end h q = q ∙ ap goes_on (sym (ends_as Stops h))
+
+  pub one_end : s ≡ Goes → {l : List ℕ} → l ≡ take 1 (drop (16 * p + 9) recs) → l ≡ goes_on (end_of (inst recs p))
+  one_end h q =
+      q ∙ take_one recs (16 * p + 9) (omega (arith, w.within.whole))
+      ∙ ap (λ (x : ℕ). x ∷ []) (word_is recs p 9 (omega arith)) ∙ ap goes_on (sym (ends_as Goes h))
+
+  pub two_ends : s ≡ Parts → {l : List ℕ} → l ≡ take 2 (drop (16 * p + 9) recs) → l ≡ goes_on (end_of (inst recs p))
+  two_ends h q =
+      q ∙ take_two recs (16 * p + 9) (omega (arith, w.within.whole))
+      ∙ ap (λ (x : ℕ). x ∷ get_or recs (16 * p + 9 + 1) 0 ∷ []) (word_is recs p 9 (omega arith))
+      ∙ ap (λ (x : ℕ). get_or (inst recs p) 9 0 ∷ x ∷ []) (ap (λ (n : ℕ). get_or recs n 0) ten ∙ word_is recs p 10 (omega arith))
+      ∙ ap goes_on (sym (ends_as Parts h))
     where
-      go : (s : ℕ) → s < 4 → (s ≡ 3 → ⊥) → (s ≡ 0) ⊎ ((s ≡ 1) ⊎ (s ≡ 2))
-      go zero l n = inl refl
-      go (suc zero) l n = inr (inl refl)
-      go (suc (suc zero)) l n = inr (inr refl)
-      go (suc (suc (suc s))) l n = absurd (n (omega arith))
+      ten : 16 * p + 9 + 1 ≡ 16 * p + 10
+      ten = omega arith
 
-  pub branch_end : (s ≡ 3 → ⊥) → (l : List ℕ) (n : ℕ) → n ≡ s → l ≡ take n (drop (16 * p + 9) recs)
-      → l ≡ end_succs (drawn [] recs [] pairs targets) (end_of (inst recs p))
-  branch_end h l n q t = t ∙ ap (λ (m : ℕ). take m (drop (16 * p + 9) recs)) q ∙ go (small h)
-    where
-      go : (s ≡ 0) ⊎ ((s ≡ 1) ⊎ (s ≡ 2)) → take s (drop (16 * p + 9) recs) ≡ end_succs (drawn [] recs [] pairs targets) (end_of (inst recs p))
-      go (inl z) = ap (λ (m : ℕ). take m (drop (16 * p + 9) recs)) z ∙ ap (end_succs (drawn [] recs [] pairs targets)) (sym (how.none z))
-      go (inr (inl z)) =
-          ap (λ (m : ℕ). take m (drop (16 * p + 9) recs)) z ∙ take_one recs (16 * p + 9) (omega (arith, w.within.whole))
-          ∙ ap (λ (x : ℕ). x ∷ []) (word_is recs p 9 (omega arith)) ∙ ap (end_succs (drawn [] recs [] pairs targets)) (sym (how.br z))
-      go (inr (inr z)) =
-          ap (λ (m : ℕ). take m (drop (16 * p + 9) recs)) z ∙ take_two recs (16 * p + 9) (omega (arith, w.within.whole))
-          ∙ ap (λ (x : ℕ). x ∷ get_or recs (16 * p + 9 + 1) 0 ∷ []) (word_is recs p 9 (omega arith))
-          ∙ ap (λ (x : ℕ). get_or (inst recs p) 9 0 ∷ x ∷ []) (ap (λ (n : ℕ). get_or recs n 0) ten ∙ word_is recs p 10 (omega arith))
-          ∙ ap (end_succs (drawn [] recs [] pairs targets)) (sym (how.cond_br z))
-        where
-          ten : 16 * p + 9 + 1 ≡ 16 * p + 10
-          ten = omega arith
+  pub case_ends : s ≡ Cases → {l : List ℕ} {k : ℕ} → k ≡ word recs p 9 → l ≡ table (drawn bounds recs [] pairs targets) k → l ≡ goes_on (end_of (inst recs p))
+  case_ends h q t = t ∙ ap (table (drawn bounds recs [] pairs targets)) q ∙ ap goes_on (sym (ends_as Cases h))
 
 -- ---- a block
 
@@ -93,11 +97,10 @@ module _ (bounds recs pairs targets : List ℕ) (b s e : ℕ) (es : s ≡ get_or
   pub last_known : Graph bounds recs pairs targets → b < length bounds / 2 → s < e → Known recs (e - 1)
   last_known g h l = g.known (e - 1) (omega (arith, g.blocks.inside b h))
 
-  pub full_block : s < e → (l : List ℕ) → l ≡ end_succs (drawn [] recs [] pairs targets) (end_of (inst recs (e - 1))) → l ≡ succs (drawn bounds recs [] pairs targets) b
+  pub full_block : s < e → (l : List ℕ) → l ≡ end_succs (drawn bounds recs [] pairs targets) (end_of (inst recs (e - 1))) → l ≡ succs (drawn bounds recs [] pairs targets) b
   full_block h l q =
       let n : size (drawn bounds recs [] pairs targets) b ≡ 0 → ⊥ = λ (z : size (drawn bounds recs [] pairs targets) b ≡ 0). omega arith in
-      q ∙ end_same [] bounds recs recs [] [] pairs targets (end_of (inst recs (e - 1)))
-      ∙ ap (λ (x : ℕ). end_succs (drawn bounds recs [] pairs targets) (end_of (inst recs (x - 1)))) ee
+      q ∙ ap (λ (x : ℕ). end_succs (drawn bounds recs [] pairs targets) (end_of (inst recs (x - 1)))) ee
       ∙ sym (ap (λ (t : Bool). end_succs (drawn bounds recs [] pairs targets) (elim t as (λ z. End) [ true ↦ stops | false ↦ end_of (inst recs (get_or bounds (2 * b + 1) 0 - 1)) ])) (ne_eqb (size (drawn bounds recs [] pairs targets) b) 0 n))
 
 -- each successor is a block

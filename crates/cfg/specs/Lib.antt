@@ -1,3 +1,4 @@
 pub mod Drawn
 pub mod Graph
+pub mod Func
 pub mod Preds

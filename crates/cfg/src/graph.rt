@@ -4,77 +4,84 @@ ghost use Rattle.std.specs.Prelude.{◌≡◌, [], ℕ, ◌+◌, ◌*◌, ◌/�
 ghost use Rattle.model.specs.Picture.{inst, end_of, end_succs, table, succs};
 ghost use Rattle.inst.specs.Record.{Within, Known};
 ghost use Rattle.cfg.specs.Drawn.{drawn};
-ghost use Rattle.cfg.specs.Graph.{Tables, Graph};
+ghost use Rattle.cfg.specs.Graph.{Tables, Blocks};
+ghost use Rattle.cfg.specs.Func.{blocks_of, drawn_of, Graphed};
 ghost use Rattle.words.specs.Steps.{steps};
 ghost use Rattle.cfg.specs.Preds.{Preds, count_after, which_after, noted};
 
-use inst::access::row_at;
 use inst::index::BlockId;
-use inst::record::word;
-use inst::table::{Table, shape};
-use words::numbers::wide;
+use inst::record::{kind, word};
+use inst::table::{Shape, Table};
 
-// The targets of case table k, none past the last.
-fn case_targets<'a>(pairs: &[u32], targets: &'a [u32], k: u32) -> &'a [u32]
-    requires { Tables pairs.now targets.now }
-    ensures { result.now ≡ table (drawn [] [] [] pairs.now targets.now) k }
-{
-    let i = 2 * wide(k);
-    if pairs.len() <= i + 1 {
-        return &targets[..0];
-    }
-    let a = wide(pairs[i]);
-    let e = a + wide(pairs[i + 1]);
-    &targets[a..e]
+// A function's graph: the table of roles, where each block begins and ends in the records, and the case tables.
+#[derive(Clone, Copy)]
+pub struct Func<'a> {
+    pub table: &'a Table,
+    pub bounds: &'a [u32],
+    pub recs: &'a [u32],
+    pub pairs: &'a [u32],
+    pub targets: &'a [u32],
 }
 
-// The first n payload words of record p.
-fn payload(recs: &[u32], p: usize, n: usize) -> &[u32]
-    requires { Within recs.now p × (n ≤ 7) }
-    ensures { result.now ≡ take n (drop (16 * p + 9) recs.now) }
-{
-    let a = 16 * p + 9;
-    let e = a + n;
-    &recs[a..e]
-}
-
-// Where record p goes if it ends a block.
-fn targets_of<'a>(
-    t: &Table,
-    recs: &'a [u32],
-    pairs: &[u32],
-    targets: &'a [u32],
-    p: usize,
-) -> &'a [u32]
-    requires { Known recs.now p × Tables pairs.now targets.now }
-    ensures { result.now ≡ end_succs (drawn [] recs.now [] pairs.now targets.now) (end_of (inst recs.now p)) }
-{
-    let s = shape(row_at(t, recs, p));
-    if s == 3 {
-        return case_targets(pairs, targets, word(recs, p, 9));
+impl<'a> Func<'a> {
+    // How many blocks it has.
+    pub fn blocks(&self) -> u32
+        requires { Blocks self.now.bounds.now self.now.recs.now }
+        ensures { result ≡ blocks_of self.now }
+    {
+        (self.bounds.len() / 2) as u32
     }
-    payload(recs, p, wide(s))
-}
 
-// The successors of block b.
-pub fn succs<'a>(
-    t: &Table,
-    bounds: &[u32],
-    recs: &'a [u32],
-    pairs: &[u32],
-    targets: &'a [u32],
-    b: BlockId,
-) -> &'a [u32]
-    requires { Graph bounds.now recs.now pairs.now targets.now × (b.0 < length bounds.now / 2) }
-    ensures { result.now ≡ succs (drawn bounds.now recs.now [] pairs.now targets.now) b.0 }
-{
-    let k = b.at();
-    let start = wide(bounds[2 * k]);
-    let end = wide(bounds[2 * k + 1]);
-    if end <= start {
-        return &recs[..0];
+    // The successors of block b.
+    pub fn succs(&self, b: BlockId) -> &'a [u32]
+        requires { Graphed self.now × (b.0 < blocks_of self.now) }
+        ensures { result.now ≡ succs (drawn_of self.now) b.0 }
+    {
+        let start = b.start(self.bounds);
+        let past = b.past(self.bounds);
+        if past <= start {
+            return &self.recs[..0];
+        }
+        self.targets_of(past - 1)
     }
-    targets_of(t, recs, pairs, targets, end - 1)
+
+    // Where record p goes if it ends a block.
+    fn targets_of(&self, p: usize) -> &'a [u32]
+        requires { Known self.now.recs.now p × Tables self.now.pairs.now self.now.targets.now }
+        ensures { result.now ≡ end_succs (drawn_of self.now) (end_of (inst self.now.recs.now p)) }
+    {
+        let row = self.table.row(kind(self.recs, p));
+        match Shape::of(row) {
+            Shape::Stops => self.payload(p, 0),
+            Shape::Goes => self.payload(p, 1),
+            Shape::Parts => self.payload(p, 2),
+            Shape::Cases => self.case_targets(word(self.recs, p, 9)),
+        }
+    }
+
+    // The first n payload words of record p.
+    fn payload(&self, p: usize, n: usize) -> &'a [u32]
+        requires { Within self.now.recs.now p × (n ≤ 7) }
+        ensures { result.now ≡ take n (drop (16 * p + 9) self.now.recs.now) }
+    {
+        let a = 16 * p + 9;
+        let e = a + n;
+        &self.recs[a..e]
+    }
+
+    // The targets of case table k, none past the last.
+    fn case_targets(&self, k: u32) -> &'a [u32]
+        requires { Tables self.now.pairs.now self.now.targets.now }
+        ensures { result.now ≡ table (drawn_of self.now) k }
+    {
+        let i = 2 * k as usize;
+        if self.pairs.len() <= i + 1 {
+            return &self.targets[..0];
+        }
+        let a = self.pairs[i] as usize;
+        let e = a + self.pairs[i + 1] as usize;
+        &self.targets[a..e]
+    }
 }
 
 // How many predecessors a block has with c, where k and p are its two words.
@@ -105,11 +112,11 @@ fn note(words: &mut [u32], c: BlockId, b: BlockId)
     requires { 2 * b.0 + 1 < length words.old }
     ensures { words.new ≡ noted c.0 words.old b.0 }
 {
-    let i = b.at();
-    let k = words[2 * i];
-    let p = words[2 * i + 1];
-    words[2 * i] = count_after(k, p, c);
-    words[2 * i + 1] = which_after(k, p, c);
+    let i = 2 * b.at();
+    let k = words[i];
+    let p = words[i + 1];
+    words[i] = count_after(k, p, c);
+    words[i + 1] = which_after(k, p, c);
 }
 
 // Block c, of n, goes to each block of the list.
@@ -117,37 +124,20 @@ fn note_all(words: &mut [u32], list: &[u32], n: u32, c: BlockId)
     requires { (2 * n ≤ length words.old) × ((j : ℕ) → j < length list.now → get_or list.now j 0 < n) }
     ensures { words.new ≡ steps (noted c.0) words.old list.now }
 {
-    let mut j = 0usize;
-    while j < list.len() {
-        let Some(b) = BlockId::new(list[j], n) else {
-            return;
-        };
-        note(words, c, b);
-        j += 1;
+    for b in list {
+        note(words, c, BlockId::known(*b, n));
     }
 }
 
 // For each block how many predecessors it has, up to two, and the first: words 2 b and 2 b + 1.
-pub fn find_preds<'a>(
-    words: &mut [u32],
-    t: &Table,
-    bounds: &[u32],
-    recs: &'a [u32],
-    pairs: &[u32],
-    targets: &'a [u32],
-)
-    requires { Graph bounds.now recs.now pairs.now targets.now × (2 * (length bounds.now / 2) ≤ length words.old) }
-    ensures { Preds (drawn bounds.now recs.now [] pairs.now targets.now) words.new }
+pub fn find_preds(words: &mut [u32], func: &Func<'_>)
+    requires { Graphed func.now × (2 * blocks_of func.now ≤ length words.old) }
+    ensures { Preds (drawn_of func.now) words.new }
 {
-    let n = (bounds.len() / 2) as u32;
+    let n = func.blocks();
     words.fill(0);
-    let mut k: u32 = 0;
-    while k < n {
-        let Some(c) = BlockId::new(k, n) else {
-            return;
-        };
-        let list = succs(t, bounds, recs, pairs, targets, c);
-        note_all(words, list, n, c);
-        k += 1;
+    for k in 0..n {
+        let c = BlockId::known(k, n);
+        note_all(words, func.succs(c), n, c);
     }
 }

@@ -8,7 +8,7 @@ ghost use Rattle.checks.specs.Plain.{simple, bare, odd_slot, usual, plain, Skipp
 use inst::access::{row_at, uses};
 use inst::kinds::LAST;
 use inst::record::{form, kind, list_len, list_start, slot};
-use inst::table::{Table, has_list, least, most, shape, two_bits};
+use inst::table::{Table, has_list, least, most, stops, two_bits};
 use model::ABSENT;
 
 // A kind of this row has neither a list nor successors, and may have this form.
@@ -17,7 +17,7 @@ fn simple(row: u32, form: u32) -> bool
 {
     let a = least(row);
     let e = most(row);
-    !has_list(row) & (shape(row) == 0) & !(form < a) & !(e < form)
+    !has_list(row) & stops(row) & !(form < a) & !(e < form)
 }
 
 // Record p has no list.

@@ -5,7 +5,7 @@ use mathlib.Core.Logic.{◌⊎◌, ◌≢◌, inl, inr, ⊎_elim}
 use mathlib.Core.Bool.{Bool, true, false, not, ◌||◌, false≢true}
 use mathlib.Core.List.{List}
 use Prim.Native.Nat.{ℕ, ◌+◌, ◌-◌, ◌*◌, ◌/◌, ◌%◌, ◌^◌, ◌≤◌, ◌<◌, min, max}
-use native.Mathlib.Nat.{le_refl, le_trans, le_antisymm, le-max_left, le-max_right, add_assoc, eq-or-lt_of_le}
+use native.Mathlib.Nat.{le_refl, le_trans, le_antisymm, le-max_left, le-max_right, add_assoc}
 use native.Mathlib.Decide.{ℕ_discrete}
 use native.Mathlib.Omega.{arith}
 use lib.Bits.{bit_and, or_lt, and_le_r}
@@ -19,7 +19,7 @@ use Rattle.words.proofs.Digits.{digit_or, digit-and_not, le_or}
 use Rattle.words.proofs.Rows.{room_set}
 use Rattle.words.proofs.Parts.{row_fits, cell_inj, below_split}
 use Rattle.defuse.specs.Sets.{Room}
-use Rattle.flow.specs.Progress.{cell, raised, Among, Edges, Progress}
+use Rattle.flow.specs.Progress.{cell, raised, Among, Progress}
 
 -- ---- one word
 
@@ -227,20 +227,3 @@ block_more {b = b} P P' succ ss e part in₁ in₂ = after
     (λ c x i d. ⊎_elim (λ u. inl (u, d.1, d.2)) (λ (u : c ≡ b). inr (u, subst (λ (l : List ℕ). Among l (length l) x) (ap succ u ∙ sym e) d.1, d.2)) (part c d.0))
     (λ c x i d. (in₁ c d.0, d.1, d.2))
     (λ c x i d. (in₂ c d.0, subst (λ (l : List ℕ). Among l (length l) x) (e ∙ ap succ (sym d.0)) d.1, d.2))
-
-abbrev pub From : ℕ → ℕ → ℕ → Type 0
-From b n c = (b ≤ c) × (c < n)
-
--- going down from n, and up from 0: x is the block's number
-pub block_down : {n w b x : ℕ} {ds l m k : List ℕ} {r r' : Bool} (succ : ℕ → List ℕ) (ss : List ℕ) → b - 1 ≡ x → ss ≡ succ x → 0 < b → b ≤ n
-    → Progress n w ds (Blocks (From b n) w succ) l m r → Progress n w ds (λ c y i. (c ≡ x) × Among ss (length ss) y × (i < w)) m k r'
-    → Progress n w ds (Blocks (From (b - 1) n) w succ) l k (r || r')
-block_down {n} {b = b} {x = x} succ ss q e h hn = block_more (From b n) (From (b - 1) n) succ ss e
-    (λ c d. ⊎_elim (λ (u : b - 1 ≡ c). inr (sym u ∙ q)) (λ (u : b - 1 < c). inl (omega arith, d.1)) (eq-or-lt_of_le d.0))
-    (λ c d. let u = d.0 in (omega arith, d.1)) (λ c u. (omega arith, omega arith))
-
-pub block_up : {n w b x : ℕ} {ds l m k : List ℕ} {r r' : Bool} (succ : ℕ → List ℕ) (ss : List ℕ) → b ≡ x → ss ≡ succ x
-    → Progress n w ds (Edges b w succ) l m r → Progress n w ds (λ c y i. (c ≡ x) × Among ss (length ss) y × (i < w)) m k r'
-    → Progress n w ds (Edges (b + 1) w succ) l k (r || r')
-block_up {b = b} {x = x} succ ss q e = block_more (λ c. c < b) (λ c. c < b + 1) succ ss e
-    (λ c u. ⊎_elim (λ (v : c < b). inl v) (λ (v : c ≡ b). inr (v ∙ q)) (below_split c b u)) (λ c u. omega arith) (λ c u. omega arith)

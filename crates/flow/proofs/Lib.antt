@@ -8,3 +8,4 @@ pub mod Standing
 pub mod Renewed
 pub mod Accepted
 pub mod Elsewhere
+pub mod Orders

@@ -3,14 +3,15 @@
 use mathlib.Core.Path.{◌≡◌, refl, sym, ap, ap₂, subst, ◌∙◌}
 use mathlib.Core.Logic.{◌⊎◌, ◌≢◌, inl, inr, ⊎_elim}
 use mathlib.Core.Bool.{false}
-use mathlib.Core.List.{List, [], ◌∷◌, map}
+use mathlib.Core.List.{List, [], ◌∷◌, ◌++◌, map, append_assoc}
 use Prim.Native.Nat.{ℕ, ◌+◌, ◌-◌, ◌*◌, ◌/◌, ◌≤◌, ◌<◌}
 use native.Mathlib.Omega.{arith}
-use lib.ListN.{length, get_or, set, replicate, length-replicate, replicate-append-replicate}
-use lib.Seq.{sets, length-sets, get_or-set_other}
+use lib.ListN.{length, length-drop, take, drop, get_or, replicate, length-replicate}
+use borrow.Rule.Slice.PartMut.{put_mid}
+use lib.Seq.{sets, sets-eq, drop-drop, length-sets, length-take-le, get_or-set_other}
 use Rattle.words.specs.Bits.{is_in, set_bit, unset_bit}
 use Rattle.words.specs.Lists.{In, range}
-use Rattle.words.proofs.Copying.{set_behind, get_d_sets_before, get_or-sets_in, get_or-sets_after}
+use Rattle.words.proofs.Copying.{get_d_sets_before, get_or-sets_in, get_or-sets_after}
 use Rattle.words.proofs.Parts.{below_split}
 use Rattle.words.proofs.Rows.{in_clear}
 use Rattle.model.specs.Picture.{Picture, Inst, inst, reads, writes, code}
@@ -22,12 +23,18 @@ use Rattle.flow.specs.Live.{RowRoom, Rows, OnlyRows}
 use Rattle.flow.proofs.Firsts.{at, Small, code_small, length_run, run_own, run_kill}
 use Rattle.flow.proofs.Standing.{apart_rows, within_rows, first_fits, wrote_fits, row_as, rows_else}
 
--- ---- clearing: ys is what the loop has made of xs
+-- ---- clearing
 
-pub clear_more : (xs ys : List ℕ) (d i : ℕ) → ys ≡ sets xs d (replicate i 0) → set ys (d + i) 0 ≡ sets xs d (replicate (i + 1) 0)
-clear_more xs ys d i e =
-    ap₂ (λ (l : List ℕ) (k : ℕ). set l (d + k) 0) e (sym (length-replicate {A = ℕ} i 0))
-    ∙ set_behind xs d (replicate i 0) 0 ∙ ap (sets xs d) (replicate-append-replicate {A = ℕ} i 1 0)
+-- a part whose words were all made 0
+pub part_cleared : (xs : List ℕ) (d n : ℕ) {ys : List ℕ} → d + n ≤ length xs → ys ≡ replicate (length (take (d + n - d) (drop d xs))) 0
+    → put_mid d (d + n - d) xs ys ≡ sets xs d (replicate n 0)
+part_cleared xs d n {ys} h e =
+    let k : d + n - d ≡ n = omega arith in
+    let part : length (take (d + n - d) (drop d xs)) ≡ n = rw k (length-take-le n (drop d xs) (simp length-drop (omega arith))) in
+    let zeros : length (replicate {A = ℕ} n 0) ≡ n = length-replicate {A = ℕ} n 0 in
+    let behind : drop (d + n - d) (drop d xs) ≡ drop (d + length (replicate {A = ℕ} n 0)) xs = drop-drop (d + n - d) d xs ∙ ap (λ (m : ℕ). drop m xs) (let z : d + (d + n - d) ≡ d + length (replicate {A = ℕ} n 0) = omega (arith, zeros) in z) in
+    ap₂ (λ (a b : List ℕ). take d xs ++ (a ++ b)) (e ∙ ap (λ (m : ℕ). replicate m 0) part) behind
+    ∙ sym (sets-eq (replicate n 0) xs d (omega (arith, zeros)) ∙ append_assoc (take d xs) (replicate n 0) (drop (d + length (replicate {A = ℕ} n 0)) xs))
 
 -- nothing is in a row that was cleared
 cleared : (w x : ℕ) (l : List ℕ) → x * w + w ≤ length l → (r : ℕ) → r < 64 * w → is_in (sets l (x * w) (replicate w 0)) (at w x r) ≡ false

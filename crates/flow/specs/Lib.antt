@@ -1,3 +1,4 @@
 pub mod Progress
 pub mod Live
 pub mod Needed
+pub mod Order

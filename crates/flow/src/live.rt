@@ -7,16 +7,15 @@ ghost use Rattle.std.proofs.lemmas.List.Edits.{sets};
 ghost use Rattle.words.specs.Bits.{width};
 ghost use Rattle.model.specs.Picture.{succs};
 ghost use Rattle.cfg.specs.Drawn.{drawn};
-ghost use Rattle.cfg.specs.Graph.{Graph};
+ghost use Rattle.cfg.specs.Func.{blocks_of, drawn_of, Graphed};
 ghost use Rattle.defuse.specs.Sets.{Room};
 ghost use Rattle.flow.specs.Progress.{raised, Among, Edges, Progress, Solved};
 ghost use Rattle.flow.specs.Live.{RowRoom, Rows, Live, gathered};
+ghost use Rattle.flow.specs.Order.{kth};
 
-use cfg::graph::succs;
+use cfg::graph::Func;
 use inst::index::BlockId;
-use inst::table::Table;
 use words::bits::width;
-use words::numbers::wide;
 
 // One word: a takes what stands at c and not at d. Tells whether it changed.
 fn raise(bits: &mut [u64], a: usize, c: usize, d: usize) -> bool
@@ -38,13 +37,10 @@ fn join(bits: &mut [u64], n: u32, w: usize, b: BlockId, s: BlockId) -> bool
 {
     let to = b.at() * w;
     let from = s.at() * w;
-    let writes = wide(n) * w + to;
+    let writes = n as usize * w + to;
     let mut changed = false;
-    let mut i = 0usize;
-    while i < w {
-        let more = raise(bits, to + i, from + i, writes + i);
-        changed = changed | more;
-        i += 1;
+    for i in 0..w {
+        changed |= raise(bits, to + i, from + i, writes + i);
     }
     changed
 }
@@ -55,96 +51,56 @@ fn settle(bits: &mut [u64], list: &[u32], n: u32, w: usize, b: BlockId) -> bool
     ensures { Progress n w (drop (n * w) bits.old) (λ c x i. (c ≡ b.0) × Among list.now (length list.now) x × (i < w)) bits.old bits.new result }
 {
     let mut changed = false;
-    let mut j = 0usize;
-    while j < list.len() {
-        let Some(s) = BlockId::new(list[j], n) else {
-            return changed;
-        };
-        let more = join(bits, n, w, b, s);
-        changed = changed | more;
-        j += 1;
+    for s in list {
+        changed |= join(bits, n, w, b, BlockId::known(*s, n));
     }
     changed
 }
 
-// Every block once, from the last to the first. Tells whether one changed.
-fn sweep<'a>(
-    bits: &mut [u64],
-    t: &Table,
-    bounds: &[u32],
-    recs: &'a [u32],
-    pairs: &[u32],
-    targets: &'a [u32],
-    w: usize,
-) -> bool
-    requires { Graph bounds.now recs.now pairs.now targets.now × Room (length bounds.now / 2) w bits.old }
-    ensures { Progress (length bounds.now / 2) w (drop (length bounds.now / 2 * w) bits.old)
-        (Edges (length bounds.now / 2) w (succs (drawn bounds.now recs.now [] pairs.now targets.now)))
-        bits.old bits.new result }
-{
-    let n = (bounds.len() / 2) as u32;
-    let mut changed = false;
-    let mut k = n;
-    while 0 < k {
-        k -= 1;
-        let Some(b) = BlockId::new(k, n) else {
-            return changed;
-        };
-        let list = succs(t, bounds, recs, pairs, targets, b);
-        let more = settle(bits, list, n, w, b);
-        changed = changed | more;
-    }
-    changed
+// Which way a sweep goes through the blocks: from the last to the first, or from the first to the last.
+#[derive(Clone, Copy, PartialEq, Eq, Debug)]
+enum Order {
+    Down,
+    Up,
 }
 
-// Every block once, from the first to the last. Tells whether one changed.
-fn sweep_up<'a>(
-    bits: &mut [u64],
-    t: &Table,
-    bounds: &[u32],
-    recs: &'a [u32],
-    pairs: &[u32],
-    targets: &'a [u32],
-    w: usize,
-) -> bool
-    requires { Graph bounds.now recs.now pairs.now targets.now × Room (length bounds.now / 2) w bits.old }
-    ensures { Progress (length bounds.now / 2) w (drop (length bounds.now / 2 * w) bits.old)
-        (Edges (length bounds.now / 2) w (succs (drawn bounds.now recs.now [] pairs.now targets.now)))
+impl Order {
+    // The k-th of n blocks.
+    fn kth(self, k: u32, n: u32) -> BlockId
+        requires { k < n }
+        ensures { result.0 ≡ kth self k n }
+    {
+        match self {
+            Order::Down => BlockId::known(n - 1 - k, n),
+            Order::Up => BlockId::known(k, n),
+        }
+    }
+}
+
+// Every block once. Tells whether one changed.
+fn sweep(bits: &mut [u64], func: &Func<'_>, w: usize, order: Order) -> bool
+    requires { Graphed func.now × Room (blocks_of func.now) w bits.old }
+    ensures { Progress (blocks_of func.now) w (drop (blocks_of func.now * w) bits.old) (Edges (blocks_of func.now) w (succs (drawn_of func.now)))
         bits.old bits.new result }
 {
-    let n = (bounds.len() / 2) as u32;
+    let n = func.blocks();
     let mut changed = false;
-    let mut k: u32 = 0;
-    while k < n {
-        let Some(b) = BlockId::new(k, n) else {
-            return changed;
-        };
-        let list = succs(t, bounds, recs, pairs, targets, b);
-        let more = settle(bits, list, n, w, b);
-        changed = changed | more;
-        k += 1;
+    for k in 0..n {
+        let b = order.kth(k, n);
+        changed |= settle(bits, func.succs(b), n, w, b);
     }
     changed
 }
 
 // Sweeps down and up until a sweep up changes nothing: then every edge holds, whatever the sweep down changed.
-fn solve<'a>(
-    bits: &mut [u64],
-    t: &Table,
-    bounds: &[u32],
-    recs: &'a [u32],
-    pairs: &[u32],
-    targets: &'a [u32],
-    w: usize,
-)
-    requires { Graph bounds.now recs.now pairs.now targets.now × Room (length bounds.now / 2) w bits.old }
-    ensures { Solved (length bounds.now / 2) w (succs (drawn bounds.now recs.now [] pairs.now targets.now))
-        bits.old bits.new }
+fn solve(bits: &mut [u64], func: &Func<'_>, w: usize)
+    requires { Graphed func.now × Room (blocks_of func.now) w bits.old }
+    ensures { Solved (blocks_of func.now) w (succs (drawn_of func.now)) bits.old bits.new }
 {
     let mut again = true;
     while again {
-        sweep(bits, t, bounds, recs, pairs, targets, w);
-        again = sweep_up(bits, t, bounds, recs, pairs, targets, w);
+        sweep(bits, func, w, Order::Down);
+        again = sweep(bits, func, w, Order::Up);
     }
 }
 
@@ -153,34 +109,22 @@ fn to_head(bits: &mut [u64], s: usize, n: usize)
     requires { s + n ≤ length bits.old }
     ensures { bits.new ≡ sets bits.old 0 (take n (drop s bits.old)) }
 {
-    let mut i = 0usize;
-    while i < n {
-        bits[i] = bits[s + i];
-        i += 1;
-    }
+    bits.copy_within(s..s + n, 0);
 }
 
 // Live-in of every block: row b at the head of the slice, from the rows that rows.rt makes, whatever the operands are that
 // those are of. What lies behind the n rows of live-in is left as it was.
-pub fn live_in<'a>(
-    bits: &mut [u64],
-    t: &Table,
-    bounds: &[u32],
-    recs: &'a [u32],
-    pairs: &[u32],
-    targets: &'a [u32],
-    regs: usize,
-)
-    requires { Graph bounds.now recs.now pairs.now targets.now × RowRoom (length bounds.now / 2) (width regs) bits.old × (regs ≤ 65536) }
+pub fn live_in(bits: &mut [u64], func: &Func<'_>, regs: usize)
+    requires { Graphed func.now × RowRoom (blocks_of func.now) (width regs) bits.old × (regs ≤ 65536) }
     ensures by_index { (ops : List ℕ)
-        → ((b : ℕ) → b < length bounds.now / 2 → Rows (drawn bounds.now recs.now ops pairs.now targets.now) (width regs) b bits.old)
-        → Live (drawn bounds.now recs.now ops pairs.now targets.now) (width regs) bits.new }
-    ensures bits_unchanged { drop (length bounds.now / 2 * width regs) bits.new ≡ drop (length bounds.now / 2 * width regs) bits.old }
+        → ((b : ℕ) → b < blocks_of func.now → Rows (drawn func.now.bounds.now func.now.recs.now ops func.now.pairs.now func.now.targets.now) (width regs) b bits.old)
+        → Live (drawn func.now.bounds.now func.now.recs.now ops func.now.pairs.now func.now.targets.now) (width regs) bits.new }
+    ensures bits_unchanged { drop (blocks_of func.now * width regs) bits.new ≡ drop (blocks_of func.now * width regs) bits.old }
 {
-    let n = bounds.len() / 2;
+    let n = func.bounds.len() / 2;
     let w = width(regs);
     to_head(bits, (2 * n + 1) * w, n * w);
-    solve(bits, t, bounds, recs, pairs, targets, w);
+    solve(bits, func, w);
 }
 
 // Word i of every row of the list, of n blocks.
@@ -189,13 +133,8 @@ pub fn gather(bits: &[u64], list: &[u32], n: u32, w: usize, i: usize) -> u64
     ensures { result ≡ gathered bits.now w i 0 list.now }
 {
     let mut x: u64 = 0;
-    let mut j = 0usize;
-    while j < list.len() {
-        let Some(s) = BlockId::new(list[j], n) else {
-            return x;
-        };
-        x = x | bits[s.at() * w + i];
-        j += 1;
+    for s in list {
+        x |= bits[BlockId::known(*s, n).at() * w + i];
     }
     x
 }

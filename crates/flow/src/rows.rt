@@ -5,80 +5,49 @@ ghost use Rattle.std.proofs.lemmas.List.Edits.{sets};
 ghost use Rattle.words.specs.Bits.{width};
 ghost use Rattle.cfg.specs.Drawn.{drawn};
 ghost use Rattle.cfg.specs.Graph.{Blocks};
-ghost use Rattle.defuse.specs.Sets.{Code};
+ghost use Rattle.defuse.specs.Coded.{Coded};
 ghost use Rattle.flow.specs.Live.{RowRoom, Rows, OnlyRows};
 
 use defuse::sets::{Pair, block_sets};
+use inst::code::Code;
 use inst::index::BlockId;
-use inst::table::Table;
 use words::bits::width;
-use words::numbers::wide;
 
 // n words from `at` on cleared.
 fn clear_at(bits: &mut [u64], at: usize, n: usize)
     requires { at + n ≤ length bits.old }
     ensures { bits.new ≡ sets bits.old at (replicate n 0) }
 {
-    let mut i = 0usize;
-    while i < n {
-        bits[at + i] = 0;
-        i += 1;
-    }
+    bits[at..at + n].fill(0);
 }
 
 // Both rows of block b, of `regs` registers, from its code.
-pub fn block_rows(
-    bits: &mut [u64],
-    t: &Table,
-    bounds: &[u32],
-    recs: &[u32],
-    ops: &[u32],
-    regs: usize,
-    b: BlockId,
-)
-    requires { Blocks bounds.now recs.now × Code recs.now ops.now regs
+pub fn block_rows(bits: &mut [u64], code: &Code<'_>, bounds: &[u32], regs: usize, b: BlockId)
+    requires { Blocks bounds.now code.now.recs.now × Coded code.now regs
         × RowRoom (length bounds.now / 2) (width regs) bits.old × (b.0 < length bounds.now / 2) }
-    ensures rows { Rows (drawn bounds.now recs.now ops.now [] []) (width regs) b.0 bits.new }
+    ensures rows { Rows (drawn bounds.now code.now.recs.now code.now.ops.now [] []) (width regs) b.0 bits.new }
     ensures only_rows { OnlyRows (length bounds.now / 2) (width regs) b.0 bits.old bits.new }
 {
     let n = bounds.len() / 2;
-    let k = b.at();
     let w = width(regs);
+    let k = b.at();
     let u = (2 * n + 1 + k) * w;
     let d = (n + k) * w;
     clear_at(bits, u, w);
     clear_at(bits, d, w);
-    let lo = wide(bounds[2 * k]);
-    let hi = wide(bounds[2 * k + 1]);
-    let at = Pair {
-        u: u,
-        d: d,
-        regs: regs,
-    };
-    block_sets(t, bits, recs, ops, lo, hi, at);
+    let at = Pair { u, d, regs };
+    block_sets(code, bits, b.start(bounds), b.past(bounds), at);
 }
 
 // The rows of every block. What lies behind all rows is left as it was.
-pub fn all_rows(
-    bits: &mut [u64],
-    t: &Table,
-    bounds: &[u32],
-    recs: &[u32],
-    ops: &[u32],
-    regs: usize,
-)
-    requires { Blocks bounds.now recs.now × Code recs.now ops.now regs × RowRoom (length bounds.now / 2) (width regs) bits.old }
-    ensures by_index { (b : ℕ) → b < length bounds.now / 2 → Rows (drawn bounds.now recs.now ops.now [] []) (width regs) b bits.new }
+pub fn all_rows(bits: &mut [u64], code: &Code<'_>, bounds: &[u32], regs: usize)
+    requires { Blocks bounds.now code.now.recs.now × Coded code.now regs × RowRoom (length bounds.now / 2) (width regs) bits.old }
+    ensures by_index { (b : ℕ) → b < length bounds.now / 2 → Rows (drawn bounds.now code.now.recs.now code.now.ops.now [] []) (width regs) b bits.new }
     ensures bits_len_unchanged { length bits.new ≡ length bits.old }
     ensures by_index_2 { (i : ℕ) → 3 * (length bounds.now / 2) * width regs + width regs ≤ i → get_or bits.new i 0 ≡ get_or bits.old i 0 }
 {
     let n = (bounds.len() / 2) as u32;
-    let mut k: u32 = 0;
-    while k < n {
-        let Some(b) = BlockId::new(k, n) else {
-            return;
-        };
-        block_rows(bits, t, bounds, recs, ops, regs, b);
-        k += 1;
+    for k in 0..n {
+        block_rows(bits, code, bounds, regs, BlockId::known(k, n));
     }
 }

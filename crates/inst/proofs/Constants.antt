@@ -2,14 +2,13 @@
 use Rattle.std.specs.Prelude.{Some, None}
 use mathlib.Core.Bool.{Bool, true, false, not}
 use mathlib.Core.Path.{◌≡◌, refl, sym, ap, ◌∙◌, subst}
-use Prim.Native.Nat.{ℕ, ◌-◌, ◌^◌, ◌≤◌, ◌<◌}
+use Prim.Native.Nat.{ℕ, ◌-◌, ◌^◌, ◌<◌}
 use native.Mathlib.Omega.{arith}
 use lib.Dec.{T, ltb}
 use lib.IntN.{pos, negsuc}
 use lib.Ieee.{binary64, of_bits, nan_bits}
 use lib.Ieee.Bits.{to_bits-of_bits, nan_bits_is}
 use lib.ListN.{get_or}
-use borrow.Author.Tests.{lt-ltb, le-ltb}
 use Rattle.model.specs.Kinds.{Const, ConstF}
 use Rattle.model.specs.Picture.{Inst, is_kind}
 use Rattle.model.specs.Analyse.{whole}
@@ -28,16 +27,6 @@ constant_by i a b c ea eb ec = rw (ea, eb, ec)
 
 pub whole_constant : (i : Inst) → is_kind Const i ≡ true → constant_of i ≡ Some (Whole (whole i))
 whole_constant i e = constant_by i true (is_kind ConstF i) (nan_bits binary64 (bits_of i)) e refl refl
-
-signed_by : (n : ℕ) (b : Bool) → ltb n (2 ^ 63) ≡ b → signed n ≡ (elim b [ true ↦ pos n | false ↦ negsuc (2 ^ 64 - 1 - n) ])
-unfolding signed
-signed_by n b e = ap (λ (b : Bool). elim b [ true ↦ pos n | false ↦ negsuc (2 ^ 64 - 1 - n) ]) e
-
-pub signed_low : (n : ℕ) → n < 2 ^ 63 → signed n ≡ pos n
-signed_low n h = signed_by n true (lt-ltb n (2 ^ 63) h)
-
-pub signed_high : (n : ℕ) → 2 ^ 63 ≤ n → signed n ≡ negsuc (2 ^ 64 - 1 - n)
-signed_high n h = signed_by n false (le-ltb n (2 ^ 63) h)
 
 pub signed_kept : (n : ℕ) → n < 2 ^ 64 → unsigned (signed n) ≡ n
 unfolding signed

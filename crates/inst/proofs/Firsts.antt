@@ -103,9 +103,14 @@ module _ (recs : List ℕ) (p u : ℕ) (g : Used recs p u) where
       let rest = not_written 1 (omega arith) (λ q. n1 (omega arith)) (not_written 2 (omega arith) (λ q. n2 (omega arith)) (not_written 3 (omega arith) (λ q. n3 (omega arith)) (not_written 4 (omega arith) (λ q. n4 (omega arith)) (writes_end recs p g.within 5 (omega arith))))) in
       sym (writes_all i) ∙ writes_next recs p g.within 0 (omega arith) ew ∙ ap (λ (l : List ℕ). present w ++ l) rest ∙ append-nil (present w)
 
-  pub all_slots : (ops : List ℕ) {x : Firsts} → Heads (rest_reads i 0 ++ list_of ops i) (rest_writes i 0) x → Heads (reads ops i) (writes i) x
-  all_slots ops {x} h =
-      subst (λ (k : List ℕ). Heads k (writes i) x) (reads_all ops i) (subst (λ (k : List ℕ). Heads (rest_reads i 0 ++ list_of ops i) k x) (writes_all i) h)
+-- the slots and then the list are all that it reads
+pub scanned : {recs recs' : List ℕ} (p : ℕ) {xs : List ℕ} {x : Firsts} → recs' ≡ recs → (ops : List ℕ) → xs ≡ list_of ops (inst recs p)
+    → Heads (rest_reads (inst recs' p) 0 ++ xs) (rest_writes (inst recs' p) 0) x → Heads (reads ops (inst recs p)) (writes (inst recs p)) x
+scanned {recs} {recs'} p {xs} {x} e ops l h =
+    let i : Inst = inst recs p in
+    let at_list : Heads (rest_reads i 0 ++ list_of ops i) (rest_writes i 0) x =
+    subst (λ (k : List ℕ). Heads (rest_reads i 0 ++ k) (rest_writes i 0) x) l (subst (λ (rs : List ℕ). Heads (rest_reads (inst rs p) 0 ++ xs) (rest_writes (inst rs p) 0) x) e h) in
+    subst (λ (k : List ℕ). Heads k (writes i) x) (reads_all ops i) (subst (λ (k : List ℕ). Heads (rest_reads i 0 ++ list_of ops i) k x) (writes_all i) at_list)
 
 -- ---- where no third is read, or no second written, these are all
 

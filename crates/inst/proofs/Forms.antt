@@ -1,7 +1,7 @@
 -- A word of the table's second half: what a kind's slots do at a form, taken out of it. Assumes nothing.
 use mathlib.Core.Bool.{Bool, cond}
 use mathlib.Core.Path.{◌≡◌, sym, ap, ◌∙◌}
-use Prim.Native.Nat.{ℕ, zero, suc, ◌+◌, ◌*◌, ◌/◌, ◌%◌, ◌^◌, ◌≤◌, ◌<◌}
+use Prim.Native.Nat.{ℕ, zero, suc, ◌+◌, ◌*◌, ◌/◌, ◌%◌, ◌^◌, ◌≤◌, ◌<◌, min}
 use native.Mathlib.Omega.{arith}
 use lib.ListN.{get_or}
 use borrow.Author.Tests.{le-leb, lt-leb}
@@ -17,6 +17,12 @@ lift_low f h = sym (ap (λ (b : Bool). cond b 20 (10 * f)) (lt-leb 2 f h))
 pub lift_high : (f : ℕ) → 2 ≤ f → 20 ≡ lift f
 unfolding lift
 lift_high f h = sym (ap (λ (b : Bool). cond b 20 (10 * f)) (le-leb 2 f h))
+
+-- ten a form, of which those from 2 on are alike
+pub lift_least : (f : ℕ) {m : ℕ} → m ≡ min f 2 → 10 * m ≡ lift f
+lift_least zero {m} e = let z : m ≡ 0 = omega arith in ap (λ (n : ℕ). 10 * n) z ∙ lift_low 0 (omega arith)
+lift_least (suc zero) {m} e = let z : m ≡ 1 = omega arith in ap (λ (n : ℕ). 10 * n) z ∙ lift_low 1 (omega arith)
+lift_least (suc (suc f)) {m} e = let z : m ≡ 2 = omega arith in ap (λ (n : ℕ). 10 * n) z ∙ lift_high (suc (suc f)) (omega arith)
 
 pub lift_small : (f : ℕ) → lift f ≤ 20
 unfolding lift

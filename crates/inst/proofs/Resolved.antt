@@ -25,6 +25,12 @@ pub acts_late : (f : ℕ) → acts 2 ≡ acts (suc (suc f))
 unfolding acts
 acts_late f = simp (not_one f, from_two f)
 
+pub wants_late : (f : ℕ) → 2 ≤ f → wants 2 ≡ wants f
+unfolding wants
+wants_late zero h = absurd (omega arith)
+wants_late (suc zero) h = absurd (omega arith)
+wants_late (suc (suc f)) h = simp (not_one f, from_two f)
+
 -- m has g of each role at the role's number
 record Has (g : Role → ℕ) (f m : ℕ) : Type 0 where
   none : two_bits m 0 ≡ g off

@@ -1,4 +1,5 @@
 pub mod Table
+pub mod Shape
 pub mod Record
 pub mod Constant
 pub mod Index

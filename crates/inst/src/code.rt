@@ -1,15 +1,17 @@
 // A function's records and operands beside the table of roles, and what the slots of one record do (01, "The call": `visit_mut` fixes
-// the roles).
-ghost use Rattle.std.specs.Prelude.{◌≡◌, ◌<◌};
-ghost use Rattle.model.specs.Picture.{inst, kind, list_of, reads, writes};
+// the roles): that is looked up in the table once, and then each slot goes by its place.
+ghost use Rattle.std.specs.Prelude.{◌≡◌, List, [], ◌++◌, get_or, ℕ, ◌+◌, ◌<◌};
+ghost use Rattle.model.specs.Picture.{inst, kind, absent, list_of, reads, writes};
 ghost use Rattle.inst.specs.Table.{packed};
-ghost use Rattle.inst.specs.Record.{Known, Used, Listed, uses_of, asks_of, read_at, write_at, later};
+ghost use Rattle.inst.specs.Record.{Known, Used, Listed, uses_of, asks_of, read_at, write_at, later, rest_reads, rest_writes};
 ghost use Rattle.inst.specs.Firsts.{Heads};
 ghost use Rattle.inst.specs.Index.{reg_of};
 
-use crate::access::{self, Firsts};
+use crate::access::Firsts;
 use crate::index::Reg;
-use crate::table::Table;
+use crate::record::{form, kind, list_len, list_start, slot};
+use crate::table::{Table, asks, two_bits};
+use model::ABSENT;
 
 // What is looked at together: the table, the records and the operands.
 #[derive(Clone, Copy)]
@@ -19,7 +21,8 @@ pub struct Code<'a> {
     pub ops: &'a [u32],
 }
 
-// Record p with what its slots do, 2 bits a slot, looked up once.
+// Record p with what its slots do, 2 bits a slot, looked up once. They stay in one word: what all five do is mostly told by one
+// comparison of it.
 #[derive(Clone, Copy)]
 pub struct Slots<'a> {
     pub recs: &'a [u32],
@@ -29,6 +32,14 @@ pub struct Slots<'a> {
 }
 
 impl<'a> Code<'a> {
+    // The row of record p's kind.
+    pub fn row(&self, p: usize) -> u32
+        requires { Known self.now.recs.now p }
+        ensures { result ≡ packed (kind (inst self.now.recs.now p)) }
+    {
+        self.table.row(kind(self.recs, p))
+    }
+
     // The slots of record p.
     pub fn slots(&self, p: usize) -> Slots<'a>
         requires { Known self.now.recs.now p }
@@ -38,8 +49,16 @@ impl<'a> Code<'a> {
         Slots {
             recs: self.recs,
             p,
-            does: access::uses(self.table, self.recs, p),
+            does: self.table.used(kind(self.recs, p), form(self.recs, p)),
         }
+    }
+
+    // What the slots of record p ask, 2 bits a slot.
+    pub fn wanted(&self, p: usize) -> u32
+        requires { Known self.now.recs.now p }
+        ensures { result ≡ asks_of (inst self.now.recs.now p) }
+    {
+        asks(self.row(p), form(self.recs, p))
     }
 
     // The operands in the list of record p.
@@ -47,25 +66,28 @@ impl<'a> Code<'a> {
         requires { Listed self.now.recs.now self.now.ops.now p }
         ensures { result.now ≡ list_of self.now.ops.now (inst self.now.recs.now p) }
     {
-        access::list(self.ops, self.recs, p)
+        let a = list_start(self.recs, p);
+        let e = a + list_len(self.recs, p);
+        &self.ops[a..e]
     }
 
-    // The row of record p's kind.
-    pub fn row(&self, p: usize) -> u32
-        requires { Known self.now.recs.now p }
-        ensures { result ≡ packed (kind (inst self.now.recs.now p)) }
+    // The first registers that a record reads and writes, in one scan from its last slot to its first.
+    pub fn scan(&self, slots: &Slots<'_>) -> Firsts
+        requires recs { slots.now.recs.now ≡ self.now.recs.now }
+        requires list { Listed self.now.recs.now self.now.ops.now slots.now.p }
+        ensures { Heads (reads self.now.ops.now (inst self.now.recs.now slots.now.p)) (writes (inst self.now.recs.now slots.now.p)) result }
     {
-        access::row_at(self.table, self.recs, p)
+        slots.scan(self.list(slots.p))
     }
 }
 
 impl Slots<'_> {
-    // The register, of `count`, that slot s reads, if there is one.
+    // The register, of `count`, that slot s reads, if there is one: absent is not below any count.
     pub fn read(&self, s: usize, count: usize) -> Option<Reg>
         requires { s < 5 }
         ensures { result ≡ reg_of (read_at (inst self.now.recs.now self.now.p) s) count }
     {
-        access::read_at(self.recs, self.p, self.does, s, count)
+        Reg::new(self.read_word(s), count)
     }
 
     // The register, of `count`, that slot s writes, if there is one.
@@ -73,6 +95,65 @@ impl Slots<'_> {
         requires { s < 5 }
         ensures { result ≡ reg_of (write_at (inst self.now.recs.now self.now.p) s) count }
     {
-        access::write_at(self.recs, self.p, self.does, s, count)
+        Reg::new(self.write_word(s), count)
+    }
+
+    // Does a slot after the first write? Few kinds have one.
+    pub fn writes_later(&self) -> bool
+        ensures { result ≡ later self.now.does }
+    {
+        let does = self.does;
+        (does / 8 % 2 == 1) | (does / 32 % 2 == 1) | (does / 128 % 2 == 1) | (does / 512 % 2 == 1)
+    }
+
+    // The word of slot s where it reads, or absent. (Of a slot's two bits the lower says that it is read, the upper that it is
+    // written.)
+    fn read_word(&self, s: usize) -> u32
+        requires { s < 5 }
+        ensures { result ≡ read_at (inst self.now.recs.now self.now.p) s }
+    {
+        if two_bits(self.does, s as u32) % 2 == 1 {
+            return slot(self.recs, self.p, s);
+        }
+        ABSENT
+    }
+
+    // The word of slot s where it writes, or absent.
+    fn write_word(&self, s: usize) -> u32
+        requires { s < 5 }
+        ensures { result ≡ write_at (inst self.now.recs.now self.now.p) s }
+    {
+        if two_bits(self.does, s as u32) / 2 == 1 {
+            return slot(self.recs, self.p, s);
+        }
+        ABSENT
+    }
+
+    // The first registers that its slots read and write, and then the list reads.
+    pub fn scan(&self, list: &[u32]) -> Firsts
+        ensures { Heads (rest_reads (inst self.now.recs.now self.now.p) 0 ++ list.now) (rest_writes (inst self.now.recs.now self.now.p) 0) result }
+    {
+        let e = self.last_before(Firsts::of_list(list));
+        let c = self.before(2, e);
+        self.before(0, self.before(1, c))
+    }
+
+    // The last two slots come before the list: few kinds use them.
+    fn last_before(&self, x: Firsts) -> Firsts
+        ensures { (l : List ℕ) → Heads l [] x → Heads (rest_reads (inst self.now.recs.now self.now.p) 3 ++ l) (rest_writes (inst self.now.recs.now self.now.p) 3) result }
+    {
+        if self.does < 64 {
+            return x;
+        }
+        self.before(3, self.before(4, x))
+    }
+
+    // Slot s comes before the slots and the list of x.
+    fn before(&self, s: usize, x: Firsts) -> Firsts
+        requires { s < 5 }
+        ensures { (l : List ℕ) → Heads (rest_reads (inst self.now.recs.now self.now.p) (s + 1) ++ l) (rest_writes (inst self.now.recs.now self.now.p) (s + 1)) x → Heads (rest_reads (inst self.now.recs.now self.now.p) s ++ l) (rest_writes (inst self.now.recs.now self.now.p) s) result }
+    {
+        x.after_read(self.read_word(s))
+            .after_write(self.write_word(s))
     }
 }

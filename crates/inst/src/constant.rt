@@ -13,10 +13,8 @@ use crate::record::{kind, word};
 // 2^32, which the higher of two words counts.
 const HIGH: u64 = 4294967296;
 
-// 2^63, from which on a word of 64 bits stands for a number below 0, or a float with a sign; and the greatest word.
+// 2^63, the sign of a float.
 const SIGN: u64 = 9223372036854775808;
-
-const GREATEST: u64 = 18446744073709551615;
 
 // 2^52, above a float's fraction, and the exponent of one that is no number.
 const FRACTION: u64 = 4503599627370496;
@@ -42,14 +40,11 @@ pub fn bits(recs: &[u32], p: usize) -> u64
 }
 
 // The signed number whose bits are n.
+#[tactic(auto, unfolding(crate::specs::Constant::signed))]
 pub fn signed(n: u64) -> i64
     ensures { result ≡ signed n }
 {
-    if n < SIGN {
-        return n as i64;
-    }
-    let m = GREATEST - n;
-    !(m as i64)
+    n.cast_signed()
 }
 
 // Are these the bits of a float that is no number?

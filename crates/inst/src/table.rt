@@ -2,9 +2,10 @@
 // kind, packed into one number as specs/Table.antt says, and behind the rows, for each kind, what its slots do at each form,
 // so that this is one look. It is made once, at the entry, and lent: a const array is built anew on the stack at each call
 // that indexes it.
-ghost use Rattle.std.specs.Prelude.{◌≡◌, ◌<◌, ◌*◌, ◌/◌, ◌%◌};
+ghost use Rattle.std.specs.Prelude.{◌≡◌, ◌<◌, ◌*◌, ◌/◌, ◌%◌, eqb};
 ghost use Rattle.model.specs.Kinds.{kind_of};
 ghost use Rattle.inst.specs.Table.{packed, rows, has_list, shape, arm, quiet, least, most, acts, wants, two_bits, spread, lift};
+ghost use Rattle.inst.specs.Shape.{shape_of};
 
 // How many words the table has: a row and a word of uses for each kind.
 const WORDS: usize = 202;
@@ -248,10 +249,7 @@ impl Table {
 fn lift(form: u32) -> u32
     ensures { result ≡ lift form }
 {
-    if form < 2 {
-        return 10 * form;
-    }
-    20
+    10 * form.min(2)
 }
 
 // Does the kind have a list?
@@ -261,11 +259,35 @@ pub fn has_list(row: u32) -> bool
     row / 32768 % 2 == 1
 }
 
-// How its successors lie: 0 none, 1 Br, 2 CondBr, 3 Case.
-pub fn shape(row: u32) -> u32
-    ensures { result ≡ shape row }
+// How a record's successors lie, if it ends a block: there are none, or they are the words of a Br or of a CondBr, or the targets
+// of a Case.
+#[derive(Clone, Copy, PartialEq, Eq, Debug)]
+pub enum Shape {
+    Stops,
+    Goes,
+    Parts,
+    Cases,
+}
+
+impl Shape {
+    // How those of the row's kind lie.
+    pub fn of(row: u32) -> Shape
+        ensures { result ≡ shape_of (shape row) }
+    {
+        match row / 65536 % 4 {
+            0 => Shape::Stops,
+            1 => Shape::Goes,
+            2 => Shape::Parts,
+            _ => Shape::Cases,
+        }
+    }
+}
+
+// Are there none?
+pub fn stops(row: u32) -> bool
+    ensures { result ≡ eqb (shape row) 0 }
 {
-    row / 65536 % 4
+    row / 65536 % 4 == 0
 }
 
 // The number of the arm of `analyse` that takes it.
@@ -300,13 +322,11 @@ pub fn most(row: u32) -> u32
 fn wants(form: u32) -> u32
     ensures { result ≡ wants form }
 {
-    if form == 1 {
-        return 17044;
+    match form {
+        0 => 18068,
+        1 => 17044,
+        _ => 22164,
     }
-    if 2 <= form {
-        return 22164;
-    }
-    18068
 }
 
 // The two bits of m at place k.

@@ -1,27 +1,32 @@
 -- `defuse::sets::add_front` meets its contract. Assumes nothing.
-use Rattle.inst.proofs.Rest.{reads_all}
-use native.Mathlib.Omega.{arith}
 use mathlib.Core.Path.{sym, ap, subst, ◌∙◌}
+use native.Mathlib.Omega.{arith}
 use Rattle.model.specs.Picture.{inst, list_of}
 use Rattle.inst.specs.Record.{rest_reads}
-use Rattle.defuse.specs.Sets.{put, Low}
+use Rattle.inst.proofs.Rest.{reads_all}
 use Rattle.words.specs.Steps.{steps}
+use Rattle.defuse.specs.Sets.{put, Low}
 use Rattle.defuse.proofs.Runs.{slots_low, list_low, all_before}
 use Rattle.defuse.proofs.sets.add_front.Goals as goal
 
+pub write_slots-requires : goal.write_slots-requires
+write_slots-requires c = let e = c.slots-slots.ensures in (c.requires.0, c.requires.1, rw (e.recs, e.place) c.requires.5)
+
 pub read_slots-requires : goal.read_slots-requires
 read_slots-requires c =
-    let a = c.args in
-    (omega (arith, c.requires.0, c.write_slots.auto.bits), record { within = c.requires.2.within; uses = c.uses-does.ensures }, slots_low a.ops.now (inst a.recs.now a.p) c.requires.4)
+    let e = c.slots-slots.ensures in
+    (omega (arith, c.requires.0, c.write_slots.auto.bits), rw (e.recs, e.place) (slots_low c.args.code.now.ops.now _ c.requires.4))
 
 pub read_list-requires : goal.read_list-requires
 read_list-requires c =
-    let a = c.args in
-    (omega (arith, c.requires.0, c.write_slots.auto.bits, c.read_slots.auto.bits), subst (Low a.at.regs) (sym c.list.ensures) (list_low a.ops.now (inst a.recs.now a.p) c.requires.4))
+    let f = c.args.code.now in
+    (omega (arith, c.requires.0, c.write_slots.auto.bits, c.read_slots.auto.bits), subst (Low c.args.at.regs) (sym c.list.ensures) (list_low f.ops.now (inst f.recs.now c.args.p) c.requires.4))
 
 pub returns : goal.returns
 returns c =
     let a = c.args in
-    let i = inst a.recs.now a.p in
-    all_before a.ops.now a.at.u a.at.d i (rest_reads i 0) (list_of a.ops.now i) _ (reads_all _ _)
-    c.write_slots.ensures c.read_slots.ensures (c.read_list.ensures ∙ ap (steps (put a.at.u) _) c.list.ensures)
+    let f = a.code.now in
+    let e = c.slots-slots.ensures in
+    let i = inst f.recs.now a.p in
+    all_before f.ops.now a.at.u a.at.d i (rest_reads i 0) (list_of f.ops.now i) _ (reads_all _ _)
+    (rw (e.recs, e.place) at c.write_slots.ensures) (rw (e.recs, e.place) at c.read_slots.ensures) (c.read_list.ensures ∙ ap (steps (put a.at.u) _) c.list.ensures)

@@ -10,6 +10,7 @@ use Rattle.defuse.proofs.sets.write_slots.Goals as goal
 pub returns : goal.returns
 returns c =
     let a = c.args in
+    let u = a.slots.now.used in
     c.write_one.ensures
-    ∙ ap (steps (wrote a.at.u a.at.d) a.bits.now) (slot_written _ _ c.requires.2.within (omega arith) c.requires.3 c.write_at.ensures
-    ∙ sym (one_write _ _ _ c.requires.2 (sym c.later.ensures ∙ c.if-later.false) _ refl))
+    ∙ ap (steps (wrote a.at.u a.at.d) a.bits.now) (slot_written _ _ u.within (omega arith) c.requires.2 c.write.ensures
+    ∙ sym (one_write _ _ _ u (sym c.writes_later.ensures ∙ c.if-writes_later.false) _ refl))

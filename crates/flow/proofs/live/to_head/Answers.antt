@@ -1,18 +1,13 @@
 -- `flow::live::to_head` meets its contract. Assumes nothing.
-use mathlib.Core.Path.{◌≡◌, refl}
 use native.Mathlib.Omega.{arith}
-use lib.ListN.{length-set}
-use Rattle.flow.proofs.Standing.{head_more}
+use mathlib.Core.Path.{◌≡◌, ◌∙◌}
+use Prim.Native.Nat.{◌+◌, ◌-◌}
+use lib.ListN.{length-drop}
+use Rattle.flow.proofs.Standing.{paste_sets}
 use Rattle.flow.proofs.live.to_head.Goals as goal
 
-pub loop-i-init : goal.loop-i-init
-loop-i-init c = (omega arith, refl, refl)
-
-pub loop-i-preserved : goal.loop-i-preserved
-loop-i-preserved c = (omega arith, simp length-set c.loop-i.invariant.1, head_more _ _ _ _ (omega arith) c.loop-i.invariant.2)
-
-pub shape_of-bits : goal.shape_of-bits
-shape_of-bits c = c.loop-i.invariant.1
-
 pub returns : goal.returns
-returns c = let e : c.loop-i.i ≡ c.args.n = omega arith in rw e at c.loop-i.invariant.2
+returns c =
+    let a = c.args in
+    let long : a.s + a.n - a.s ≡ a.n = omega arith in
+    c.copy_within.ensures.after ∙ paste_sets a.bits.now _ 0 _ a.n long (omega (arith, c.requires)) (simp length-drop (omega (arith, c.requires)))

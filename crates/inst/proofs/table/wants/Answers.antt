@@ -1,17 +1,18 @@
 -- `inst::table::wants` meets its contract. Assumes nothing.
 use mathlib.Core.Path.{sym, ap}
-use borrow.Author.Tests.{ne_eqb, le-leb, lt-leb}
+use native.Mathlib.Omega.{arith}
 use Rattle.inst.specs.Table.{wants}
+use Rattle.inst.proofs.Resolved.{wants_late}
 use Rattle.inst.proofs.table.wants.Goals as goal
 
-pub returns-then-form-eq1 : goal.returns-then-form-eq1
+pub returns-in-0 : goal.returns-in-0
 unfolding wants
-returns-then-form-eq1 c = sym (ap wants c.if-form-eq1.true)
+returns-in-0 c = sym (ap wants c.in-0.is)
 
-pub returns-then-form-ge2 : goal.returns-then-form-ge2
+pub returns-in-1 : goal.returns-in-1
 unfolding wants
-returns-then-form-ge2 c = simp (ne_eqb _ _ c.if-form-eq1.false, le-leb _ _ c.if-form-ge2.true)
+returns-in-1 c = sym (ap wants c.in-1.is)
 
-pub returns : goal.returns
+pub returns-in_default : goal.returns-in_default
 unfolding wants
-returns c = simp (ne_eqb _ _ c.if-form-eq1.false, lt-leb _ _ c.if-form-ge2.false)
+returns-in_default c = wants_late c.args.form (omega arith)

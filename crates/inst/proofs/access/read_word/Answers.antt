@@ -1,9 +1,0 @@
--- `inst::access::read_word` meets its contract. Assumes nothing.
-use Rattle.inst.proofs.Slots.{read_yes, read_no}
-use Rattle.inst.proofs.access.read_word.Goals as goal
-
-pub returns-then-two_bits-eq1 : goal.returns-then-two_bits-eq1
-returns-then-two_bits-eq1 c = read_yes _ _ _ _ c.requires.0 c.requires.1 _ c.two_bits.ensures c.if-two_bits-eq1.true c.slot.ensures
-
-pub returns : goal.returns
-returns c = read_no _ _ _ _ c.requires.0 c.requires.1 _ c.two_bits.ensures c.if-two_bits-eq1.false

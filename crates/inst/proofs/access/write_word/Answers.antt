@@ -1,9 +1,0 @@
--- `inst::access::write_word` meets its contract. Assumes nothing.
-use Rattle.inst.proofs.Slots.{write_yes, write_no}
-use Rattle.inst.proofs.access.write_word.Goals as goal
-
-pub returns-then-two_bits-eq1 : goal.returns-then-two_bits-eq1
-returns-then-two_bits-eq1 c = write_yes _ _ _ _ c.requires.0 c.requires.1 _ c.two_bits.ensures c.if-two_bits-eq1.true c.slot.ensures
-
-pub returns : goal.returns
-returns c = write_no _ _ _ _ c.requires.0 c.requires.1 _ c.two_bits.ensures c.if-two_bits-eq1.false
