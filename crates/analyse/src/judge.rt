@@ -22,14 +22,6 @@ use inst::record::{form, kind, word};
 use inst::table::{arm, quiet};
 use regfacts::flags::is_length;
 
-// Does record g hold a constant that is a length?
-fn holds_length(recs: &[u32], g: usize) -> bool
-    requires { Within recs.now g }
-    ensures { result ≡ is_length (constant_of (inst recs.now g)) }
-{
-    is_length(decode(recs, g))
-}
-
 // What the arm of record g asks, at position p; x has what it reads.
 pub fn ask(recs: &[u32], regs: &[u64], x: Firsts, g: usize, p: u32, count: usize) -> Input
     requires { Ranged count p regs.now × Within recs.now g × Below count x }
@@ -42,7 +34,7 @@ pub fn ask(recs: &[u32], regs: &[u64], x: Firsts, g: usize, p: u32, count: usize
     Input {
         form: form(recs, g),
         list: word(recs, g, 8),
-        p: p,
+        p,
         o0: v0.org,
         o1: v1.org,
         o2: v2.org,
@@ -50,7 +42,7 @@ pub fn ask(recs: &[u32], regs: &[u64], x: Firsts, g: usize, p: u32, count: usize
         l1: v1.len,
         l2: v2.len,
         divisor: is_divisor(regs, r1),
-        small: holds_length(recs, g),
+        small: is_length(decode(recs, g)),
         layout: v0.layout,
         layout1: v1.layout,
     }
@@ -75,15 +67,8 @@ pub fn judge(recs: &[u32], g: usize, m: u32, y: Input) -> Effect
     ensures { Low y.p (inst recs.now g) result × ((ops : List ℕ) (G : Facts) (past : List Fact) (R : ℕ) → R ≤ 65536 → Good recs.now ops R g → Asked G past ops (inst recs.now g) y → Judged result (fact G ops past (inst recs.now g))) }
 {
     let e = effects::arms::arm(arm(m), y);
-    let wrote = placed(e, quiet(m), kind(recs, g) == CALL_NATIVE);
     Effect {
-        class: e.class,
-        org: e.org,
-        len: e.len,
-        layout: e.layout,
-        creates: e.creates,
-        wrote: wrote,
-        barrier: e.barrier,
-        from: e.from,
+        wrote: placed(e, quiet(m), kind(recs, g) == CALL_NATIVE),
+        ..e
     }
 }
