@@ -32,6 +32,29 @@ pub struct Stamp {
 }
 
 impl Stamp {
+    // The last kept writer is lo, a position and 1, if that is later; the register is no longer awaited.
+    pub fn kept(lo: u64) -> Stamp
+        requires { lo ≤ 800 }
+        ensures { (result.keep ≡ 1024) × (result.lo ≡ lo) × (result.v ≡ 0) }
+    {
+        Stamp {
+            keep: AWAITED,
+            lo,
+            v: 0,
+        }
+    }
+
+    // The register is awaited.
+    pub fn awaited() -> Stamp
+        ensures { (result.keep ≡ 1024) × (result.lo ≡ 0) × (result.v ≡ 1024) }
+    {
+        Stamp {
+            keep: AWAITED,
+            lo: 0,
+            v: AWAITED,
+        }
+    }
+
     // The word x when it is stamped.
     #[tactic(auto, unfolding(crate::specs::Passes::over))]
     fn over(self, x: u64) -> u64
