@@ -8,8 +8,8 @@ use crate::learn::learn_one;
 use crate::marks::forget;
 use chains::chain::Chain;
 use chains::cursor::{Cursor, first, next};
-use facts::{Fact, put};
-use inst::table::Table;
+use facts::Fact;
+use inst::code::Code;
 
 // No register has a writer yet, and the cursor stands at the first position.
 fn begin(regs: &mut [u64], bounds: &[u32], c: Chain, count: usize) -> Cursor
@@ -22,23 +22,20 @@ fn begin(regs: &mut [u64], bounds: &[u32], c: Chain, count: usize) -> Cursor
 
 // The facts of chain c, with `count` registers in use. The answer is the number of positions.
 pub fn analyse(
-    t: &Table,
-    recs: &[u32],
-    ops: &[u32],
+    code: &Code,
     regs: &mut [u64],
     facts: &mut [Fact],
     bounds: &[u32],
     c: Chain,
     count: usize,
 ) -> u32
-    requires { Ready recs.now ops.now regs.old facts.old bounds.now c count }
-    ensures { Analysed recs.now ops.now regs.old (bare facts.old) bounds.now c count result regs.new (bare facts.new) }
+    requires { Ready code.now.recs.now code.now.ops.now regs.old facts.old bounds.now c count }
+    ensures { Analysed code.now.recs.now code.now.ops.now regs.old (bare facts.old) bounds.now c count result regs.new (bare facts.new) }
 {
     let mut at = begin(regs, bounds, c, count);
     let mut p = 0u32;
     while at.g < at.past {
-        let f = learn_one(t, recs, ops, regs, at.g, p, count);
-        put(facts, p as usize, f);
+        facts[p as usize] = learn_one(code, regs, at.g, p, count);
         at = next(bounds, c, at);
         p += 1;
     }

@@ -22,14 +22,6 @@ use inst::record::{form, kind, word};
 use inst::table::quiet;
 use regfacts::flags::is_length;
 
-// Does record g hold a constant that is a length?
-fn holds_length(recs: &[u32], g: usize) -> bool
-    requires { Within recs.now g }
-    ensures { result ≡ is_length (constant_of (inst recs.now g)) }
-{
-    is_length(decode(recs, g))
-}
-
 // What the arm of record g asks, at position p; x has what it reads.
 pub fn ask(recs: &[u32], regs: &[u64], x: Firsts, g: usize, p: u32, count: usize) -> Input
     requires { Ranged count p regs.now × Within recs.now g × Below count x }
@@ -45,7 +37,7 @@ pub fn ask(recs: &[u32], regs: &[u64], x: Firsts, g: usize, p: u32, count: usize
         p,
         reads: [v0, v1, v2],
         divisor: is_divisor(regs, r1),
-        small: holds_length(recs, g),
+        small: is_length(decode(recs, g)),
     }
 }
 
@@ -68,6 +60,8 @@ pub fn judge(recs: &[u32], g: usize, m: u32, y: Input) -> Effect
     ensures { Low y.p (inst recs.now g) result × ((ops : List ℕ) (G : Facts) (past : List Fact) (R : ℕ) → R ≤ 65536 → Good recs.now ops R g → Asked G past ops (inst recs.now g) y → Judged result (fact G ops past (inst recs.now g))) }
 {
     let e = Arm::of(m).effect(y);
-    let wrote = placed(e, quiet(m), kind(recs, g) == CALL_NATIVE);
-    Effect { wrote, ..e }
+    Effect {
+        wrote: placed(e, quiet(m), kind(recs, g) == CALL_NATIVE),
+        ..e
+    }
 }

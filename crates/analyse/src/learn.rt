@@ -11,10 +11,10 @@ use crate::judge::{ask, judge};
 use crate::marks::{mark_record, stamp};
 use effects::arms::{Arm, Effect};
 use facts::Fact;
-use inst::access::{Firsts, row_at, scan, uses};
+use inst::access::{Firsts, scan};
+use inst::code::Code;
 use inst::kinds::{CALL, CALL_INDIRECT, CALL_PROT, SUSPEND};
 use inst::record::{form, kind};
-use inst::table::Table;
 use model::ABSENT;
 
 // May record g suspend?
@@ -59,24 +59,16 @@ fn fact_of(g: usize, e: Effect, stops: bool, x: Firsts) -> Fact
 }
 
 // Position p: record g.
-pub fn learn_one(
-    t: &Table,
-    recs: &[u32],
-    ops: &[u32],
-    regs: &mut [u64],
-    g: usize,
-    p: u32,
-    count: usize,
-) -> Fact
-    requires { Ranged count p regs.old × Learnable recs.now ops.now count g × (p + 1 < 1000) }
-    ensures { Learned recs.now ops.now regs.old regs.new p count g result }
+pub fn learn_one(code: &Code, regs: &mut [u64], g: usize, p: u32, count: usize) -> Fact
+    requires { Ranged count p regs.old × Learnable code.now.recs.now code.now.ops.now count g × (p + 1 < 1000) }
+    ensures { Learned code.now.recs.now code.now.ops.now regs.old regs.new p count g result }
 {
-    let u = uses(t, recs, g);
-    let x = scan(ops, recs, g, u);
-    let m = row_at(t, recs, g);
-    let y = ask(recs, regs, x, g, p, count);
-    let e = judge(recs, g, m, y);
+    let slots = code.slots(g);
+    let x = scan(code.ops, code.recs, g, slots.does);
+    let m = code.row(g);
+    let y = ask(code.recs, regs, x, g, p, count);
+    let e = judge(code.recs, g, m, y);
     let d = stamp(p, e.org, e.len, Arm::of(m).leads(y, e));
-    mark_record(recs, regs, x, g, u, d);
-    fact_of(g, e, may_suspend(recs, g), x)
+    mark_record(&slots, regs, x, d);
+    fact_of(g, e, may_suspend(code.recs, g), x)
 }

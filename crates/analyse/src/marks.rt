@@ -8,11 +8,12 @@ ghost use Rattle.regfacts.specs.Written.{put_in, Fits, Written};
 ghost use Rattle.analyse.specs.Step.{stamp, marked, Forgot};
 
 use crate::look;
-use inst::access::{Firsts, write_at};
+use inst::access::Firsts;
+use inst::code::Slots;
 use inst::index::Reg;
 use model::ABSENT;
 use regfacts::flags::FLAGS;
-use words::numbers::one;
+use regfacts::written::{change, change_written};
 
 // As in look.rt.
 const LENGTH: u32 = look::LENGTH as u32;
@@ -27,10 +28,8 @@ pub fn forget(regs: &mut [u64], count: usize)
     requires { count ≤ length regs.old }
     ensures { Forgot count regs.old regs.new }
 {
-    let mut r = 0usize;
-    while r < count {
-        regs[r] = regs[r] % FLAGS;
-        r += 1;
+    for r in 0..count {
+        regs[r] %= FLAGS;
     }
 }
 
@@ -40,42 +39,27 @@ pub fn stamp(p: u32, org: u32, len: bool, layout: bool) -> u64
     requires { (p < 1000) × (org < 2048) }
     ensures { (result ≡ stamp p org len layout) × (result < 16777216) }
 {
-    let held = org + LENGTH * one(len) + LAYOUT * one(layout);
-    (p + 1 + POSITIONS * held) as u64
+    let held = org + LENGTH * u32::from(len) + LAYOUT * u32::from(layout);
+    u64::from(p + 1 + POSITIONS * held)
 }
 
-// Register r, if that is one, is written.
-fn mark(regs: &mut [u64], r: Option<Reg>, d: u64)
-    requires { (d < 16777216) × Among (length regs.old) r }
-    ensures { regs.new ≡ put_in (marked d) (word_of r) regs.old }
+// A register's word v once it is written: d stands over its flags.
+#[tactic(auto, unfolding(crate::specs::Step::marked))]
+fn marked(v: u64, d: u64) -> u64
+    requires { d < 16777216 }
+    ensures { result ≡ marked d v }
 {
-    let Some(w) = r else {
-        return;
-    };
-    let k = w.at();
-    regs[k] = FLAGS * d + regs[k] % FLAGS;
+    FLAGS * d + v % FLAGS
 }
 
-// Each slot of record g that writes.
-fn mark_slots(recs: &[u32], regs: &mut [u64], g: usize, uses: u32, d: u64)
-    requires { Used recs.now g uses × (d < 16777216) × Fits recs.now (length regs.old) g }
-    ensures { Written (marked d) (inst recs.now g) regs.old regs.new }
-{
-    let mut s = 0usize;
-    while s < 5 {
-        mark(regs, write_at(recs, g, uses, s, regs.len()), d);
-        s += 1;
-    }
-}
-
-// All that record g writes; x has the first two of that.
-pub fn mark_record(recs: &[u32], regs: &mut [u64], x: Firsts, g: usize, uses: u32, d: u64)
-    requires { Used recs.now g uses × (d < 16777216) × Fits recs.now (length regs.old) g × (x.d0 ≡ get_or (writes (inst recs.now g)) 0 absent) × (x.d1 ≡ get_or (writes (inst recs.now g)) 1 absent) }
-    ensures { Written (marked d) (inst recs.now g) regs.old regs.new }
+// All that a record writes; x has the first two of that.
+pub fn mark_record(slots: &Slots, regs: &mut [u64], x: Firsts, d: u64)
+    requires { (d < 16777216) × Fits slots.now.recs.now (length regs.old) slots.now.p × (x.d0 ≡ get_or (writes (inst slots.now.recs.now slots.now.p)) 0 absent) × (x.d1 ≡ get_or (writes (inst slots.now.recs.now slots.now.p)) 1 absent) }
+    ensures { Written (marked d) (inst slots.now.recs.now slots.now.p) regs.old regs.new }
 {
     if x.d1 == ABSENT {
-        mark(regs, Reg::new(x.d0, regs.len()), d);
+        change(regs, Reg::new(x.d0, regs.len()), |v| marked(v, d));
         return;
     }
-    mark_slots(recs, regs, g, uses, d);
+    change_written(slots, regs, |v| marked(v, d));
 }

@@ -7,9 +7,9 @@ use Prim.Native.Nat.{ℕ, zero, suc, ◌+◌, ◌-◌, ◌/◌, ◌%◌, ◌≤�
 use native.Mathlib.Omega.{arith}
 use borrow.Author.Tests.{eq-eqb, ne_eqb, le-leb, lt-leb, not-true, not-false}
 use lib.Dec.{eqb, leb}
-use lib.ListN.{get_or, length, drop, drop_of_length-le}
-use lib.Seq.{drop-cons}
-use Rattle.words.specs.Lists.{upto, all, conj}
+use lib.ListN.{get_or, length, take, drop}
+use Rattle.std.proofs.lemmas.List.{take_all, length-drop, get_or-drop}
+use Rattle.words.specs.Lists.{all, conj}
 use Rattle.words.proofs.Alls.{and_yes, and_nay}
 use Rattle.words.proofs.Lists.{get_d_any}
 use Rattle.model.specs.Picture.{Inst, inst, absent, reads, list_of}
@@ -17,8 +17,8 @@ use Rattle.facts.specs.declared.Fact.{Fact}
 use Rattle.regfacts.specs.Written.{Good}
 use Rattle.legalset.specs.Chain.{reg_org, picked}
 use Rattle.legalset.specs.Rules.{org_fine, still_fine}
-use Rattle.summary.specs.Passes.{read_place, read_test, place_test, word_org, org_test, piece_test, froms, from_test, memory_test, own_test, stay_test, Near}
-use Rattle.summary.proofs.Places.{all_placed, reads_placed, list_at_low}
+use Rattle.summary.specs.Passes.{read_test, place_test, word_org, org_test, piece_test, froms, from_test, memory_test, own_test, stay_test, Near}
+use Rattle.summary.proofs.Places.{list_at_low}
 
 -- ---- rule 3
 
@@ -36,13 +36,6 @@ module _ (st : List ℕ) (p r : ℕ) where
 pub place_is : (st : List ℕ) (p r : ℕ) {b : Bool} → b ≡ place_test st p r → b ≡ (eqb r absent || read_test st p r)
 unfolding place_test
 place_is st p r e = e
-
-pub reads_all : {recs ops : List ℕ} {R g n : ℕ} (st : List ℕ) (p : ℕ) → Good recs ops R g → n ≡ 5 + length (list_of ops (inst recs g))
-    → all (λ k. place_test st p (read_place ops (inst recs g) k)) (upto n) ≡ all (read_test st p) (reads ops (inst recs g))
-unfolding place_test
-reads_all {recs} {ops} {R} {g} {n} st p h e =
-    ap (λ (m : ℕ). all (λ k. eqb (read_place ops (inst recs g) k) absent || read_test st p (read_place ops (inst recs g) k)) (upto m)) e
-    ∙ sym (all_placed (reads_placed recs ops R g h) (read_test st p))
 
 -- ---- rule 5
 
@@ -91,39 +84,51 @@ module _ (regs st lasts : List ℕ) (bar p : ℕ) where
   unfolding piece_test
   piece_even sc r {o} e f g = g ∙ ap (org_test lasts bar p) f ∙ sym (ap (λ (b : Bool). not b || org_test lasts bar p (word_org regs r (get_or st r 0))) (eq-eqb (sc % 2) 0 e))
 
--- a Cat's list from k on
-module _ (f : ℕ → Bool) (xs : List ℕ) (k sc : ℕ) where
-  two : k + 2 ≤ length xs → picked sc (drop k xs) ≡ cond (eqb (sc % 2) 0) (get_or xs k 0 ∷ picked (sc / 2) (drop (k + 2) xs)) (picked (sc / 2) (drop (k + 2) xs))
-  unfolding picked
-  two h =
-      let e : k + 2 ≡ suc (suc k) = omega arith in
-      ap (picked sc) (drop-cons xs k 0 (omega arith) ∙ ap (λ (l : List ℕ). get_or xs k 0 ∷ l) (drop-cons xs (suc k) 0 (omega arith)))
-      ∙ ap (λ (m : ℕ). cond (eqb (sc % 2) 0) (get_or xs k 0 ∷ picked (sc / 2) (drop m xs)) (picked (sc / 2) (drop m xs))) (sym e)
+-- a Cat's list xs, of which at is the first and tail what comes after the first two
+module _ (xs : List ℕ) where
+  abbrev tail : List ℕ
+  tail = take (length xs - 2) (drop 2 xs)
 
-  both : {b : Bool} → k + 2 ≤ length xs → b ≡ (not (eqb (sc % 2) 0) || f (get_or xs k 0)) → all f (picked sc (drop k xs)) ≡ (b && all f (picked (sc / 2) (drop (k + 2) xs)))
-  both {b} h e = ap (all f) (two h) ∙ go (eqb (sc % 2) 0) ∙ ap (λ (x : Bool). x && all f (picked (sc / 2) (drop (k + 2) xs))) (sym e)
+  tail_is : tail ≡ drop 2 xs
+  tail_is = take_all (length xs - 2) (drop 2 xs) (let e = length-drop 2 xs in omega (arith, e))
+
+  pub tail_low : {n : ℕ} → 2 ≤ length xs → ((k : ℕ) → k < length xs → get_or xs k 0 < n) → (k : ℕ) → k < length tail → get_or tail k 0 < n
+  tail_low {n} l h k m =
+      let e : get_or tail k 0 ≡ get_or xs (2 + k) 0 = ap (λ (ys : List ℕ). get_or ys k 0) tail_is ∙ get_or-drop 2 xs k 0 in
+      let j : get_or xs (2 + k) 0 < n = h (2 + k) (omega (arith, m, ap length tail_is, length-drop 2 xs)) in
+      subst (λ (x : ℕ). x < n) (sym e) j
+
+two : (xs : List ℕ) (sc : ℕ) → 2 ≤ length xs → picked sc xs ≡ cond (eqb (sc % 2) 0) (get_or xs 0 0 ∷ picked (sc / 2) (drop 2 xs)) (picked (sc / 2) (drop 2 xs))
+unfolding picked
+two [] sc h = absurd (omega (arith, h))
+two (a ∷ []) sc h = absurd (omega (arith, h))
+two (a ∷ n ∷ rs) sc h = refl
+
+module _ (f : ℕ → Bool) (xs : List ℕ) (sc : ℕ) where
+  both : {b : Bool} {r : ℕ} → 2 ≤ length xs → get_or xs 0 0 ≡ r → b ≡ (not (eqb (sc % 2) 0) || f r) → all f (picked sc xs) ≡ (b && all f (picked (sc / 2) (tail xs)))
+  both {b} {r} h q e =
+      ap (all f) (two xs sc h) ∙ go (eqb (sc % 2) 0)
+      ∙ ap₂ (λ (x : Bool) (ys : List ℕ). x && all f (picked (sc / 2) ys)) (ap (λ (x : ℕ). not (eqb (sc % 2) 0) || f x) q ∙ sym e) (sym (tail_is xs))
     where
-      go : (c : Bool) → all f (cond c (get_or xs k 0 ∷ picked (sc / 2) (drop (k + 2) xs)) (picked (sc / 2) (drop (k + 2) xs))) ≡ ((not c || f (get_or xs k 0)) && all f (picked (sc / 2) (drop (k + 2) xs)))
+      go : (c : Bool) → all f (cond c (get_or xs 0 0 ∷ picked (sc / 2) (drop 2 xs)) (picked (sc / 2) (drop 2 xs))) ≡ ((not c || f (get_or xs 0 0)) && all f (picked (sc / 2) (drop 2 xs)))
       go true = refl
       go false = refl
 
-  -- register r stands there
-  at : {b : Bool} {r : ℕ} → get_or xs k 0 ≡ r → b ≡ (not (eqb (sc % 2) 0) || f r) → b ≡ (not (eqb (sc % 2) 0) || f (get_or xs k 0))
-  at q e = e ∙ sym (ap (λ (r : ℕ). not (eqb (sc % 2) 0) || f r) q)
+  module _ {n : Bool} (i : all f (picked sc xs) ≡ n) where
+    pub pick_no : {b : Bool} {r : ℕ} → 2 ≤ length xs → get_or xs 0 0 ≡ r → b ≡ (not (eqb (sc % 2) 0) || f r) → b ≡ false → false ≡ n
+    pick_no h q e t = ap (λ (x : Bool). x && all f (picked (sc / 2) (tail xs))) (sym t) ∙ sym (both h q e) ∙ i
 
-  pub pick_no : {b n : Bool} {r : ℕ} → k < length xs → 2 ≤ length xs - k → all f (picked sc (drop k xs)) ≡ n → get_or xs k 0 ≡ r → b ≡ (not (eqb (sc % 2) 0) || f r) → not b ≡ true → false ≡ n
-  pick_no {b} l h i q e t = ap (λ (x : Bool). x && all f (picked (sc / 2) (drop (k + 2) xs))) (sym (not-true b t)) ∙ sym (both (omega arith) (at q e)) ∙ i
+    pub pick_on : {b : Bool} {r : ℕ} → 2 ≤ length xs → get_or xs 0 0 ≡ r → b ≡ (not (eqb (sc % 2) 0) || f r) → b ≡ true → all f (picked (sc / 2) (tail xs)) ≡ n
+    pick_on h q e t = ap (λ (x : Bool). x && all f (picked (sc / 2) (tail xs))) (sym t) ∙ sym (both h q e) ∙ i
 
-  pub pick_on : {b n : Bool} {r : ℕ} → k < length xs → 2 ≤ length xs - k → all f (picked sc (drop k xs)) ≡ n → get_or xs k 0 ≡ r → b ≡ (not (eqb (sc % 2) 0) || f r) → not b ≡ false → all f (picked (sc / 2) (drop (k + 2) xs)) ≡ n
-  pick_on {b} l h i q e t = ap (λ (x : Bool). x && all f (picked (sc / 2) (drop (k + 2) xs))) (sym (not-false b t)) ∙ sym (both (omega arith) (at q e)) ∙ i
-
-  pub pick_last : {n : Bool} → k < length xs → length xs - k < 2 → all f (picked sc (drop k xs)) ≡ n → true ≡ n
-  unfolding picked
-  pick_last l h i = sym (ap (λ (y : List ℕ). all f (picked sc y)) (drop-cons xs k 0 l ∙ ap (λ (y : List ℕ). get_or xs k 0 ∷ y) (drop_of_length-le xs {i = suc k} (omega arith)))) ∙ i
-
-  pub pick_end : {n : Bool} → length xs ≤ k → all f (picked sc (drop k xs)) ≡ n → true ≡ n
-  unfolding picked
-  pick_end h i = sym (ap (λ (y : List ℕ). all f (picked sc y)) (drop_of_length-le xs {i = k} h)) ∙ i
+    pub pick_end : length xs < 2 → true ≡ n
+    unfolding picked
+    pick_end h = go xs h ∙ i
+      where
+        go : (ys : List ℕ) → length ys < 2 → true ≡ all f (picked sc ys)
+        go [] l = refl
+        go (a ∷ []) l = refl
+        go (a ∷ b ∷ ys) l = absurd (omega (arith, l))
 
 all_map : {A B : Type 0} (f : B → Bool) (g : A → B) (xs : List A) → all f (map g xs) ≡ all (λ x. f (g x)) xs
 all_map f g [] = refl
@@ -174,24 +179,22 @@ module _ (recs ops regs st lasts : List ℕ) (f : Fact) (bar p : ℕ) {x : Bool}
 
 -- ---- all of them
 
-no_second : (a c d : Bool) → false ≡ conj (a ∷ false ∷ c ∷ d ∷ [])
-no_second true c d = refl
-no_second false c d = refl
-
-no_last : (a b c : Bool) → false ≡ conj (a ∷ b ∷ c ∷ false ∷ [])
-no_last true true true = refl
-no_last true true false = refl
-no_last true false c = refl
-no_last false b c = refl
-
-no_third : (a b d : Bool) → false ≡ conj (a ∷ b ∷ false ∷ d ∷ [])
-no_third true true d = refl
-no_third true false d = refl
-no_third false b d = refl
-
-only_first : (a : Bool) → a ≡ conj (a ∷ true ∷ true ∷ true ∷ [])
-only_first true = refl
-only_first false = refl
+-- a is of rule 4, b of rule 6 besides, c of rule 5 besides
+together : (m r3 r4 r5 r6 : Bool) {a b c : Bool} → a ≡ (m && r4) → b ≡ (a && r6) → c ≡ (b && r5) → (m && conj (r3 ∷ r4 ∷ r5 ∷ r6 ∷ [])) ≡ (c && r3)
+together m r3 r4 r5 r6 x y z = all_of_them m r3 r4 r5 r6 ∙ sym (ap (λ (v : Bool). v && r3) (z ∙ ap (λ (v : Bool). v && r5) (y ∙ ap (λ (v : Bool). v && r6) x)))
+  where
+    all_of_them : (m r3 r4 r5 r6 : Bool) → (m && conj (r3 ∷ r4 ∷ r5 ∷ r6 ∷ [])) ≡ ((((m && r4) && r6) && r5) && r3)
+    all_of_them false r3 r4 r5 r6 = refl
+    all_of_them true true true true true = refl
+    all_of_them true true true true false = refl
+    all_of_them true true true false true = refl
+    all_of_them true true true false false = refl
+    all_of_them true true false r5 r6 = refl
+    all_of_them true false true true true = refl
+    all_of_them true false true true false = refl
+    all_of_them true false true false true = refl
+    all_of_them true false true false false = refl
+    all_of_them true false false r5 r6 = refl
 
 -- ---- sizes
 
@@ -204,43 +207,13 @@ list_low {recs} {ops} {R} {g} {xs} h e k l =
     let m : k < length (list_of ops (inst recs g)) = subst (λ (y : List ℕ). k < length y) e l in
     subst (λ (x : ℕ). x < R) (sym (ap (λ (y : List ℕ). get_or y k 0) e ∙ get_d_any (list_of ops (inst recs g)) k 0 absent m)) (list_at_low recs ops R g h k m)
 
-module _ (recs ops regs st lasts : List ℕ) (d : Fact) (sus bar p : ℕ) (m : d.member ≡ true) where
-  abbrev three : Bool
-  three = all (read_test st p) (reads ops (inst recs d.rec))
+-- ---- rules 4, 6, 5 and 3, in this order
 
-  abbrev five : Bool
-  five = memory_test recs ops regs st lasts d bar p
-
-  abbrev six : Bool
-  six = own_test lasts d.wrote
-
-  of_member : (b : Bool) → b ≡ (d.member && b)
-  of_member b = sym (ap (λ (x : Bool). x && b) m)
-
-  pub no_rule4 : {x : Bool} → x ≡ leb sus (p + 1) → not x ≡ true → false ≡ (d.member && stay_test recs ops regs st lasts d sus bar p)
+module _ (recs ops regs st lasts : List ℕ) (d : Fact) (sus bar p : ℕ) {a b c : Bool} (four : a ≡ (d.member && leb sus (p + 1))) (six : b ≡ (a && own_test lasts d.wrote)) (five : c ≡ (b && memory_test recs ops regs st lasts d bar p)) where
+  pub by_rules : {v : Bool} → c ≡ true → v ≡ all (read_test st p) (reads ops (inst recs d.rec)) → v ≡ (d.member && stay_test recs ops regs st lasts d sus bar p)
   unfolding stay_test
-  no_rule4 {x} e t = no_second three five six ∙ ap (λ (y : Bool). conj (three ∷ y ∷ five ∷ six ∷ [])) (sym (not-true x t) ∙ e) ∙ of_member _
+  by_rules t e = e ∙ sym (together _ (all (read_test st p) (reads ops (inst recs d.rec))) _ _ _ four six five ∙ ap (λ (x : Bool). x && all (read_test st p) (reads ops (inst recs d.rec))) t)
 
-  pub no_rule6 : {x : Bool} → x ≡ six → not x ≡ true → false ≡ (d.member && stay_test recs ops regs st lasts d sus bar p)
+  pub none_stay : c ≡ false → c ≡ (d.member && stay_test recs ops regs st lasts d sus bar p)
   unfolding stay_test
-  no_rule6 {x} e t = no_last three (leb sus (p + 1)) five ∙ ap (λ (y : Bool). conj (three ∷ leb sus (p + 1) ∷ five ∷ y ∷ [])) (sym (not-true x t) ∙ e) ∙ of_member _
-
-  pub no_rule5 : {x : Bool} → x ≡ five → not x ≡ true → false ≡ (d.member && stay_test recs ops regs st lasts d sus bar p)
-  unfolding stay_test
-  no_rule5 {x} e t = no_third three (leb sus (p + 1)) six ∙ ap (λ (y : Bool). conj (three ∷ leb sus (p + 1) ∷ y ∷ six ∷ [])) (sym (not-true x t) ∙ e) ∙ of_member _
-
-  pub by_rule3 : {x y z v : Bool} → x ≡ leb sus (p + 1) → not x ≡ false → y ≡ six → not y ≡ false → z ≡ five → not z ≡ false → v ≡ three → v ≡ (d.member && stay_test recs ops regs st lasts d sus bar p)
-  unfolding stay_test
-  by_rule3 {x} {y} {z} e a f b k c v =
-      v ∙ only_first three
-      ∙ ap₂ (λ (i j : Bool). conj (three ∷ i ∷ j ∷ true ∷ [])) (sym (not-false x a) ∙ e) (sym (not-false z c) ∙ k)
-      ∙ ap (λ (j : Bool). conj (three ∷ leb sus (p + 1) ∷ five ∷ j ∷ [])) (sym (not-false y b) ∙ f) ∙ of_member _
-
--- ---- a test asked only of a member
-
-module _ (in? ok : Bool) where
-  pub skipped : not in? ≡ true → false ≡ (in? && ok)
-  skipped t = sym (ap (λ (y : Bool). y && ok) (not-true in? t))
-
-  pub asked : {y : Bool} → not in? ≡ false → y ≡ ok → y ≡ (in? && ok)
-  asked t f = f ∙ sym (ap (λ (y : Bool). y && ok) (not-false in? t))
+  none_stay t = t ∙ sym (together _ (all (read_test st p) (reads ops (inst recs d.rec))) _ _ _ four six five ∙ ap (λ (x : Bool). x && all (read_test st p) (reads ops (inst recs d.rec))) t)

@@ -1,7 +1,8 @@
 // The six rules of the legal set (01, "The legal set"), a function of a fact each, and what a sweep decides of one position by them.
 #![tactic(auto)]
 
-pub mod rules; // rules.rt: the six rules
+pub mod rules; // rules.rt: rules 1 and 2
+mod kept; // kept.rt: rules 3 to 6, against what the kept positions do
 pub mod forward; // forward.rt: the sweep by rules 3 to 6
 pub mod backward; // backward.rt: the sweep by rule 1, which makes the notes
 mod known; // known.rt: the step of the sweep backward where the fact has all

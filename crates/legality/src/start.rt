@@ -5,23 +5,12 @@ ghost use Rattle.summary.specs.Passes.{begin_test, Written};
 
 use crate::rules::rule2;
 use facts::Fact;
-use inst::table::Table;
+use inst::code::Code;
 
 // Does position p, of fact f, which is in x, begin in the set?
-pub fn begins_in(
-    t: &Table,
-    recs: &[u32],
-    f: Fact,
-    regs: &[u32],
-    bits: &[u64],
-    o: usize,
-    p: usize,
-) -> bool
-    requires { Written recs.now (length regs.now) f.rec f.def f.more × (p < 800) × (o ≤ length bits.now) }
-    ensures { result ≡ begin_test recs.now regs.now bits.now f o p }
+pub fn begins_in(code: &Code, f: Fact, regs: &[u32], bits: &[u64], o: usize, p: usize) -> bool
+    requires { Written code.now.recs.now (length regs.now) f.rec f.def f.more × (p < 800) × (o ≤ length bits.now) }
+    ensures { result ≡ begin_test code.now.recs.now regs.now bits.now f o p }
 {
-    if f.class != 1 {
-        return false;
-    }
-    rule2(t, recs, f, regs, bits, o, p)
+    f.class == 1 && rule2(code, f, regs, bits, o, p)
 }

@@ -9,7 +9,8 @@ use native.Mathlib.Numerals.{add-one}
 use native.Mathlib.Omega.{arith}
 use borrow.Author.Tests.{eq-eqb, ne_eqb}
 use lib.Dec.{eqb}
-use lib.ListN.{get_or, length}
+use lib.ListN.{get_or, length, replicate}
+use Rattle.std.proofs.lemmas.List.{get_or-replicate, length-replicate}
 use Rattle.words.specs.Lists.{mem, filter, upto}
 use Rattle.words.proofs.Lists.{made_snoc, filter_append}
 use Rattle.model.specs.Picture.{Inst, inst, writes}
@@ -29,9 +30,12 @@ noted_twice p v h = noted_by p v (eqb v 0) (eqb v (p + 1)) refl refl h
 
 -- ---- all records
 
-pub soles_none : (recs xs : List ℕ) → ((r : ℕ) → r < length xs → get_or xs r 0 ≡ 0) → Soles recs 0 (length xs) xs
+pub soles_none : (recs : List ℕ) (n : ℕ) {xs : List ℕ} → xs ≡ replicate n 0 → Soles recs 0 n xs
 unfolding sole
-soles_none recs xs h = record { size = refl; each = h }
+soles_none recs n e = record {
+  size = ap length e ∙ length-replicate n 0;
+  each = λ r h. ap (λ (l : List ℕ). get_or l r 0) e ∙ get_or-replicate n r 0 0 h;
+}
 
 pub soles_more : {recs : List ℕ} {n R : ℕ} {xs ys : List ℕ} → Soles recs n R xs → Written (noted n) (inst recs n) xs ys → Soles recs (n + 1) R ys
 unfolding sole
@@ -40,8 +44,8 @@ soles_more {recs} {n} {R} {xs} {ys} a b = record {
   each = λ r h. b.each r (rw a.size h) ∙ ap (settle (noted n) (mem r (writes (inst recs n)))) (a.each r h) ∙ sym (ap (sole recs r) (add-one n));
 }
 
-pub soles_at : {recs : List ℕ} {p n R Q : ℕ} {xs : List ℕ} → R ≡ Q → p ≤ n → n ≤ p → Soles recs p R xs → Soles recs n Q xs
-soles_at {recs} {p} {n} {R} {Q} {xs} e a b s = subst (λ (k : ℕ). Soles recs n k xs) e (subst (λ (k : ℕ). Soles recs k R xs) (le_antisymm a b) s)
+pub soles_at : {recs : List ℕ} {p n R : ℕ} {xs : List ℕ} → p ≤ n → n ≤ p → Soles recs p R xs → Soles recs n R xs
+soles_at {recs} {p} {n} {R} {xs} a b s = subst (λ (k : ℕ). Soles recs k R xs) (le_antisymm a b) s
 
 -- the number stands for the list of writers
 data Stands (recs : List ℕ) (n : ℕ) : ℕ → List Inst → Type 0 where

@@ -94,25 +94,6 @@ sole_within recs v e (inr z) f = let a = (sole_some recs v e).0 in record { whol
 
 -- ---- all of them
 
-pub record Cleared (xs ys : List ℕ) (n : ℕ) : Type 0 where
-  pub upto : n ≤ length xs
-  pub size : length ys ≡ length xs
-  pub each : (r : ℕ) → r < n → get_or ys r 0 ≡ 0
-
-pub cleared_none : (xs : List ℕ) → Cleared xs xs 0
-cleared_none xs = record { upto = omega arith; size = refl; each = λ r h. absurd (not-suc-le-zero h) }
-
-pub cleared_more : {xs ys : List ℕ} {n : ℕ} → Cleared xs ys n → n < length ys → Cleared xs (set ys n 0) (n + 1)
-cleared_more {xs} {ys} {n} c h = record {
-  upto = omega (arith, c.size);
-  size = length-set ys n 0 ∙ c.size;
-  each = λ r k. go r k (ℕ_discrete r n);
-}
-  where
-    go : (r : ℕ) → r < n + 1 → Dec (r ≡ n) → get_or (set ys n 0) r 0 ≡ 0
-    go r k (yes e) = ap (λ (x : ℕ). get_or (set ys n 0) x 0) e ∙ get_or-set_same ys n 0 0 h
-    go r k (no e) = get_or-set_other ys n r 0 0 e ∙ c.each r (omega arith)
-
 -- below r the words are facts, from there on writers
 pub record Turning (recs : List ℕ) (n R r : ℕ) (words : List ℕ) : Type 0 where
   pub upto : r ≤ R
@@ -123,7 +104,7 @@ pub record Turning (recs : List ℕ) (n R r : ℕ) (words : List ℕ) : Type 0 w
 pub turning_none : {recs : List ℕ} {n R : ℕ} {xs : List ℕ} → Soles recs n R xs → Turning recs n R 0 xs
 turning_none s = record { upto = omega arith; size = s.size; done = λ k h. absurd (not-suc-le-zero h); todo = λ k a h. s.each k h }
 
-pub turning_more : {recs : List ℕ} {n R r v : ℕ} {xs : List ℕ} → n ≤ 32768 → Turning recs n R r xs → r < length xs → v ≡ flags_of (sole_of recs (get_or xs r 0)) → Turning recs n R (r + 1) (set xs r v)
+pub turning_more : {recs : List ℕ} {n R r v : ℕ} {xs : List ℕ} → n ≤ 32768 → Turning recs n R r xs → r < R → v ≡ flags_of (sole_of recs (get_or xs r 0)) → Turning recs n R (r + 1) (set xs r v)
 turning_more {recs} {n} {R} {r} {v} {xs} small_n t h e = record {
   upto = omega (arith, t.size);
   size = length-set xs r v ∙ t.size;
@@ -133,15 +114,15 @@ turning_more {recs} {n} {R} {r} {v} {xs} small_n t h e = record {
   where
     go : (k : ℕ) → k < r + 1 → Dec (k ≡ r) → get_or (set xs r v) k 0 ≡ flags_of (known_from recs n k)
     go k l (yes q) =
-        ap (λ (x : ℕ). get_or (set xs r v) x 0) q ∙ get_or-set_same xs r v 0 h ∙ e
+        ap (λ (x : ℕ). get_or (set xs r v) x 0) q ∙ get_or-set_same xs r v 0 (omega (arith, t.size, h)) ∙ e
         ∙ ap (λ (x : ℕ). flags_of (sole_of recs x)) (t.todo r (omega arith) (omega (arith, t.size)))
         ∙ ap flags_of (sole_writer recs r n small_n) ∙ ap (λ (x : ℕ). flags_of (known_from recs n x)) (sym q)
     go k l (no q) = get_or-set_other xs r k v 0 q ∙ t.done k (omega arith)
 
-pub turning_end : {recs : List ℕ} {n R Q r : ℕ} {xs : List ℕ} → R ≡ Q → Turning recs n R r xs → length xs ≤ r → Found recs n Q xs
+pub turning_end : {recs : List ℕ} {n R Q r : ℕ} {xs : List ℕ} → R ≡ Q → Turning recs n R r xs → R ≤ r → Found recs n Q xs
 turning_end e t h = record { size = t.size ∙ e; each = λ k l. t.done k (omega (arith, t.size, e)) }
 
-pub turning_fits : {recs : List ℕ} {n R r : ℕ} {xs : List ℕ} → n ≤ 32768 → ((p : ℕ) → p < n → Fits recs R p) → Turning recs n R r xs → r < length xs → (get_or xs r 0 ≡ many) ⊎ (16 * get_or xs r 0 ≤ length recs)
+pub turning_fits : {recs : List ℕ} {n R r : ℕ} {xs : List ℕ} → n ≤ 32768 → ((p : ℕ) → p < n → Fits recs R p) → Turning recs n R r xs → r < R → (get_or xs r 0 ≡ many) ⊎ (16 * get_or xs r 0 ≤ length recs)
 turning_fits {recs} {n} {R} {r} {xs} small_n fits t h =
     let e = t.todo r (omega arith) (omega (arith, t.size)) in
     ⊎_elim (λ (q : sole recs r n ≡ many). inl (e ∙ q)) (λ (q : sole recs r n ≤ n). inr (subst (λ (x : ℕ). 16 * x ≤ length recs) (sym e) (go (sole recs r n) q))) (sole_small recs r n small_n)

@@ -9,13 +9,12 @@ ghost use Rattle.inst.specs.Record.{Within, Used};
 ghost use Rattle.regfacts.specs.Written.{put_in, Fits, Written};
 ghost use Rattle.regfacts.specs.Flags.{noted, many, Soles, flags_of, flags_in, is_length, sole_of, Found};
 
-use inst::access::{later, uses, write_at};
+use crate::written::{change, change_written};
+use inst::access::later;
+use inst::code::Code;
 use inst::constant::{Constant, decode};
-use inst::index::Reg;
 use inst::kinds::ADDR_OF;
 use inst::record::{form, kind};
-use inst::table::Table;
-use words::numbers::{full, long, one};
 
 // A register's word counts what stands over its flags by this.
 pub const FLAGS: u64 = 16;
@@ -42,64 +41,28 @@ fn next(v: u64, p: u64) -> u64
     SEVERAL
 }
 
-// Record p writes register w, if that is one.
-fn note(regs: &mut [u64], w: Option<Reg>, p: u64)
-    requires { (p < 32768) × Among (length regs.old) w }
-    ensures { regs.new ≡ put_in (noted p) (word_of w) regs.old }
-{
-    let Some(r) = w else {
-        return;
-    };
-    let k = r.at();
-    regs[k] = next(regs[k], p);
-}
-
-// Record p and all that its slots write, one by one.
-fn note_all(recs: &[u32], regs: &mut [u64], p: usize, uses: u32)
-    requires { Used recs.now p uses × (p < 32768) × Fits recs.now (length regs.old) p }
-    ensures { Written (noted p) (inst recs.now p) regs.old regs.new }
-{
-    let n = full(p);
-    let mut s = 0usize;
-    while s < 5 {
-        note(regs, write_at(recs, p, uses, s, regs.len()), n);
-        s += 1;
-    }
-}
-
 // Record p and all that it writes, mostly in its first slot alone.
-fn note_record(t: &Table, recs: &[u32], regs: &mut [u64], p: usize)
-    requires { (p < 32768) × Fits recs.now (length regs.old) p }
-    ensures { Written (noted p) (inst recs.now p) regs.old regs.new }
+fn note_record(code: &Code, regs: &mut [u64], p: usize)
+    requires { (p < 32768) × Fits code.now.recs.now (length regs.old) p }
+    ensures { Written (noted p) (inst code.now.recs.now p) regs.old regs.new }
 {
-    let u = uses(t, recs, p);
-    if later(u) {
-        note_all(recs, regs, p, u);
+    let slots = code.slots(p);
+    let n = p as u64;
+    if later(slots.does) {
+        change_written(&slots, regs, |v| next(v, n));
         return;
     }
-    note(regs, write_at(recs, p, u, 0, regs.len()), full(p));
-}
-
-fn clear(regs: &mut [u64])
-    ensures { (length regs.new ≡ length regs.old) × ((r : ℕ) → r < length regs.old → get_or regs.new r 0 ≡ 0) }
-{
-    let mut r = 0;
-    while r < regs.len() {
-        regs[r] = 0;
-        r += 1;
-    }
+    change(regs, slots.write(0, regs.len()), |v| next(v, n));
 }
 
 // The only writer of each register among n records.
-fn find_soles(t: &Table, recs: &[u32], regs: &mut [u64], n: usize)
-    requires { (n ≤ 32768) × ((p : ℕ) → p < n → Fits recs.now (length regs.old) p) }
-    ensures { Soles recs.now n (length regs.old) regs.new }
+fn find_soles(code: &Code, regs: &mut [u64], n: usize)
+    requires { (n ≤ 32768) × ((p : ℕ) → p < n → Fits code.now.recs.now (length regs.old) p) }
+    ensures { Soles code.now.recs.now n (length regs.old) regs.new }
 {
-    clear(regs);
-    let mut p = 0usize;
-    while p < n {
-        note_record(t, recs, regs, p);
-        p += 1;
+    regs.fill(0);
+    for p in 0..n {
+        note_record(code, regs, p);
     }
 }
 
@@ -133,7 +96,7 @@ fn constant_flags(c: Option<Constant>) -> u64
     ensures { result ≡ flags_in c }
 {
     match c {
-        Some(Constant::Whole(z)) => long(4 * one(is_small(z)) + 8 * one(is_positive(z))),
+        Some(Constant::Whole(z)) => 4 * u64::from(is_small(z)) + 8 * u64::from(is_positive(z)),
         _ => 0,
     }
 }
@@ -145,7 +108,7 @@ fn record_flags(recs: &[u32], q: usize) -> u64
 {
     if kind(recs, q) == ADDR_OF {
         let f = form(recs, q);
-        return long(one((f == 2) | (f == 4)) + 2 * one(f == 0));
+        return u64::from((f == 2) | (f == 4)) + 2 * u64::from(f == 0);
     }
     constant_flags(decode(recs, q))
 }
@@ -163,14 +126,12 @@ fn flags(recs: &[u32], v: u64) -> u64
 }
 
 // The facts on all registers, from n records.
-pub fn find_facts(t: &Table, recs: &[u32], regs: &mut [u64], n: usize)
-    requires { (n ≤ 32768) × ((p : ℕ) → p < n → Fits recs.now (length regs.old) p) }
-    ensures { Found recs.now n (length regs.old) regs.new }
+pub fn find_facts(code: &Code, regs: &mut [u64], n: usize)
+    requires { (n ≤ 32768) × ((p : ℕ) → p < n → Fits code.now.recs.now (length regs.old) p) }
+    ensures { Found code.now.recs.now n (length regs.old) regs.new }
 {
-    find_soles(t, recs, regs, n);
-    let mut r = 0;
-    while r < regs.len() {
-        regs[r] = flags(recs, regs[r]);
-        r += 1;
+    find_soles(code, regs, n);
+    for r in 0..regs.len() {
+        regs[r] = flags(code.recs, regs[r]);
     }
 }

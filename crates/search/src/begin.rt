@@ -6,6 +6,7 @@ ghost use Rattle.search.specs.Search.{Beginning, Began};
 
 use cfg::graph::find_preds;
 use flow::rows::all_rows;
+use inst::code::Code;
 use inst::table::Table;
 use regfacts::flags::find_facts;
 use sizes::{Sizes, at_preds, at_regs};
@@ -29,6 +30,7 @@ pub fn begin<'a>(
     let a = at_regs(s);
     let p = at_preds(s);
     all_rows(work64, t, bounds, recs, ops, wide(s.regs));
-    find_facts(t, recs, &mut work64[a..a + s.lent], s.insts);
+    let code = Code { table: t, recs, ops };
+    find_facts(&code, &mut work64[a..a + s.lent], s.insts);
     find_preds(&mut work32[p..p + 2 * b], t, bounds, recs, pairs, targets);
 }

@@ -127,6 +127,17 @@ module _ (recs ops : List ℕ) (R g : ℕ) (h : Good recs ops R g) where
         (in_split r (concat (map (λ s. present (read_at (inst recs g) s)) (upto 5))) (list_of ops (inst recs g)) i);
   })
 
+-- ---- all places pass a test
+
+pub writes_tested : {recs : List ℕ} {R g : ℕ} (f : ℕ → Bool) → Fits recs R g → all (λ k. eqb (write_at (inst recs g) k) absent || f (write_at (inst recs g) k)) (upto 5) ≡ all f (writes (inst recs g))
+writes_tested {recs} {R} {g} f h = sym (all_placed (writes_placed recs g h.whole.within) f)
+
+pub reads_tested : {recs ops : List ℕ} {R g n : ℕ} (f : ℕ → Bool) → Good recs ops R g → n ≡ 5 + length (list_of ops (inst recs g))
+    → all (λ k. eqb (read_place ops (inst recs g) k) absent || f (read_place ops (inst recs g) k)) (upto n) ≡ all f (reads ops (inst recs g))
+reads_tested {recs} {ops} {R} {g} {n} f h e =
+    ap (λ (m : ℕ). all (λ k. eqb (read_place ops (inst recs g) k) absent || f (read_place ops (inst recs g) k)) (upto m)) e
+    ∙ sym (all_placed (reads_placed recs ops R g h) f)
+
 -- ---- a place made a register
 
 -- m is the register n of count, or none

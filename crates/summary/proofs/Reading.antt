@@ -5,7 +5,7 @@ use mathlib.Core.List.{List}
 use Prim.Native.Nat.{ℕ, ◌+◌, ◌-◌, ◌≤◌, ◌<◌}
 use native.Mathlib.Omega.{arith}
 use borrow.Author.Tests.{lt-ltb, le-ltb}
-use lib.ListN.{get_or, length, drop, length-take, length-drop}
+use lib.ListN.{get_or, length}
 use Rattle.words.proofs.Lists.{get_d_any}
 use Rattle.model.specs.Picture.{Inst, absent, list_of}
 use Rattle.inst.specs.Record.{read_at}
@@ -16,14 +16,8 @@ module _ (ops : List ℕ) (i : Inst) (k : ℕ) where
   unfolding read_place
   place_slot h = sym (ap (λ (b : Bool). cond b (read_at i k) (get_or (list_of ops i) (k - 5) absent)) (lt-ltb k 5 h))
 
-  pub place_list_in : {xs : List ℕ} → 5 ≤ k → xs ≡ list_of ops i → k < 5 + length (list_of ops i) → k - 5 < length xs
-  place_list_in h e l = let n = ap length e in omega arith
-
-  pub place_list : {xs : List ℕ} → 5 ≤ k → xs ≡ list_of ops i → k < 5 + length (list_of ops i) → get_or xs (k - 5) 0 ≡ read_place ops i k
+  pub place_list : {xs : List ℕ} → 5 ≤ k → xs ≡ list_of ops i → k < 5 + length xs → get_or xs (k - 5) 0 ≡ read_place ops i k
   unfolding read_place
   place_list {xs} h e l =
-      ap (λ (y : List ℕ). get_or y (k - 5) 0) e ∙ get_d_any (list_of ops i) (k - 5) 0 absent (omega arith)
+      ap (λ (y : List ℕ). get_or y (k - 5) 0) e ∙ get_d_any (list_of ops i) (k - 5) 0 absent (let n = ap length e in omega arith)
       ∙ sym (ap (λ (b : Bool). cond b (read_at i k) (get_or (list_of ops i) (k - 5) absent)) (le-ltb k 5 h))
-
-  pub list_short : length (list_of ops i) ≤ length ops
-  list_short = let a = length-take (get_or i 8 0) (drop (get_or i 7 0) ops) in let b = length-drop (get_or i 7 0) ops in omega arith

@@ -12,7 +12,8 @@ use lib.Seq.{get_or-set_same, get_or-set_other}
 use Rattle.words.specs.Lists.{upto, any}
 use Rattle.words.proofs.Bools.{eq?}
 use Rattle.words.proofs.Alls.{any_more}
-use Rattle.model.specs.Picture.{absent}
+use Rattle.model.specs.Picture.{Inst, absent, writes}
+use Rattle.regfacts.specs.Written.{put_in as change_in, settle, Written as Changed}
 use Rattle.summary.specs.Passes.{over, stamp, put_in, Stamped, Beside}
 use Rattle.summary.proofs.Places.{Placed, mem_placed}
 
@@ -38,6 +39,16 @@ pub writer_stamp : {v x : ℕ} → v ≡ 2048 * x → x < 8020 → Beside 2048 0
 unfolding over
 writer_stamp {v} {x} e h = record { some = omega arith; small = omega arith; twice = λ x. omega arith }
 
+-- ---- the stamp as a change of words
+
+pub put_is : (keep lo v r : ℕ) (st : List ℕ) → change_in (over keep lo v) r st ≡ put_in keep lo v r st
+unfolding change_in put_in
+put_is keep lo v r st = refl
+
+pub stamped_written : (keep lo v : ℕ) {i : Inst} {st st' : List ℕ} → Changed (over keep lo v) i st st' → Stamped (writes i) keep lo v st st'
+unfolding settle stamp
+stamped_written keep lo v w = record { size = w.size; each = λ r h. w.each r h }
+
 -- ---- place by place
 
 -- the first k places are stamped
@@ -59,18 +70,6 @@ put_there keep lo v r st e = ap (λ (b : Bool). cond b st (set st r (over keep l
 
 pub over_fits : {keep lo v : ℕ} → Beside keep lo v → (x : ℕ) → x % keep + v < 18446744073709551616
 over_fits {keep} {lo} {v} b x = let h = native.Mathlib.Nat.mod-lt x b.some in let s = b.small in omega arith
-
-pub over_low : (keep lo v x : ℕ) → x % keep < lo → lo + v ≡ over keep lo v x
-unfolding over
-over_low keep lo v x h = omega arith
-
-pub over_high : (keep lo v x : ℕ) → lo ≤ x % keep → x % keep + v ≡ over keep lo v x
-unfolding over
-over_high keep lo v x h = omega arith
-
-pub put_back : (keep lo v : ℕ) (st : List ℕ) {k y n r : ℕ} → r ≡ n → n < absent → k ≡ n → y ≡ over keep lo v (get_or st k 0) → set st k y ≡ put_in keep lo v r st
-put_back keep lo v st {k} {y} {n} {r} is low q e =
-    ap (set st k) e ∙ ap (λ (x : ℕ). set st x (over keep lo v (get_or st x 0))) (q ∙ sym is) ∙ sym (put_there keep lo v r st (λ u. omega (arith, u, is, low)))
 
 stamp_again : (keep lo v : ℕ) → Beside keep lo v → (b : Bool) (x : ℕ) → over keep lo v (stamp keep lo v b x) ≡ stamp keep lo v (b || true) x
 unfolding stamp

@@ -1,11 +1,12 @@
 -- What the parts of a pass require and ensure. Assumes nothing.
-use Rattle.std.specs.Prelude.{◌≡◌, ◌⊎◌, Bool, false, not, ◌&&◌, ◌||◌, cond, List, [], ◌∷◌, ◌++◌, map, ℕ, zero, suc, ◌+◌, ◌*◌, ◌-◌, ◌/◌, ◌%◌, ◌≤◌, ◌<◌, max, eqb, leb, ltb, get_or, length, set, take, drop}
+use Rattle.std.specs.Prelude.{◌≡◌, ◌⊎◌, Option, Bool, false, not, ◌&&◌, ◌||◌, cond, List, [], ◌∷◌, ◌++◌, map, ℕ, zero, suc, ◌+◌, ◌*◌, ◌-◌, ◌/◌, ◌%◌, ◌≤◌, ◌<◌, max, eqb, leb, ltb, get_or, length, set, take, drop}
 use Rattle.words.specs.Lists.{mem, hit, all, conj, member, count}
 use Rattle.words.specs.Bits.{is_in}
 use Rattle.model.specs.Picture.{Inst, inst, absent, reads, writes, list_of}
 use Rattle.model.specs.Analyse.{Fact}
 use Rattle.model.specs.Legal.{greatest}
-use Rattle.inst.specs.Index.{reg_of, word_of}
+use Rattle.inst.specs.Index.{reg_of, word_of, Among}
+use Rattle.inst.specs.declared.index.Reg.{Reg}
 use Rattle.inst.specs.Record.{Known, present, read_at}
 use Rattle.facts.specs.declared.Fact as F
 use Rattle.facts.specs.Marks.{fact_in, marked}
@@ -17,6 +18,10 @@ use Rattle.legalset.specs.Rules.{last_kept, org_fine, still_fine, pending}
 -- read k: slots 0 to 4, then the list; absent where there is none
 unfoldable pub read_place : List ℕ → Inst → ℕ → ℕ
 read_place ops i k = cond (ltb k 5) (read_at i k) (get_or (list_of ops i) (k - 5) absent)
+
+-- what `post` says of a register of `count`, or none, is t of its number
+pub record Tests (count : ℕ) (post : Option Reg → Bool → Type 0) (t : ℕ → Bool) : Type 0 where
+  pub each : (m : Option Reg) (b : Bool) → Among count m → post m b → b ≡ (eqb (word_of m) absent || t (word_of m))
 
 -- ---- one position
 

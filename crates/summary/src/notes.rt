@@ -19,10 +19,7 @@ fn later(x: u32, v: u32) -> u32
     requires { v ≤ 800 }
     ensures { result ≡ 1024 * (x / 1024) + max (x % 1024) v }
 {
-    if x % MEMBER < v {
-        return MEMBER * (x / MEMBER) + v;
-    }
-    x
+    MEMBER * (x / MEMBER) + (x % MEMBER).max(v)
 }
 
 // Position v - 1 is noted in word k, unless a later one is.
@@ -49,9 +46,17 @@ fn note_all(f: Fact, lasts: &mut [u32; 2008], q: usize)
     ensures { lasts.new ≡ later_in 2007 (cond f.suspends (q + 1) 0) (later_in 2006 (cond f.barrier (q + 1) 0) (later_in f.wrote (q + 1) lasts.old)) }
 {
     let e = q as u32 + 1;
-    note(lasts, words::numbers::wide(f.wrote), e);
+    note(lasts, f.wrote as usize, e);
     note_where(lasts, BARRIER, f.barrier, e);
     note_where(lasts, SUSPENSION, f.suspends, e);
+}
+
+// The word of Temp of position q, as memory written.
+fn temp(q: usize) -> usize
+    requires { q < 800 }
+    ensures { result ≡ 2 * q + 5 }
+{
+    2 * q + 5
 }
 
 // Position q is a member.
@@ -59,7 +64,7 @@ fn note_member(lasts: &mut [u32; 2008], q: usize)
     requires { q < 800 }
     ensures { lasts.new ≡ member_in q lasts.old }
 {
-    let k = 2 * q + 5;
+    let k = temp(q);
     lasts[k] = lasts[k] % MEMBER + MEMBER;
 }
 
@@ -80,9 +85,7 @@ pub fn forget(lasts: &mut [u32; 2008], dropped: bool, p: usize)
     requires { p < 800 }
     ensures { lasts.new ≡ forgot dropped p lasts.old }
 {
-    if !dropped {
-        return;
+    if dropped {
+        lasts[temp(p)] %= MEMBER;
     }
-    let k = 2 * p + 5;
-    lasts[k] = lasts[k] % MEMBER;
 }

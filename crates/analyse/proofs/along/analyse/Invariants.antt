@@ -11,7 +11,7 @@ invariant-loop-at l =
       order : l.p ≤ 800;
       size : length l.regs ≡ length l.fn.regs;
       facts_size : length l.facts ≡ length l.fn.facts;
-      ran : Chained l.recs l.ops l.bounds l.c l.count l.initial.regs (bare l.fn.facts) l.regs (bare l.facts) l.at l.p;
+      ran : Chained l.code.recs.now l.code.ops.now l.bounds l.c l.count l.initial.regs (bare l.fn.facts) l.regs (bare l.facts) l.at l.p;
     }
 
 abbrev pub decreases-loop-at : goal.decreases-loop-at

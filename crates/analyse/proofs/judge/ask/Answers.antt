@@ -1,6 +1,7 @@
 -- `analyse::judge::ask` meets its contract. Assumes nothing.
-use mathlib.Core.Path.{refl, sym, ◌∙◌}
+use mathlib.Core.Path.{refl, sym, ap, ◌∙◌}
 use native.Mathlib.Omega.{arith}
+use Rattle.regfacts.specs.Flags.{is_length}
 use Rattle.analyse.proofs.Looked.{read_reg, made_reg}
 use Rattle.analyse.proofs.judge.ask.Goals as goal
 
@@ -39,7 +40,7 @@ returns c =
           record {
             form = sym c.form.ensures;
             list = sym c.word.ensures;
-            small = sym c.holds_length.ensures;
+            small = sym (c.is_length.ensures ∙ ap is_length c.decode.ensures);
             p = sym e;
             o0 = rw r0 at k0.org;
             o1 = rw r1 at k1.org;

@@ -4,7 +4,10 @@ use Rattle.summary.proofs.Forwarding.{forwarded, fact_low}
 use Rattle.legality.proofs.forward.forth.Goals as goal
 
 pub put_writes-requires : goal.put_writes-requires
-put_writes-requires c = let p = c.requires in (p.0, writer_stamp c.stamp_of.ensures (fact_low _ _ p.2.org))
+put_writes-requires c = c.requires.0
+
+pub invariant_of-d : goal.invariant_of-d
+invariant_of-d c = record { beside = writer_stamp c.stamp_of.ensures (fact_low _ _ c.requires.2.org) }
 
 pub returns : goal.returns
 returns c = forwarded c.may_stay-stays.ensures c.forget.ensures c.stamp_of.ensures c.put_writes.ensures

@@ -1,22 +1,31 @@
 -- `legality::forward::may_stay` meets its contract. Assumes nothing.
-use Rattle.summary.specs.Passes.{stay_test}
-use borrow.Author.Tests.{not-false}
-use Rattle.legality.proofs.Testing.{skipped, no_rule4, no_rule6, no_rule5, by_rule3}
-use mathlib.Core.Path.{ap}
-use mathlib.Core.Bool.{not}
+use mathlib.Core.Path.{◌≡◌}
+use mathlib.Core.Bool.{◌&&◌}
+use Prim.Native.Nat.{◌+◌}
+use lib.Dec.{leb}
+use Rattle.summary.specs.Passes.{memory_test, own_test}
+use Rattle.legality.proofs.Testing.{by_rules, none_stay}
+use Rattle.legality.proofs.forward.may_stay.Goals.{then-f, else-f, then-rule4, else-rule4, then-rule6, else-rule6}
 use Rattle.legality.proofs.forward.may_stay.Goals as goal
 
-pub returns-then-not-f : goal.returns-then-not-f
-returns-then-not-f c = let a = c.args in skipped a.f.member (stay_test a.recs.now a.ops.now a.regs.now a.st.now a.lasts.now a.f a.sus a.bar a.p) c.if-not-f.true
+pub returns-then-rule5 : goal.returns-then-rule5
+returns-then-rule5 c =
+    let a = c.args in
+    let four : c.if-f.value ≡ (a.f.member && leb a.kept.now.sus (a.p + 1)) =
+    elim c.if-f.branch [ then-f w ↦ rw (w.value-is, w.if-f.true) w.rule4.ensures | else-f w ↦ rw (w.value-is, w.if-f.false) ] in
+    let six : c.if-rule4.value ≡ (c.if-f.value && own_test a.kept.now.lasts.now a.f.wrote) =
+    elim c.if-rule4.branch [ then-rule4 w ↦ rw (w.value-is, w.if-rule4.true) w.rule6.ensures | else-rule4 w ↦ rw (w.value-is, w.if-rule4.false) ] in
+    let five : c.if-rule6.value ≡ (c.if-rule4.value && memory_test a.code.now.recs.now a.code.now.ops.now a.kept.now.regs.now a.kept.now.st.now a.kept.now.lasts.now a.f a.kept.now.bar a.p) =
+    elim c.if-rule6.branch [ then-rule6 w ↦ rw (w.value-is, w.if-rule6.true) w.rule5.ensures | else-rule6 w ↦ rw (w.value-is, w.if-rule6.false) ] in
+    by_rules _ _ _ _ _ _ _ _ _ four six five c.if-rule5.true c.rule3.ensures
 
-pub returns-then-not-rule4 : goal.returns-then-not-rule4
-returns-then-not-rule4 c = let a = c.args in no_rule4 a.recs.now a.ops.now a.regs.now a.st.now a.lasts.now a.f a.sus a.bar a.p (not-false a.f.member c.if-not-f.false) c.rule4.ensures (ap not c.if-not-rule4.true)
-
-pub returns-then-not-rule6 : goal.returns-then-not-rule6
-returns-then-not-rule6 c = let a = c.args in no_rule6 a.recs.now a.ops.now a.regs.now a.st.now a.lasts.now a.f a.sus a.bar a.p (not-false a.f.member c.if-not-f.false) c.rule6.ensures (ap not c.if-not-rule6.true)
-
-pub returns-then-not-rule5 : goal.returns-then-not-rule5
-returns-then-not-rule5 c = let a = c.args in no_rule5 a.recs.now a.ops.now a.regs.now a.st.now a.lasts.now a.f a.sus a.bar a.p (not-false a.f.member c.if-not-f.false) c.rule5.ensures (ap not c.if-not-rule5.true)
-
-pub returns : goal.returns
-returns c = let a = c.args in by_rule3 a.recs.now a.ops.now a.regs.now a.st.now a.lasts.now a.f a.sus a.bar a.p (not-false a.f.member c.if-not-f.false) c.rule4.ensures (ap not c.if-not-rule4.false) c.rule6.ensures (ap not c.if-not-rule6.false) c.rule5.ensures (ap not c.if-not-rule5.false) c.rule3.ensures
+pub returns-else-rule5 : goal.returns-else-rule5
+returns-else-rule5 c =
+    let a = c.args in
+    let four : c.if-f.value ≡ (a.f.member && leb a.kept.now.sus (a.p + 1)) =
+    elim c.if-f.branch [ then-f w ↦ rw (w.value-is, w.if-f.true) w.rule4.ensures | else-f w ↦ rw (w.value-is, w.if-f.false) ] in
+    let six : c.if-rule4.value ≡ (c.if-f.value && own_test a.kept.now.lasts.now a.f.wrote) =
+    elim c.if-rule4.branch [ then-rule4 w ↦ rw (w.value-is, w.if-rule4.true) w.rule6.ensures | else-rule4 w ↦ rw (w.value-is, w.if-rule4.false) ] in
+    let five : c.if-rule6.value ≡ (c.if-rule4.value && memory_test a.code.now.recs.now a.code.now.ops.now a.kept.now.regs.now a.kept.now.st.now a.kept.now.lasts.now a.f a.kept.now.bar a.p) =
+    elim c.if-rule6.branch [ then-rule6 w ↦ rw (w.value-is, w.if-rule6.true) w.rule5.ensures | else-rule6 w ↦ rw (w.value-is, w.if-rule6.false) ] in
+    none_stay _ _ _ _ _ _ _ _ _ four six five c.if-rule5.false

@@ -3,7 +3,7 @@ use Rattle.summary.proofs.Forwarding.{stamp_in, stamp_out}
 use Rattle.legality.proofs.forward.stamp_of.Goals as goal
 
 pub returns-then-member : goal.returns-then-member
-returns-then-member c = stamp_in _ _ c.if-member.true
+returns-then-member c = rw c.from-o.ensures (stamp_in c.args.f _ c.if-member.true)
 
 pub returns : goal.returns
-returns c = stamp_out _ _ c.if-member.false
+returns c = rw c.from-o.ensures (stamp_out c.args.f _ c.if-member.false)

@@ -1,11 +1,12 @@
 -- `legality::rules::rule1` meets its contract. Assumes nothing.
+use borrow.Author.Rules.{rules}
+use borrow.Author.Tests.{not-true}
 use mathlib.Core.Path.{ap, ◌∙◌}
 use Prim.Native.Nat.{ℕ}
 use lib.Dec.{leb}
 use lib.ListN.{get_or}
 use Rattle.words.specs.Lists.{all}
-use Rattle.summary.proofs.Wording.{def_all, known_at, slots_at, slots_tested}
-use borrow.Author.Tests.{not-true}
+use Rattle.summary.proofs.Wording.{def_all}
 use Rattle.legality.proofs.rules.rule1.Goals as goal
 
 pub def_free-requires : goal.def_free-requires
@@ -16,12 +17,13 @@ returns-then-not-f c =
     let a = c.args in
     c.def_free.ensures ∙ ap (all (λ (x : ℕ). leb (get_or a.st.now x 0) 1023)) (def_all a.f c.requires (not-true _ c.if-not-f.true))
 
-pub uses-requires : goal.uses-requires
-uses-requires c = (known_at c.requires c.wide-g.ensures)
+pub slots-requires : goal.slots-requires
+slots-requires c = c.requires.known
 
-pub free_slots-requires : goal.free_slots-requires
-free_slots-requires c = slots_at c.requires c.wide-g.ensures c.uses.ensures
+pub all_written-requires-clause-fits : goal.all_written-requires-clause-fits
+all_written-requires-clause-fits c = rw (c.slots.ensures.recs, c.slots.ensures.place) c.requires.fits
 
 pub returns : goal.returns
 returns c =
-    slots_tested c.requires (λ (x : ℕ). leb (get_or c.args.st.now x 0) 1023) c.wide-g.ensures c.free_slots.ensures
+    rw (c.slots.ensures.recs, c.slots.ensures.place) at
+    (c.all_written.ensures (λ (x : ℕ). leb (get_or c.args.st.now x 0) 1023) (record { each = λ m b h e. search rules }))

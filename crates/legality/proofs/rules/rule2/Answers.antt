@@ -1,10 +1,10 @@
 -- `legality::rules::rule2` meets its contract. Assumes nothing.
+use borrow.Author.Tests.{not-true}
 use mathlib.Core.Path.{ap, ◌∙◌}
 use lib.ListN.{length}
 use Rattle.words.specs.Lists.{all}
 use Rattle.summary.specs.Passes.{result_test}
-use Rattle.summary.proofs.Wording.{own_among, def_tested, def_all, known_at, slots_at, slots_tested}
-use borrow.Author.Tests.{not-true}
+use Rattle.summary.proofs.Wording.{own_among, def_tested, def_all}
 use Rattle.legality.proofs.rules.rule2.Goals as goal
 
 pub unneeded-requires : goal.unneeded-requires
@@ -17,13 +17,11 @@ returns-then-not-f c =
     let test = result_test a.regs.now a.bits.now a.o a.p in
     def_tested a.f (length a.regs.now) test c.new.ensures c.unneeded.ensures ∙ ap (all test) (def_all a.f c.requires.0 (not-true _ c.if-not-f.true))
 
-pub uses-requires : goal.uses-requires
-uses-requires c = (known_at c.requires.0 c.wide-g.ensures)
+pub slots-requires : goal.slots-requires
+slots-requires c = c.requires.0.known
 
 pub unneeded_slots-requires : goal.unneeded_slots-requires
-unneeded_slots-requires c =
-    let k = slots_at c.requires.0 c.wide-g.ensures c.uses.ensures in (k.0, k.1, c.requires.1, c.requires.2)
+unneeded_slots-requires c = (rw (c.slots.ensures.recs, c.slots.ensures.place) c.requires.0.fits, c.requires.1, c.requires.2)
 
 pub returns : goal.returns
-returns c =
-    let a = c.args in slots_tested c.requires.0 (result_test a.regs.now a.bits.now a.o a.p) c.wide-g.ensures c.unneeded_slots.ensures
+returns c = rw (c.slots.ensures.recs, c.slots.ensures.place) at c.unneeded_slots.ensures

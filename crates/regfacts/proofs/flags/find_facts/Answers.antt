@@ -1,6 +1,5 @@
 -- `regfacts::flags::find_facts` meets its contract. Assumes nothing.
-use mathlib.Core.Path.{◌∙◌, sym}
-use native.Mathlib.Omega.{arith}
+use mathlib.Core.Path.{sym}
 use Rattle.regfacts.proofs.Turned.{turning_none, turning_more, turning_end, turning_fits}
 use Rattle.regfacts.proofs.flags.find_facts.Goals as goal
 
@@ -13,14 +12,8 @@ loop-r-init c = turning_none (rw (sym c.find_soles.ensures.size) at c.find_soles
 pub flags-requires : goal.flags-requires
 flags-requires c = turning_fits c.requires.0 (rw c.find_soles.ensures.size c.requires.1) c.loop-r.invariant c.loop-r-test.true
 
-pub loop-r-smaller : goal.loop-r-smaller
-loop-r-smaller c = omega (arith, c.loop-r.invariant.size, c.loop-r-test.true)
-
 pub loop-r-preserved : goal.loop-r-preserved
 loop-r-preserved c = turning_more c.requires.0 c.loop-r.invariant c.loop-r-test.true c.flags.ensures
-
-pub shape_of-regs : goal.shape_of-regs
-shape_of-regs c = c.loop-r.invariant.size ∙ c.find_soles.ensures.size
 
 pub returns : goal.returns
 returns c = turning_end c.find_soles.ensures.size c.loop-r.invariant c.loop-r-test.false

@@ -4,8 +4,8 @@ use mathlib.Core.Path.{ap}
 use mathlib.Core.Bool.{not}
 use Rattle.summary.proofs.notes.forget.Goals as goal
 
-pub returns-then-not-dropped : goal.returns-then-not-dropped
-returns-then-not-dropped c = forgot_no _ _ _ (ap not c.if-not-dropped.true)
+pub returns-then-dropped : goal.returns-then-dropped
+returns-then-dropped c = rw c.temp.ensures (forgot_yes _ _ _ (ap not c.if-dropped.true))
 
-pub returns : goal.returns
-returns c = forgot_yes _ _ _ (ap not c.if-not-dropped.false)
+pub returns-else-dropped : goal.returns-else-dropped
+returns-else-dropped c = forgot_no _ _ _ (ap not c.if-dropped.false)

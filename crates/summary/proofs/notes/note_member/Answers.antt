@@ -3,4 +3,4 @@ use Rattle.summary.proofs.Summing.{member_is}
 use Rattle.summary.proofs.notes.note_member.Goals as goal
 
 pub returns : goal.returns
-returns c = member_is _ _
+returns c = rw c.temp-k.ensures (member_is _ _)

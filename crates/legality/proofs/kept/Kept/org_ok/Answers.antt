@@ -1,0 +1,7 @@
+-- `legality::kept::Kept::org_ok` meets its contract. Assumes nothing.
+use mathlib.Core.Path.{refl}
+use Rattle.legality.proofs.Testing.{org_is}
+use Rattle.legality.proofs.kept.Kept.org_ok.Goals as goal
+
+pub returns : goal.returns
+returns c = org_is _ _ _ _ refl

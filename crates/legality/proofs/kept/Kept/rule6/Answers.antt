@@ -1,0 +1,7 @@
+-- `legality::kept::Kept::rule6` meets its contract. Assumes nothing.
+use mathlib.Core.Path.{refl}
+use Rattle.legality.proofs.Testing.{own_words}
+use Rattle.legality.proofs.kept.Kept.rule6.Goals as goal
+
+pub returns : goal.returns
+returns c = own_words _ _ refl

@@ -1,6 +1,0 @@
--- `legality::rules::still` meets its contract. Assumes nothing.
-use Rattle.legality.proofs.Testing.{still_is}
-use Rattle.legality.proofs.rules.still.Goals as goal
-
-pub returns : goal.returns
-returns c = still_is _ _ _ _
