@@ -3,7 +3,6 @@ use mathlib.Core.Bool.{Bool, true, false, cond}
 use mathlib.Core.Path.{◌≡◌, refl, sym, ap, subst, ◌∙◌}
 use mathlib.Core.List.{List}
 use Prim.Native.Nat.{ℕ, ◌<◌}
-use native.Mathlib.Omega.{arith}
 use lib.ListN.{get_or}
 use Rattle.model.specs.Kinds.{Stmt, kinds, kind_of, place, Br, CondBr, Case}
 use Rattle.model.specs.Picture.{Inst, kind, is_kind, End, goes, parts, cases, stops, end_of}
