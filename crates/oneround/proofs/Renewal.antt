@@ -15,8 +15,7 @@ use Rattle.model.specs.Live.{read_first, written}
 use Rattle.model.specs.Refusal.{refusal, records}
 use Rattle.model.specs.Analyse.{Facts}
 use Rattle.model.specs.Move.{Plan, apply}
-use Rattle.laws.proofs.Accepted.{Accepted, accepted}
-use Rattle.laws.proofs.Sizes.{few_types, regs_lent}
+use Rattle.laws.proofs.Accepted.{Accepted}
 use Rattle.laws.proofs.Moving.{Moving, x_block}
 use Rattle.laws.proofs.Endings.{preds_kept}
 use Rattle.laws.proofs.Unchanged.{same_blocks, same_types, regs_more}
@@ -35,9 +34,6 @@ use Rattle.oneround.specs.Make.{Renewing, Renewed}
 -- ---- what is asked to make rows
 
 module _ {bounds recs ops work64 : List ℕ} {was regs from into : ℕ} (k : Renewing bounds recs ops work64 was regs from into) where
-  pub regs_few : regs ≤ 65536
-  regs_few = let ok = accepted k.Q (length work64) k.w32 records k.accepted in let e = k.regs_are in let a = regs_lent k.Q ok in let b = few_types k.Q ok in omega arith
-
   pub renew_ask : {r : ℕ} (bits : List ℕ) → length bits ≡ length work64 → r ≡ regs → RowsAsk bounds recs ops r bits
   renew_ask bits e er =
       rows_asked k.Q k.w32 bits (subst (λ (n : ℕ). refusal k.Q n k.w32 records ≡ 0) (sym e) k.accepted) k.bounds_are k.recs_are k.ops_are (er ∙ k.regs_are)
@@ -71,10 +67,6 @@ renewed_two {bounds} {recs} {ops} {work64} {mid} {work64'} {v} {w} {from} {into}
         rows_else (drawn bounds recs ops [] []) w b mid work64' into hi h n oi (rows_else (drawn bounds recs ops [] []) w b work64 mid from hf h m of (f ew m n))
 
 -- with widths that are equal
-pub renewed_at : {bounds recs ops work64 work64' : List ℕ} {v w v' w' from into : ℕ} → v ≡ v' → w ≡ w' → Renewed bounds recs ops work64 v w from into work64' → Renewed bounds recs ops work64 v' w' from into work64'
-renewed_at {bounds} {recs} {ops} {work64} {work64'} {v} {w} {v'} {w'} {from} {into} e f n =
-    subst (λ (z : ℕ). Renewed bounds recs ops work64 z w' from into work64') e (subst (λ (z : ℕ). Renewed bounds recs ops work64 v z from into work64') f n)
-
 -- ---- what the call began with, after a move
 
 module _ (P : Picture) (G : Facts) (a : Plan) (mv : Moving P G a) where

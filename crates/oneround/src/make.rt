@@ -7,33 +7,25 @@ use crate::weigh::{Line, Step};
 use apply::apply;
 use apply::needs::Counts;
 use flow::rows::{all_rows, block_rows};
+use inst::code::Code;
 use inst::table::Table;
 use model::CHAIN_WORDS;
 use sizes::{Sizes, at_stamps};
 use words::bits::width;
-use words::numbers::wide;
 
 // After move l, the rows of its two blocks anew; all rows, where those of the registers in use are wider than with `was` registers.
-fn renew(
-    t: &Table,
-    bounds: &[u32],
-    recs: &[u32],
-    ops: &[u32],
-    work64: &mut [u64],
-    was: u32,
-    l: Line,
-)
-    requires { Renewing bounds.now recs.now ops.now work64.old was l.registers l.moved.from.0 l.moved.into.0 }
-    ensures { Renewed bounds.now recs.now ops.now work64.old (width was) (width l.registers) l.moved.from.0 l.moved.into.0 work64.new }
+fn renew(code: &Code, bounds: &[u32], work64: &mut [u64], was: u32, l: Line)
+    requires { Renewing bounds.now code.now.recs.now code.now.ops.now work64.old was l.registers l.moved.from.0 l.moved.into.0 }
+    ensures { Renewed bounds.now code.now.recs.now code.now.ops.now work64.old (width was) (width l.registers) l.moved.from.0 l.moved.into.0 work64.new }
 {
     let mv = l.moved;
-    let k = wide(l.registers);
-    if width(k) != width(wide(was)) {
-        all_rows(work64, t, bounds, recs, ops, k);
+    let k = l.registers as usize;
+    if width(k) != width(was as usize) {
+        all_rows(work64, code.table, bounds, code.recs, code.ops, k);
         return;
     }
-    block_rows(work64, t, bounds, recs, ops, k, mv.from);
-    block_rows(work64, t, bounds, recs, ops, k, mv.into);
+    block_rows(work64, code.table, bounds, code.recs, code.ops, k, mv.from);
+    block_rows(work64, code.table, bounds, code.recs, code.ops, k, mv.into);
 }
 
 // The round's move, if it fits.
@@ -59,7 +51,7 @@ pub fn make(
     let a = at_stamps(s);
     let c = Counts {
         regs: s.regs,
-        opers: wide(s.opers),
+        opers: s.opers as usize,
     };
     apply(
         t,
@@ -74,5 +66,10 @@ pub fn make(
         l.moved,
         c,
     );
-    renew(t, bounds, recs, ops, work64, s.regs, l);
+    let code = Code {
+        table: t,
+        recs,
+        ops,
+    };
+    renew(&code, bounds, work64, s.regs, l);
 }

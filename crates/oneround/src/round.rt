@@ -9,6 +9,7 @@ use crate::make::make;
 use crate::weigh::{Step, weigh};
 use facts::Fact;
 use find::find_move;
+use inst::code::Code;
 use inst::table::Table;
 use sizes::Sizes;
 
@@ -38,7 +39,12 @@ pub fn round(
     let found = find_move(
         t, bounds, recs, ops, pairs, targets, replay, work64, work32, facts, s,
     );
-    let r = weigh(t, bounds, recs, types, ops, work64, work32, s, found);
+    let code = Code {
+        table: t,
+        recs,
+        ops,
+    };
+    let r = weigh(&code, bounds, types, work64, work32, s, found);
     make(
         t, bounds, recs, locs, vias, types, ops, work64, work32, s, r,
     );

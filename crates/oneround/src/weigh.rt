@@ -6,10 +6,9 @@ ghost use Rattle.oneround.specs.Weigh.{Needing, Needed, IsStepped, Ready, Weighe
 
 use apply::moves::Move;
 use apply::needs::{Counts, needs};
-use inst::table::Table;
+use inst::code::Code;
 use model::CHAIN_WORDS;
 use sizes::{Sizes, at_stamps};
-use words::numbers::wide;
 
 // A move that fits, with the registers and operands in use after it.
 #[derive(Clone, Copy)]
@@ -29,30 +28,26 @@ pub enum Step {
 
 // What move mv needs: the registers and operands in use after it. Its new registers are then in the words of its positions.
 fn count_needs(
-    t: &Table,
+    code: &Code,
     bounds: &[u32],
-    recs: &[u32],
     types: &[u32],
-    ops: &[u32],
     work64: &mut [u64],
     work32: &mut [u32],
     s: Sizes,
     mv: Move,
 ) -> Counts
-    requires { Exists (λ n. Needing bounds.now recs.now types.now ops.now s work64.old work32.old n mv) }
-    ensures { Needed bounds.now recs.now types.now ops.now s work64.old work32.old mv work64.new work32.new result }
+    requires { Exists (λ n. Needing bounds.now code.now.recs.now types.now code.now.ops.now s work64.old work32.old n mv) }
+    ensures { Needed bounds.now code.now.recs.now types.now code.now.ops.now s work64.old work32.old mv work64.new work32.new result }
 {
     let a = at_stamps(s);
     let c = Counts {
         regs: s.regs,
-        opers: wide(s.opers),
+        opers: s.opers as usize,
     };
     needs(
-        t,
+        code,
         bounds,
-        recs,
         types,
-        ops,
         &mut work64[a..a + s.lent],
         &mut work32[..CHAIN_WORDS],
         mv,
@@ -65,39 +60,35 @@ fn step_of(mv: Move, c: Counts, lent: usize, room: usize) -> Step
     requires { room ≤ 131072 }
     ensures { IsStepped mv c lent room result }
 {
-    let r = c.regs;
-    let u = c.opers;
-    if lent < wide(r) {
+    if lent < c.regs as usize {
         return Step::Short;
     }
-    if room < u {
+    if room < c.opers {
         return Step::Short;
     }
     Step::Goes(Line {
         moved: mv,
-        registers: r,
-        operands: u as u32,
+        registers: c.regs,
+        operands: c.opers as u32,
     })
 }
 
 // What the round comes to, of which r is the move, if there is one.
 pub fn weigh(
-    t: &Table,
+    code: &Code,
     bounds: &[u32],
-    recs: &[u32],
     types: &[u32],
-    ops: &[u32],
     work64: &mut [u64],
     work32: &mut [u32],
     s: Sizes,
     r: Option<Move>,
 ) -> Step
-    requires { Ready bounds.now recs.now types.now ops.now s work64.old work32.old r }
-    ensures { Weighed bounds.now recs.now types.now ops.now s work64.old work32.old r work64.new work32.new result }
+    requires { Ready bounds.now code.now.recs.now types.now code.now.ops.now s work64.old work32.old r }
+    ensures { Weighed bounds.now code.now.recs.now types.now code.now.ops.now s work64.old work32.old r work64.new work32.new result }
 {
     let Some(mv) = r else {
         return Step::Ends;
     };
-    let c = count_needs(t, bounds, recs, types, ops, work64, work32, s, mv);
-    step_of(mv, c, s.lent, ops.len())
+    let c = count_needs(code, bounds, types, work64, work32, s, mv);
+    step_of(mv, c, s.lent, code.ops.len())
 }

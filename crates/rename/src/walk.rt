@@ -33,11 +33,7 @@ fn pass(
 {
     let does = uses(t, recs, q);
     if k.mark == 0 {
-        let slots = Slots {
-            recs,
-            p: q,
-            does,
-        };
+        let slots = Slots { recs, p: q, does };
         forget(&slots, names);
         return o;
     }
@@ -78,24 +74,13 @@ pub fn skip_all(code: &Code, w: &[u32], s: Range<usize>, names: &mut [u64])
 }
 
 // Record q of the target: its reads are renamed, and then what it writes keeps its name.
-fn own(
-    t: &Table,
-    recs: &mut [u32],
-    q: usize,
-    ops: &mut [u32],
-    o: usize,
-    names: &mut [u64],
-) -> usize
+fn own(t: &Table, recs: &mut [u32], q: usize, ops: &mut [u32], o: usize, names: &mut [u64]) -> usize
     requires { Exists (λ u. Pass q u o names.old 1 absent absent recs.old ops.old) }
     ensures { Owned q o names.old names.new recs.old recs.new ops.old ops.new result }
 {
     let does = uses(t, recs, q);
     let r = remake(recs, q, does, ops, o, names, ABSENT);
-    let slots = Slots {
-        recs,
-        p: q,
-        does,
-    };
+    let slots = Slots { recs, p: q, does };
     forget(&slots, names);
     r
 }

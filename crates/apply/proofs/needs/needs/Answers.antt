@@ -1,5 +1,4 @@
 -- `apply::needs::needs` meets its contract. Assumes nothing.
-use native.Mathlib.Omega.{arith}
 use Rattle.apply.proofs.Asked.{x_words, t_words, ready}
 use Rattle.apply.proofs.Done.{asks_kept, ask_at, needs_law}
 use Rattle.apply.proofs.needs.needs.Goals as goal
@@ -18,9 +17,6 @@ count_all-more-requires c =
     let l = c.allot-regs.ensures in
     let kept = asks_kept _ _ l.all.keeps l.all.size c.requires.is in
     (record { u = c.args.c.opers; is = ask_at kept c.start.ensures c.target.ensures.start c.target.ensures.end })
-
-pub overflow_add-result : goal.overflow_add-result
-overflow_add-result c = let k = c.requires.is in omega (arith, c.count_all-more.ensures.1, k.operands.lent, k.operands.few)
 
 pub returns : goal.returns
 returns c =

@@ -1,4 +1,5 @@
 -- `oneround::make::make` meets its contract. Assumes nothing.
+use mathlib.Core.Path.{refl}
 use Rattle.oneround.proofs.Making.{blocks_few, lent_few, chain_long, names_fit, asked, renewing, made}
 use Rattle.oneround.proofs.make.make.Goals as goal
 
@@ -14,7 +15,7 @@ slice_bounds-apply-end-2 c = chain_long c.requires
 pub apply-requires : goal.apply-requires
 apply-requires c =
     let p = c.requires in
-    let z = asked p c.in-Goes.is c.at_stamps-a.ensures.0 c.wide.ensures in
+    let z = asked p c.in-Goes.is c.at_stamps-a.ensures.0 refl in
     record {
       t_value = z.0;
       fits = z.1;
@@ -23,8 +24,8 @@ apply-requires c =
 pub renew-requires : goal.renew-requires
 renew-requires c =
     let p = c.requires in
-    renewing p c.in-Goes.is c.at_stamps-a.ensures.0 c.wide.ensures c.apply.new.names c.apply.auto.names c.apply.ensures
+    renewing p c.in-Goes.is c.at_stamps-a.ensures.0 refl c.apply.new.names c.apply.auto.names c.apply.ensures
 
 pub returns : goal.returns
 returns c =
-    made c.requires c.in-Goes.is c.at_stamps-a.ensures.0 c.wide.ensures c.apply.new.names c.apply.auto.names c.apply.ensures c.renew.ensures
+    made c.requires c.in-Goes.is c.at_stamps-a.ensures.0 refl c.apply.new.names c.apply.auto.names c.apply.ensures c.renew.ensures

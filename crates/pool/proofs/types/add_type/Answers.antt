@@ -1,10 +1,8 @@
 -- `pool::types::add_type` meets its contract. Assumes nothing.
-use native.Mathlib.Omega.{arith}
 use mathlib.Core.Path.{sym, ap, ◌∙◌}
 use Prim.Native.Nat.{ℕ}
 use lib.ListN.{get_or, length-set}
 use Rattle.inst.specs.Index.{word_of}
-use Rattle.inst.proofs.Indices.{below}
 use Rattle.pool.proofs.Typing.{added_none, added_plain, added_signal, signal_fits}
 use Rattle.pool.proofs.types.add_type.Goals as goal
 
@@ -13,12 +11,6 @@ returns-then-reg-n c = added_none c.if-reg-n.true
 
 pub returns-in_default : goal.returns-in_default
 returns-in_default c = absurd ((c.requires.1 (c.if-reg-n.false)).0 (ap word_of c.in_default.is))
-
-pub bounds-types-at : goal.bounds-types-at
-bounds-types-at c = omega (arith, c.at.ensures, below c.in-Some.is c.requires.0)
-
-pub bounds-types-n : goal.bounds-types-n
-bounds-types-n c = omega (arith, (c.requires.1 (c.if-reg-n.false)).1)
 
 pub bounds-types-n-then-ty-eq4 : goal.bounds-types-n-then-ty-eq4
 bounds-types-n-then-ty-eq4 c =

@@ -5,9 +5,6 @@ use native.Mathlib.Nat.{le_antisymm}
 use Rattle.pool.proofs.Releases.{releasing_turn, releasing_end}
 use Rattle.pool.proofs.held.Pool.release.Goals as goal
 
-pub bounds-self-self : goal.bounds-self-self
-bounds-self-self c = let h = c.loop-i.invariant in let few = c.args.self.now.few in omega (arith, h.nh_same, h.nf_same, h.so_far.small)
-
 pub loop-i-preserved : goal.loop-i-preserved
 loop-i-preserved c =
     let h = c.loop-i.invariant in
@@ -20,9 +17,6 @@ loop-i-preserved c =
       next_same = h.next_same;
       so_far = releasing_turn h.so_far (omega arith) (omega (arith, h.nf_same, h.so_far.small)) c.from-gone.result c.from-gone.ensures;
     }
-
-pub overflow_sub-self-2 : goal.overflow_sub-self-2
-overflow_sub-self-2 c = let h = c.loop-i.invariant in let e = c.loop-i.auto.i-end in omega (arith, h.nh_same, h.so_far.small)
 
 pub invariant_of-self-2 : goal.invariant_of-self-2
 invariant_of-self-2 c = record { few = let h = c.loop-i.invariant in let few = c.args.self.now.few in let e = c.loop-i.auto.i-end in omega (arith, h.so_far.small, h.nh_same, h.nf_same) }
