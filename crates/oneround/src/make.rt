@@ -7,6 +7,7 @@ use crate::weigh::{Line, Step};
 use apply::apply;
 use apply::needs::Counts;
 use flow::rows::{all_rows, block_rows};
+use inst::code::Code;
 use inst::table::Table;
 use model::CHAIN_WORDS;
 use sizes::{Sizes, at_stamps};
@@ -28,12 +29,17 @@ fn renew(
 {
     let mv = l.moved;
     let k = wide(l.registers);
+    let code = Code {
+        table: t,
+        recs,
+        ops,
+    };
     if width(k) != width(wide(was)) {
-        all_rows(work64, t, bounds, recs, ops, k);
+        all_rows(work64, &code, bounds, k);
         return;
     }
-    block_rows(work64, t, bounds, recs, ops, k, mv.from);
-    block_rows(work64, t, bounds, recs, ops, k, mv.into);
+    block_rows(work64, &code, bounds, k, mv.from);
+    block_rows(work64, &code, bounds, k, mv.into);
 }
 
 // The round's move, if it fits.

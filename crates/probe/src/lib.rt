@@ -13,9 +13,10 @@ ghost use Rattle.flow.specs.Live.{Live};
 ghost use Rattle.cfg.specs.Preds.{Preds};
 
 use acceptance::refusal;
-use cfg::graph::find_preds;
+use cfg::graph::{Func, find_preds};
 use flow::live::live_in;
 use flow::rows::all_rows;
+use inst::code::Code;
 use inst::table::Table;
 use sizes::{InUse, Room};
 use words::numbers::wide;
@@ -90,7 +91,14 @@ pub fn virdzeba_preds<'a>(
     if r != 0 {
         return r;
     }
-    find_preds(words, &t, bounds, recs, pairs, targets);
+    let func = Func {
+        table: &t,
+        bounds,
+        recs,
+        pairs,
+        targets,
+    };
+    find_preds(words, &func);
     0
 }
 
@@ -132,7 +140,19 @@ pub fn virdzeba_live<'a>(
         return r;
     }
     let k = wide(registers);
-    all_rows(bits, &t, bounds, recs, ops, k);
-    live_in(bits, &t, bounds, recs, pairs, targets, k);
+    let code = Code {
+        table: &t,
+        recs,
+        ops,
+    };
+    let func = Func {
+        table: &t,
+        bounds,
+        recs,
+        pairs,
+        targets,
+    };
+    all_rows(bits, &code, bounds, k);
+    live_in(bits, &func, k);
     0
 }

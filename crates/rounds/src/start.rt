@@ -6,6 +6,7 @@ ghost use Rattle.rounds.specs.Going.{Started};
 
 use crate::judge::{Verdict, judge};
 use crate::state::At;
+use cfg::graph::Func;
 use inst::table::Table;
 use model::{Answer, Used};
 use search::begin::begin;
@@ -66,7 +67,14 @@ pub fn start<'a>(
         lent: types.len(),
         opers: used.opers,
     };
-    begin(t, bounds, recs, ops, pairs, targets, work64, work32, s);
+    let func = Func {
+        table: t,
+        bounds,
+        recs,
+        pairs,
+        targets,
+    };
+    begin(&func, ops, work64, work32, s);
     let done = Answer::Done(Used {
         rounds: 0,
         registers: used.regs,

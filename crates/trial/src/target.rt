@@ -3,6 +3,7 @@ ghost use Rattle.std.specs.Prelude.{◌≡◌, ◌≤◌, length};
 ghost use Rattle.facts.specs.Marks.{bare};
 ghost use Rattle.trial.specs.Target.{from_start, taken, Aiming, Aimed, Trying, TargetTried};
 
+use cfg::graph::Func;
 use chains::chain::Chain;
 use chainwords::marks::{put_facts, put_uses};
 use facts::Fact;
@@ -91,17 +92,14 @@ fn take_aim<'a>(
             sweeps: none,
         };
     }
-    put_needed(
-        t,
+    let func = Func {
+        table: t,
         bounds,
         recs,
         pairs,
         targets,
-        work64,
-        width(wide(s.regs)),
-        g.into,
-        g.other,
-    );
+    };
+    put_needed(&func, work64, width(wide(s.regs)), g.into, g.other);
     let all = from_start(o, st, g.inside, g.places, g.least);
     Aim {
         least: g.least,
