@@ -4,6 +4,7 @@ ghost use Rattle.search.specs.Search.{Looking, Seeking};
 ghost use Rattle.find.specs.Find.{stand_of, outcome, Opened, GoneOn};
 
 use apply::moves::Move;
+use cfg::graph::Func;
 use inst::table::Table;
 use search::find::{Look, first_look, seek};
 use sizes::Sizes;
@@ -40,7 +41,14 @@ pub fn open<'a>(
     requires { Looking bounds.now recs.now pairs.now targets.now replay.now s work64.old work32.now }
     ensures { Opened bounds.now recs.now pairs.now targets.now replay.now s work64.old work32.now work64.new result }
 {
-    stand_of(first_look(t, bounds, recs, pairs, targets, replay, work64, work32, s))
+    let func = Func {
+        table: t,
+        bounds,
+        recs,
+        pairs,
+        targets,
+    };
+    stand_of(first_look(&func, replay, work64, work32, s))
 }
 
 // After chain k was tried, with answer r: its move, or the next chain.

@@ -9,6 +9,8 @@ ghost use Rattle.probe.specs.Attempt.{move_number, with_move, attempt, with_atte
 
 use acceptance::accept;
 use acceptance::lent::Lent;
+use apply::moves::Move;
+use cfg::graph::Func;
 use facts::Fact;
 use flow::live::live_in;
 use inst::index::BlockId;
@@ -118,8 +120,15 @@ fn seek<'a>(
     requires { Asking bounds.now recs.now ops.now pairs.now targets.now replay.now s (length work64.old) (length work32.old) x.0 }
     ensures { Seen bounds.now recs.now ops.now pairs.now targets.now replay.now s work64.old work32.old work64.new work32.new x.0 result }
 {
-    begin(t, bounds, recs, ops, pairs, targets, work64, work32, s);
-    live_in(work64, t, bounds, recs, pairs, targets, s.regs as usize);
+    let func = Func {
+        table: t,
+        bounds,
+        recs,
+        pairs,
+        targets,
+    };
+    begin(&func, ops, work64, work32, s);
+    live_in(work64, &func, s.regs as usize);
     look_from(bounds, recs, replay, work32, s, x)
 }
 

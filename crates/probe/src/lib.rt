@@ -14,9 +14,10 @@ ghost use Rattle.cfg.specs.Preds.{Preds};
 
 use acceptance::accept;
 use acceptance::lent::Lent;
-use cfg::graph::find_preds;
+use cfg::graph::{Func, find_preds};
 use flow::live::live_in;
 use flow::rows::all_rows;
+use inst::code::Code;
 use inst::table::Table;
 use sizes::{InUse, Room};
 
@@ -108,7 +109,14 @@ pub fn virdzeba_preds<'a>(
     if let Err(cause) = accept(lent, room, &t) {
         return cause.number();
     }
-    find_preds(words, &t, bounds, recs, pairs, targets);
+    let func = Func {
+        table: &t,
+        bounds,
+        recs,
+        pairs,
+        targets,
+    };
+    find_preds(words, &func);
     0
 }
 
@@ -157,7 +165,19 @@ pub fn virdzeba_live<'a>(
         return cause.number();
     }
     let k = registers as usize;
-    all_rows(bits, &t, bounds, recs, ops, k);
-    live_in(bits, &t, bounds, recs, pairs, targets, k);
+    let code = Code {
+        table: &t,
+        recs,
+        ops,
+    };
+    let func = Func {
+        table: &t,
+        bounds,
+        recs,
+        pairs,
+        targets,
+    };
+    all_rows(bits, &code, bounds, k);
+    live_in(bits, &func, k);
     0
 }

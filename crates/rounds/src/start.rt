@@ -7,6 +7,7 @@ ghost use Rattle.rounds.specs.Going.{Started};
 use crate::judge::judge;
 use crate::state::At;
 use acceptance::lent::Lent;
+use cfg::graph::Func;
 use inst::table::Table;
 use model::{Answer, Used};
 use search::begin::begin;
@@ -57,17 +58,14 @@ pub fn start(
         lent: lent.types.len(),
         opers: used.opers,
     };
-    begin(
-        t,
-        lent.bounds,
-        lent.recs,
-        lent.ops,
-        lent.pairs,
-        lent.targets,
-        work64,
-        work32,
-        s,
-    );
+    let func = Func {
+        table: t,
+        bounds: lent.bounds,
+        recs: lent.recs,
+        pairs: lent.pairs,
+        targets: lent.targets,
+    };
+    begin(&func, lent.ops, work64, work32, s);
     let done = Answer::Done(Used {
         rounds: 0,
         registers: used.regs,

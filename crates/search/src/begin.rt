@@ -4,33 +4,25 @@
 ghost use Rattle.std.specs.Prelude.{◌≡◌};
 ghost use Rattle.search.specs.Search.{Beginning, Began};
 
-use cfg::graph::find_preds;
+use cfg::graph::{Func, find_preds};
 use flow::rows::all_rows;
 use inst::code::Code;
-use inst::table::Table;
 use regfacts::flags::find_facts;
 use sizes::{Sizes, at_preds, at_regs};
-use words::numbers::wide;
 
-pub fn begin<'a>(
-    t: &Table,
-    bounds: &[u32],
-    recs: &'a [u32],
-    ops: &[u32],
-    pairs: &[u32],
-    targets: &'a [u32],
-    work64: &mut [u64],
-    work32: &mut [u32],
-    s: Sizes,
-)
-    requires { Beginning bounds.now recs.now ops.now pairs.now targets.now work64.old work32.old s }
-    ensures { Began bounds.now recs.now ops.now pairs.now targets.now work64.old work32.old s work64.new work32.new }
+pub fn begin(func: &Func<'_>, ops: &[u32], work64: &mut [u64], work32: &mut [u32], s: Sizes)
+    requires { Beginning func.now.bounds.now func.now.recs.now ops.now func.now.pairs.now func.now.targets.now work64.old work32.old s }
+    ensures { Began func.now.bounds.now func.now.recs.now ops.now func.now.pairs.now func.now.targets.now work64.old work32.old s work64.new work32.new }
 {
-    let b = bounds.len() / 2;
+    let code = Code {
+        table: func.table,
+        recs: func.recs,
+        ops,
+    };
+    let b = func.bounds.len() / 2;
     let a = at_regs(s);
     let p = at_preds(s);
-    all_rows(work64, t, bounds, recs, ops, wide(s.regs));
-    let code = Code { table: t, recs, ops };
+    all_rows(work64, &code, func.bounds, s.regs as usize);
     find_facts(&code, &mut work64[a..a + s.lent], s.insts);
-    find_preds(&mut work32[p..p + 2 * b], t, bounds, recs, pairs, targets);
+    find_preds(&mut work32[p..p + 2 * b], func);
 }

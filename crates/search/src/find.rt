@@ -3,14 +3,12 @@
 ghost use Rattle.std.specs.Prelude.{◌≡◌, ◌≤◌, ◌<◌};
 ghost use Rattle.search.specs.Search.{Looking, Seeking, Looked, Sought, Opened};
 
+use cfg::graph::Func;
 use chains::chain::{Chain, find_chain};
 use chains::pass::Sink;
 use flow::live::live_in;
 use inst::index::BlockId;
-use inst::table::Table;
 use sizes::{Sizes, at_preds};
-use words::bits::width;
-use words::numbers::wide;
 use worth::look::worth_a_look;
 
 // A block and the chain from it, which is worth a look.
@@ -43,7 +41,7 @@ pub fn look_from(
     if !worth_a_look(bounds, recs, replay, c, x) {
         return None;
     }
-    Some(Look { x: x, c: c })
+    Some(Look { x, c })
 }
 
 // The first such block in number order, from block `from` on.
@@ -58,36 +56,26 @@ pub fn seek(
     requires { Seeking bounds.now recs.now replay.now s work32.now × (from ≤ s.blocks) }
     ensures { Sought bounds.now recs.now replay.now s work32.now from result }
 {
-    let n = s.blocks;
-    let mut b = from;
-    while b < n {
-        let Some(x) = BlockId::new(b, n) else {
-            return None;
-        };
-        let r = look_from(bounds, recs, replay, work32, s, x);
-        if let Some(k) = r {
+    for b in from..s.blocks {
+        let x = BlockId::known(b, s.blocks);
+        if let Some(k) = look_from(bounds, recs, replay, work32, s, x) {
             return Some(k);
         }
-        b += 1;
     }
     None
 }
 
 // A round's first: live-in anew, then the search from block 0 on.
-pub fn first_look<'a>(
-    t: &Table,
-    bounds: &[u32],
-    recs: &'a [u32],
-    pairs: &[u32],
-    targets: &'a [u32],
+pub fn first_look(
+    func: &Func<'_>,
     replay: &[u32],
     work64: &mut [u64],
     work32: &[u32],
     s: Sizes,
 ) -> Option<Look>
-    requires { Looking bounds.now recs.now pairs.now targets.now replay.now s work64.old work32.now }
-    ensures { Opened bounds.now recs.now pairs.now targets.now replay.now s work64.old work32.now work64.new result }
+    requires { Looking func.now.bounds.now func.now.recs.now func.now.pairs.now func.now.targets.now replay.now s work64.old work32.now }
+    ensures { Opened func.now.bounds.now func.now.recs.now func.now.pairs.now func.now.targets.now replay.now s work64.old work32.now work64.new result }
 {
-    live_in(work64, t, bounds, recs, pairs, targets, wide(s.regs));
-    seek(bounds, recs, replay, work32, s, 0)
+    live_in(work64, func, s.regs as usize);
+    seek(func.bounds, func.recs, replay, work32, s, 0)
 }

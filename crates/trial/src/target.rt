@@ -3,6 +3,7 @@ ghost use Rattle.std.specs.Prelude.{◌≡◌, ◌≤◌, length};
 ghost use Rattle.facts.specs.Marks.{bare};
 ghost use Rattle.trial.specs.Target.{from_start, taken, Aiming, Aimed, Trying, TargetTried};
 
+use cfg::graph::Func;
 use chains::chain::Chain;
 use chainwords::marks::{put_facts, put_uses};
 use facts::Fact;
@@ -88,17 +89,14 @@ fn take_aim<'a>(
             sweeps: from_start(o, st, 0, 0, 1),
         };
     }
-    put_needed(
-        t,
+    let func = Func {
+        table: t,
         bounds,
         recs,
         pairs,
         targets,
-        work64,
-        width(s.regs as usize),
-        g.into,
-        g.other,
-    );
+    };
+    put_needed(&func, work64, width(s.regs as usize), g.into, g.other);
     Aim {
         least: g.least,
         end: COPIED + s.regs as usize,

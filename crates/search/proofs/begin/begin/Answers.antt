@@ -1,4 +1,5 @@
 -- `begin::begin` meets its contract. Assumes nothing.
+use mathlib.Core.Path.{refl}
 use native.Mathlib.Omega.{arith}
 use Rattle.search.proofs.Start.{rooms, few_lent, few_blocks, start_at, regs_room, rows_ask, facts_ask, preds_ask, began}
 use Rattle.search.proofs.begin.begin.Goals as goal
@@ -10,7 +11,7 @@ pub at_preds-p-requires : goal.at_preds-p-requires
 at_preds-p-requires c = few_lent c.requires
 
 pub all_rows-requires : goal.all_rows-requires
-all_rows-requires c = let p = c.requires in let z = rows_ask p _ c.wide.ensures in (z.0, z.1, z.2)
+all_rows-requires c = let p = c.requires in let z = rows_ask p _ refl in (z.0, z.1, z.2)
 
 pub overflow_add-a : goal.overflow_add-a
 overflow_add-a c = let k = c.requires in let r = rooms k in let a = c.at_regs-a.ensures in omega (arith, r.few_blocks, r.few_lent, a.1, regs_room k a.0, r.room32, c.at_preds-p.ensures)
@@ -33,7 +34,7 @@ find_preds-requires c = let p = c.requires in let z = preds_ask p _ c.at_preds-p
 pub returns : goal.returns
 returns c =
     let k = c.requires in
-    began k _ c.all_rows.ensures.bits_len_unchanged _ _ _ _ c.find_preds.new.words (start_at k c.at_regs-a.ensures.0) c.at_preds-p.ensures c.wide.ensures
+    began k _ c.all_rows.ensures.bits_len_unchanged _ _ _ _ c.find_preds.new.words (start_at k c.at_regs-a.ensures.0) c.at_preds-p.ensures refl
     c.all_rows.ensures.by_index c.find_facts.ensures c.work32-1.given.0 c.find_preds.ensures
 
 pub slice_bounds-find_facts-end : goal.slice_bounds-find_facts-end

@@ -1,19 +1,15 @@
 -- `search::find::first_look` meets its contract. Assumes nothing.
+use mathlib.Core.Path.{refl}
 use native.Mathlib.Omega.{arith}
 use Rattle.search.proofs.Anew.{live_ask, seeking, opened}
 use Rattle.search.proofs.find.first_look.Goals as goal
 
 pub live_in-requires : goal.live_in-requires
-live_in-requires c =
-    let z = live_ask c.requires _ c.wide.ensures in
-    (z.0, z.1, z.2)
+live_in-requires c = let z = live_ask c.requires _ refl in (z.0, z.1, z.2)
 
 pub seek-requires : goal.seek-requires
 seek-requires c = (seeking c.requires, omega arith)
 
-pub shape_of-work64 : goal.shape_of-work64
-shape_of-work64 c = c.work64-1.given
-
 pub returns : goal.returns
 returns c =
-    opened c.wide.ensures (record { size = c.work64-1.given; live = c.live_in.ensures.by_index; behind = c.live_in.ensures.bits_unchanged }) c.seek.ensures
+    opened refl (record { size = c.live_in.auto.bits; live = c.live_in.ensures.by_index; behind = c.live_in.ensures.bits_unchanged }) c.seek.ensures
