@@ -58,9 +58,5 @@ pub fn set_member(facts: &mut [Fact], p: usize, b: bool)
     requires { p < length facts.old }
     ensures { facts.new ≡ set facts.old p (marked (get_or facts.old p no_fact) b) }
 {
-    if b {
-        facts[p].member = true;
-        return;
-    }
-    clear_member(facts, p);
+    facts[p].member = b;
 }

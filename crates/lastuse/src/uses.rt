@@ -5,17 +5,17 @@ ghost use Rattle.words.specs.Lists.{all};
 ghost use Rattle.summary.specs.Passes.{result_test};
 ghost use Rattle.model.specs.Picture.{inst, reads, writes};
 ghost use Rattle.inst.specs.Index.{word_of, Among};
-ghost use Rattle.inst.specs.Record.{Known, Used};
+ghost use Rattle.inst.specs.Record.{Known};
 ghost use Rattle.regfacts.specs.Written.{Fits, Good};
 ghost use Rattle.lastuse.specs.Uses.{note_in, Noticed, ReadOn, Legible, ReadersAlong};
 
 use chains::chain::Chain;
 use chains::cursor::{first, next};
+use inst::code::Code;
 use inst::index::Reg;
-use inst::table::Table;
 use legality::rules::unneeded_slots;
 use model::RECORDS;
-use summary::reads::{places, read_place};
+use summary::reads::{SLOTS, read_place};
 use summary::stamps::{Stamp, put_slots};
 
 // Position q reads register r, if it is one: r's writer has a reader.
@@ -35,69 +35,44 @@ fn note(st: &[u64], lasts: &mut [u32; RECORDS], r: Option<Reg>, q: u32)
 }
 
 // Position q reads what record g reads, place by place.
-fn note_places(
-    ops: &[u32],
-    recs: &[u32],
-    g: usize,
-    uses: u32,
-    st: &[u64],
-    lasts: &mut [u32; RECORDS],
-    q: u32,
-)
-    requires { Used recs.now g uses × Good recs.now ops.now (length st.now) g × ((x : ℕ) → x < length st.now → get_or st.now x 0 ≤ 800) × (length lasts.old ≡ 800) }
-    ensures { Noticed st.now (reads ops.now (inst recs.now g)) q lasts.old lasts.new }
+fn note_places(code: &Code, g: usize, st: &[u64], lasts: &mut [u32; RECORDS], q: u32)
+    requires { Good code.now.recs.now code.now.ops.now (length st.now) g × ((x : ℕ) → x < length st.now → get_or st.now x 0 ≤ 800) × (length lasts.old ≡ 800) }
+    ensures { Noticed st.now (reads code.now.ops.now (inst code.now.recs.now g)) q lasts.old lasts.new }
 {
-    let n = places(ops, recs, g);
-    let mut k = 0usize;
-    while k < n {
-        let r = read_place(ops, recs, g, uses, k, st.len());
-        note(st, lasts, r, q);
-        k += 1;
+    let slots = code.slots(g);
+    let xs = code.list(g);
+    for k in 0..SLOTS + xs.len() {
+        note(st, lasts, read_place(&slots, xs, k, st.len()), q);
     }
 }
 
 // Position q, record g: what it reads is noted, then what it writes.
-fn read_on(
-    t: &Table,
-    recs: &[u32],
-    ops: &[u32],
-    st: &mut [u64],
-    lasts: &mut [u32; RECORDS],
-    g: usize,
-    q: usize,
-)
-    requires { Good recs.now ops.now (length st.old) g × ((x : ℕ) → x < length st.old → get_or st.old x 0 ≤ 800) × (length lasts.old ≡ 800) × (q < 800) }
-    ensures { ReadOn (writes (inst recs.now g)) (reads ops.now (inst recs.now g)) q st.old lasts.old st.new lasts.new }
+fn read_on(code: &Code, st: &mut [u64], lasts: &mut [u32; RECORDS], g: usize, q: usize)
+    requires { Good code.now.recs.now code.now.ops.now (length st.old) g × ((x : ℕ) → x < length st.old → get_or st.old x 0 ≤ 800) × (length lasts.old ≡ 800) × (q < 800) }
+    ensures { ReadOn (writes (inst code.now.recs.now g)) (reads code.now.ops.now (inst code.now.recs.now g)) q st.old lasts.old st.new lasts.new }
 {
-    let u = inst::access::uses(t, recs, g);
-    note_places(ops, recs, g, u, st, lasts, q as u32);
+    note_places(code, g, st, lasts, q as u32);
     let v = q as u64 + 1;
-    let d = Stamp {
-        keep: 1,
-        lo: 0,
-        v: v,
-    };
-    put_slots(recs, g, u, st, d);
+    let d = Stamp { keep: 1, lo: 0, v };
+    put_slots(&code.slots(g), st, d);
 }
 
 // Each position's last reader in chain c: `lasts` holds each position itself at first.
 pub fn last_readers(
-    t: &Table,
-    recs: &[u32],
-    ops: &[u32],
+    code: &Code,
     bounds: &[u32],
     st: &mut [u64],
     lasts: &mut [u32; RECORDS],
     c: Chain,
 )
-    requires { Legible recs.now ops.now bounds.now c (length st.old) × (length lasts.old ≡ 800) × ((p : ℕ) → p < 800 → get_or lasts.old p 0 ≡ p) }
-    ensures { ReadersAlong recs.now ops.now bounds.now c lasts.new × (length st.new ≡ length st.old) }
+    requires { Legible code.now.recs.now code.now.ops.now bounds.now c (length st.old) × (length lasts.old ≡ 800) × ((p : ℕ) → p < 800 → get_or lasts.old p 0 ≡ p) }
+    ensures { ReadersAlong code.now.recs.now code.now.ops.now bounds.now c lasts.new × (length st.new ≡ length st.old) }
 {
     st.fill(0);
     let mut at = first(bounds, c);
     let mut q = 0usize;
     while at.g < at.past {
-        read_on(t, recs, ops, st, lasts, at.g, q);
+        read_on(code, st, lasts, at.g, q);
         at = next(bounds, c, at);
         q += 1;
     }
@@ -106,8 +81,7 @@ pub fn last_readers(
 // The last use of position p, record g, by its last reader: past the end if the target reads its value; the row of what is
 // live there begins at word `o` of `bits`.
 pub fn last_use(
-    t: &Table,
-    recs: &[u32],
+    code: &Code,
     regs: &[u32],
     bits: &[u64],
     o: usize,
@@ -116,11 +90,10 @@ pub fn last_use(
     p: usize,
     n: usize,
 ) -> u32
-    requires { Known recs.now g × Fits recs.now (length regs.now) g × (p < n) × (n ≤ 800) × (o ≤ length bits.now) }
-    ensures { result ≡ cond (all (result_test regs.now bits.now o p) (writes (inst recs.now g))) (get_or lasts.now p 0) n }
+    requires { Known code.now.recs.now g × Fits code.now.recs.now (length regs.now) g × (p < n) × (n ≤ 800) × (o ≤ length bits.now) }
+    ensures { result ≡ cond (all (result_test regs.now bits.now o p) (writes (inst code.now.recs.now g))) (get_or lasts.now p 0) n }
 {
-    let u = inst::access::uses(t, recs, g);
-    if unneeded_slots(recs, g, u, regs, bits, o, p) {
+    if unneeded_slots(&code.slots(g), regs, bits, o, p) {
         return lasts[p];
     }
     n as u32

@@ -4,25 +4,17 @@ ghost use Rattle.plan.specs.Cycle.{Choosable, Chose};
 
 use crate::settle::{Cycle, settle};
 use facts::Fact;
-use inst::table::Table;
+use inst::code::Code;
 
 // The facts' marks become the greatest legal set, unless it has fewer members than `least`. Says how many are marked. The row of registers
 // needed elsewhere begins at word `o` of `work`; its words from `s` on, one a register, are written. The notes of the sweeps are its own.
-pub fn legal_set(
-    t: &Table,
-    recs: &[u32],
-    ops: &[u32],
-    regs: &[u32],
-    work: &mut [u64],
-    facts: &mut [Fact],
-    z: Cycle,
-) -> u32
-    requires { Choosable recs.now ops.now regs.now work.old facts.old z }
-    ensures { Chose recs.now ops.now regs.now z work.old facts.old work.new facts.new result }
+pub fn legal_set(code: &Code, regs: &[u32], work: &mut [u64], facts: &mut [Fact], z: Cycle) -> u32
+    requires { Choosable code.now.recs.now code.now.ops.now regs.now work.old facts.old z }
+    ensures { Chose code.now.recs.now code.now.ops.now regs.now z work.old facts.old work.new facts.new result }
 {
     if z.n == 0 {
         return 0;
     }
     let mut lasts = [0u32; 2008];
-    settle(t, recs, ops, regs, work, &mut lasts, facts, z)
+    settle(code, regs, work, &mut lasts, facts, z)
 }

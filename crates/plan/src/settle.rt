@@ -7,7 +7,7 @@ ghost use Rattle.plan.specs.Cycle.{sweep_of, Readied, Next, Choosable, Chose};
 
 use crate::sweep::{Sweep, Tally, run};
 use facts::Fact;
-use inst::table::Table;
+use inst::code::Code;
 use summary::notes::{BARRIER, MEMBER, SUSPENSION};
 
 // `go`: there is a sweep to come; `first` the start, else `ahead` that forward. `quiet`: the last dropped nothing; `done`: nor did the one
@@ -27,25 +27,6 @@ pub struct Cycle {
     pub left: u32,
 }
 
-// Nothing is counted.
-pub fn zero() -> Tally
-    ensures { (result.keep ≡ false) × (result.count ≡ 0) }
-{
-    Tally {
-        keep: false,
-        count: 0,
-    }
-}
-
-fn pick(b: bool, x: usize, y: usize) -> usize
-    ensures { result ≡ cond b x y }
-{
-    if b {
-        return x;
-    }
-    y
-}
-
 // The sweep that comes next.
 fn sweep_of(c: Cycle, lasts: &[u32; 2008]) -> Sweep
     ensures { result ≡ sweep_of c lasts.now }
@@ -57,7 +38,7 @@ fn sweep_of(c: Cycle, lasts: &[u32; 2008]) -> Sweep
         s: c.s,
         m: c.m,
         n: c.n,
-        k: pick(c.ahead, c.m, c.n),
+        k: if c.ahead { c.m } else { c.n },
         sus: lasts[SUSPENSION] % MEMBER,
         bar: lasts[BARRIER] % MEMBER,
     }
@@ -77,10 +58,7 @@ pub fn ready(work: &mut [u64], lasts: &mut [u32; 2008], c: Cycle, regs: usize) -
     ensures { (result ≡ sweep_of c lasts.old) × Readied regs c work.old lasts.old work.new lasts.new }
 {
     let g = sweep_of(c, lasts);
-    if c.first {
-        return g;
-    }
-    if c.ahead {
+    if c.first | c.ahead {
         return g;
     }
     clear_part(work, c.s, c.s + regs);
@@ -100,12 +78,8 @@ pub fn next(c: Cycle, a: Tally) -> Cycle
             ahead: false,
             quiet: false,
             done: false,
-            o: c.o,
-            s: c.s,
-            m: c.m,
-            n: c.n,
-            least: c.least,
             left: a.count,
+            ..c
         };
     }
     let left = c.left - a.count;
@@ -115,38 +89,34 @@ pub fn next(c: Cycle, a: Tally) -> Cycle
         first: false,
         ahead: !c.ahead,
         quiet: a.count == 0,
-        done: done,
-        o: c.o,
-        s: c.s,
-        m: c.m,
-        n: c.n,
-        least: c.least,
-        left: left,
+        done,
+        left,
+        ..c
     }
 }
 
 // The facts' marks become the greatest legal set, unless it has fewer members than `least`. Says how many are marked. The row of registers
 // needed elsewhere begins at word `o` of `work`; its words from `s` on, one a register, are written.
 pub fn settle(
-    t: &Table,
-    recs: &[u32],
-    ops: &[u32],
+    code: &Code,
     regs: &[u32],
     work: &mut [u64],
     lasts: &mut [u32; 2008],
     facts: &mut [Fact],
     z: Cycle,
 ) -> u32
-    requires { Choosable recs.now ops.now regs.now work.old facts.old z }
-    ensures { Chose recs.now ops.now regs.now z work.old facts.old work.new facts.new result }
+    requires { Choosable code.now.recs.now code.now.ops.now regs.now work.old facts.old z }
+    ensures { Chose code.now.recs.now code.now.ops.now regs.now z work.old facts.old work.new facts.new result }
 {
-    let a = zero();
+    let none = Tally {
+        keep: false,
+        count: 0,
+    };
     let mut c = z;
     while c.go {
         let g = ready(work, lasts, c, regs.len());
-        let b = run(t, recs, ops, regs, work, lasts, facts, g, a, g.k);
-        let d = next(c, b);
-        c = d;
+        let b = run(code, regs, work, lasts, facts, g, none, g.k);
+        c = next(c, b);
     }
     c.left
 }

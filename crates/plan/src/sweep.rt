@@ -5,8 +5,8 @@ ghost use Rattle.words.specs.Lists.{hit};
 ghost use Rattle.summary.specs.Passes.{begin_test, Backed, Forwarded, Around, Near, Written, Readable, Small};
 ghost use Rattle.plan.specs.Sweep.{part, place, Visitable, Visit, Sweepable, Swept};
 
-use facts::{Fact, fact_at, set_member};
-use inst::table::Table;
+use facts::Fact;
+use inst::code::Code;
 use legality::backward::back;
 use legality::forward::forth;
 use legality::start::begins_in;
@@ -48,42 +48,23 @@ fn counted(keep: bool, count: u32, more: bool) -> Tally
     requires { count ≤ 800 }
     ensures { (result.keep ≡ keep) × (result.count ≡ count + hit more) }
 {
-    if more {
-        return Tally {
-            keep: keep,
-            count: count + 1,
-        };
-    }
     Tally {
-        keep: keep,
-        count: count,
+        keep,
+        count: count + u32::from(more),
     }
 }
 
 // Does position p, of fact f, begin in the set?
-fn starts(
-    t: &Table,
-    recs: &[u32],
-    f: Fact,
-    regs: &[u32],
-    work: &[u64],
-    g: Sweep,
-    p: usize,
-) -> bool
-    requires { Written recs.now (length regs.now) f.rec f.def f.more × (p < 800) × (g.o ≤ length work.now) }
-    ensures { result ≡ (ltb p g.m && begin_test recs.now regs.now work.now f g.o p) }
+fn starts(code: &Code, f: Fact, regs: &[u32], work: &[u64], g: Sweep, p: usize) -> bool
+    requires { Written code.now.recs.now (length regs.now) f.rec f.def f.more × (p < 800) × (g.o ≤ length work.now) }
+    ensures { result ≡ (ltb p g.m && begin_test code.now.recs.now regs.now work.now f g.o p) }
 {
-    if p < g.m {
-        return begins_in(t, recs, f, regs, work, g.o, p);
-    }
-    false
+    p < g.m && begins_in(code, f, regs, work, g.o, p)
 }
 
 // The step backward, over the words of the work from s on.
 fn back_in(
-    t: &Table,
-    recs: &[u32],
-    ops: &[u32],
+    code: &Code,
     f: Fact,
     work: &mut [u64],
     s: usize,
@@ -91,17 +72,15 @@ fn back_in(
     lasts: &mut [u32; 2008],
     p: usize,
 ) -> bool
-    requires { Written recs.now (e - s) f.rec f.def f.more × Readable recs.now ops.now (e - s) f × Small f × (p < 800) × (s ≤ e) × (e ≤ length work.old) }
-    ensures { Backed recs.now ops.now f p (part s (e - s) work.old) lasts.old (part s (e - s) work.new) lasts.new result × Around s (e - s) work.old work.new }
+    requires { Written code.now.recs.now (e - s) f.rec f.def f.more × Readable code.now.recs.now code.now.ops.now (e - s) f × Small f × (p < 800) × (s ≤ e) × (e ≤ length work.old) }
+    ensures { Backed code.now.recs.now code.now.ops.now f p (part s (e - s) work.old) lasts.old (part s (e - s) work.new) lasts.new result × Around s (e - s) work.old work.new }
 {
-    back(t, recs, ops, f, &mut work[s..e], lasts, p)
+    back(code, f, &mut work[s..e], lasts, p)
 }
 
 // The step forward, likewise.
 fn forth_in(
-    t: &Table,
-    recs: &[u32],
-    ops: &[u32],
+    code: &Code,
     f: Fact,
     regs: &[u32],
     work: &mut [u64],
@@ -110,29 +89,16 @@ fn forth_in(
     lasts: &mut [u32; 2008],
     p: usize,
 ) -> bool
-    requires { Written recs.now (e - g.s) f.rec f.def f.more × Readable recs.now ops.now (e - g.s) f × Small f × Near (part g.s (e - g.s) work.old) × (length regs.now ≡ e - g.s) × (p < 800) × (g.s ≤ e) × (e ≤ length work.old) }
-    ensures { Forwarded recs.now ops.now regs.now f g.sus g.bar p (part g.s (e - g.s) work.old) lasts.old (part g.s (e - g.s) work.new) lasts.new result × Around g.s (e - g.s) work.old work.new }
+    requires { Written code.now.recs.now (e - g.s) f.rec f.def f.more × Readable code.now.recs.now code.now.ops.now (e - g.s) f × Small f × Near (part g.s (e - g.s) work.old) × (length regs.now ≡ e - g.s) × (p < 800) × (g.s ≤ e) × (e ≤ length work.old) }
+    ensures { Forwarded code.now.recs.now code.now.ops.now regs.now f g.sus g.bar p (part g.s (e - g.s) work.old) lasts.old (part g.s (e - g.s) work.new) lasts.new result × Around g.s (e - g.s) work.old work.new }
 {
     let s = g.s;
-    forth(
-        t,
-        recs,
-        ops,
-        f,
-        regs,
-        &mut work[s..e],
-        lasts,
-        g.sus,
-        g.bar,
-        p,
-    )
+    forth(code, f, regs, &mut work[s..e], lasts, g.sus, g.bar, p)
 }
 
 // Position p, of fact f, is visited.
 fn visit(
-    t: &Table,
-    recs: &[u32],
-    ops: &[u32],
+    code: &Code,
     regs: &[u32],
     work: &mut [u64],
     lasts: &mut [u32; 2008],
@@ -141,27 +107,25 @@ fn visit(
     a: Tally,
     p: usize,
 ) -> Tally
-    requires { Visitable recs.now ops.now regs.now work.old g f a p }
-    ensures { Visit recs.now ops.now regs.now g f a p work.old lasts.old work.new lasts.new result }
+    requires { Visitable code.now.recs.now code.now.ops.now regs.now work.old g f a p }
+    ensures { Visit code.now.recs.now code.now.ops.now regs.now g f a p work.old lasts.old work.new lasts.new result }
 {
     if g.first {
-        let b = starts(t, recs, f, regs, work, g, p);
+        let b = starts(code, f, regs, work, g, p);
         return counted(b, a.count, b);
     }
     let e = g.s + regs.len();
     if g.ahead {
-        let b = forth_in(t, recs, ops, f, regs, work, g, e, lasts, p);
+        let b = forth_in(code, f, regs, work, g, e, lasts, p);
         return counted(b, a.count, f.member & !b);
     }
-    let b = back_in(t, recs, ops, f, work, g.s, e, lasts, p);
+    let b = back_in(code, f, work, g.s, e, lasts, p);
     counted(b, a.count, f.member & !b)
 }
 
 // k turns of a sweep.
 pub fn run(
-    t: &Table,
-    recs: &[u32],
-    ops: &[u32],
+    code: &Code,
     regs: &[u32],
     work: &mut [u64],
     lasts: &mut [u32; 2008],
@@ -170,17 +134,15 @@ pub fn run(
     a: Tally,
     k: usize,
 ) -> Tally
-    requires { Sweepable recs.now ops.now regs.now work.old facts.old g a k }
-    ensures { Swept recs.now ops.now regs.now g work.old lasts.old facts.old a k work.new lasts.new facts.new result }
+    requires { Sweepable code.now.recs.now code.now.ops.now regs.now work.old facts.old g a k }
+    ensures { Swept code.now.recs.now code.now.ops.now regs.now g work.old lasts.old facts.old a k work.new lasts.new facts.new result }
 {
     let mut b = a;
-    let mut i = 0;
-    while i < k {
+    for i in 0..k {
         let p = place(g, i);
-        let f = fact_at(facts, p);
-        b = visit(t, recs, ops, regs, work, lasts, g, f, b, p);
-        set_member(facts, p, b.keep);
-        i += 1;
+        let f = facts[p];
+        b = visit(code, regs, work, lasts, g, f, b, p);
+        facts[p].member = b.keep;
     }
     b
 }

@@ -3,7 +3,6 @@
 ghost use Rattle.std.specs.Prelude.{◌≡◌, List, ℕ, length};
 ghost use Rattle.checks.specs.Causes.{picture_of};
 ghost use Rattle.acceptance.specs.Lent.{picture};
-ghost use Rattle.inst.specs.declared.index.Option<BlockId>.TheVariants.{Not};
 ghost use Rattle.probe.specs.Heads.{with_four};
 ghost use Rattle.probe.specs.Attempt.{move_number, with_move, attempt, with_attempt, Left, Listed, Judges, Asking, Seen, MaySeek, Sets};
 
@@ -63,7 +62,7 @@ fn put_move(out: &mut [usize], r: Option<Move>) -> u32
 
 // The picture is refused, and that is the answer.
 fn stop(n: u32) -> Judged
-    ensures { (result.block ≡ Not) × (result.number ≡ n) }
+    ensures { (result.block ≡ None) × (result.number ≡ n) }
 {
     let s = Sizes {
         blocks: 0,

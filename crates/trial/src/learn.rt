@@ -8,6 +8,7 @@ use analyse::along::analyse;
 use analyse::look::LEFT;
 use chains::chain::Chain;
 use facts::Fact;
+use inst::code::Code;
 use inst::table::Table;
 use sizes::{COPIED, Sizes, at_regs};
 
@@ -39,7 +40,8 @@ pub fn learn(
     let r = s.regs as usize;
     let a = at_regs(s);
     let e = a + s.lent;
-    let n = analyse(t, recs, ops, &mut work64[a..e], facts, bounds, c, r);
+    let code = Code { table: t, recs, ops };
+    let n = analyse(&code, &mut work64[a..e], facts, bounds, c, r);
     copy_regs(work64, work32, a, r);
     n as usize
 }

@@ -8,6 +8,7 @@ use chains::chain::Chain;
 use chainwords::marks::{put_facts, put_uses};
 use facts::Fact;
 use flow::needed::put_needed;
+use inst::code::Code;
 use inst::index::BlockId;
 use inst::table::Table;
 use plan::set::legal_set;
@@ -141,11 +142,12 @@ pub fn try_target<'a>(
 {
     let a = take_aim(t, bounds, recs, pairs, targets, work64, work32, s, c, g);
     let e = a.end;
-    let k = legal_set(t, recs, ops, &work32[COPIED..e], work64, facts, a.sweeps);
+    let code = Code { table: t, recs, ops };
+    let k = legal_set(&code, &work32[COPIED..e], work64, facts, a.sweeps);
     let b = taken(k, a.least, g.places);
     put_facts(facts, work32, b.places);
     put_uses(
-        t, bounds, recs, ops, work64, work32, s, c, b.moved, g.into, g.inside, g.places,
+        &code, bounds, work64, work32, s, c, b.moved, g.into, g.inside, g.places,
     );
     b.moved
 }

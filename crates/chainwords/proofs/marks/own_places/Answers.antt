@@ -6,10 +6,10 @@ use Rattle.chainwords.proofs.Copying.{own_more}
 use Rattle.chainwords.proofs.marks.own_places.Goals as goal
 
 pub loop-p-init : goal.loop-p-init
-loop-p-init c = (omega arith, c.requires, λ q h. absurd (not-suc-le-zero h))
+loop-p-init c = record { size = c.requires; own = λ q h. absurd (not-suc-le-zero h) }
 
 pub loop-p-preserved : goal.loop-p-preserved
-loop-p-preserved c = (omega arith, simp length-set c.loop-p.invariant.1, own_more c.loop-p.lasts c.loop-p.p (omega arith) c.loop-p.invariant.2)
+loop-p-preserved c = record { size = simp length-set c.loop-p.invariant.size; own = own_more c.loop-p.lasts c.loop-p.p (omega arith) c.loop-p.invariant.own }
 
 pub returns : goal.returns
-returns c = record { size = c.loop-p.invariant.1; each = λ p h. c.loop-p.invariant.2 p (omega arith) }
+returns c = record { size = c.loop-p.invariant.size; each = λ p h. c.loop-p.invariant.own p (omega arith) }

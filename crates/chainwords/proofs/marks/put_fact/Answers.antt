@@ -2,6 +2,7 @@
 use mathlib.Core.Path.{refl}
 use native.Mathlib.Omega.{arith}
 use lib.ListN.{length-set}
+use Rattle.effects.specs.Origin.{num}
 use Rattle.chainwords.specs.Puts.{put_fact}
 use Rattle.chainwords.proofs.marks.put_fact.Goals as goal
 
@@ -12,5 +13,5 @@ pub bounds-work32-b-3 : goal.bounds-work32-b-3
 bounds-work32-b-3 c = simp length-set (omega arith)
 
 pub returns : goal.returns
-unfolding put_fact
-returns c = rw c.mark.ensures refl
+unfolding put_fact num
+returns c = rw c.from.ensures refl

@@ -14,22 +14,22 @@ pub find_readers-requires : goal.find_readers-requires
 find_readers-requires c =
     let p = c.requires in
     let st = c.at_stamps-st.ensures.0 in
-    let r = c.wide-r.ensures in
+    let r = refl in
     (legible p.planning st r, readers_room p.planning st r, refl)
 
 pub width-requires : goal.width-requires
-width-requires c = let f = plan_room c.requires.planning in omega (arith, f.few, f.lent, c.wide-r.ensures)
+width-requires c = let f = plan_room c.requires.planning in omega (arith, f.few, f.lent)
 
 pub overflow_mul-o : goal.overflow_mul-o
 overflow_mul-o c =
     let st = c.at_stamps-st.ensures in
-    omega (arith, row_inside c.requires.planning st.0 c.wide-r.ensures c.at.ensures c.width.ensures, st.0, st.1)
+    omega (arith, row_inside c.requires.planning st.0 refl c.at.ensures c.width.ensures, st.0, st.1)
 
 pub put_lasts-requires : goal.put_lasts-requires
 put_lasts-requires c =
     let p = c.requires in
     let st = c.at_stamps-st.ensures.0 in
-    let r = c.wide-r.ensures in
+    let r = refl in
     let asked = use_asked p.planning st r c.at.ensures c.width.ensures c.find_readers.ensures.1 (p.numbered c.if-moved-eq0.false) in
     (asked, p.planning.in_x)
 
@@ -37,6 +37,6 @@ pub returns : goal.returns
 returns c =
     let p = c.requires in
     let st = c.at_stamps-st.ensures.0 in
-    let r = c.wide-r.ensures in
+    let r = refl in
     let found = c.find_readers.ensures in
     used p.planning st r c.at.ensures c.width.ensures found.1 found.0 c.put_lasts.ensures c.if-moved-eq0.false

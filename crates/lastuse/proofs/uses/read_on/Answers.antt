@@ -1,18 +1,16 @@
 -- `lastuse::uses::read_on` meets its contract. Assumes nothing.
 use native.Mathlib.Omega.{arith}
 use Rattle.summary.proofs.Stamping.{whole_stamp}
-use Rattle.summary.proofs.Summing.{used_at}
 use Rattle.lastuse.proofs.uses.read_on.Goals as goal
 
-pub uses-u-requires : goal.uses-u-requires
-uses-u-requires c = (c.requires.0.known)
+pub invariant_of-d : goal.invariant_of-d
+invariant_of-d c = record { beside = whole_stamp _ (omega (arith, c.requires.3)) }
 
-pub note_places-requires : goal.note_places-requires
-note_places-requires c = let p = c.requires in (used_at p.0 c.uses-u.ensures, p.0, p.1, p.2)
+pub slots-requires : goal.slots-requires
+slots-requires c = c.requires.0.known
 
 pub put_slots-requires : goal.put_slots-requires
-put_slots-requires c =
-    let p = c.requires in (used_at p.0 c.uses-u.ensures, p.0.fits, whole_stamp _ (omega (arith, p.3)))
+put_slots-requires c = rw (c.slots.ensures.recs, c.slots.ensures.place) c.requires.0.fits
 
 pub returns : goal.returns
-returns c = record { noticed = c.note_places.ensures; stamped = c.put_slots.ensures }
+returns c = record { noticed = c.note_places.ensures; stamped = rw (c.slots.ensures.recs, c.slots.ensures.place) at c.put_slots.ensures }

@@ -1,6 +1,6 @@
 -- `plan::settle::settle` meets its contract. Assumes nothing.
 use mathlib.Core.List.{List}
-use mathlib.Core.Path.{◌≡◌, sym, subst}
+use mathlib.Core.Path.{◌≡◌, refl, sym, subst}
 use Prim.Native.Nat.{ℕ}
 use Rattle.facts.specs.declared.Fact.{Fact}
 use Rattle.plan.specs.Sweep.{Swept, Sweepable}
@@ -22,17 +22,17 @@ ready-g-requires c = ready_may c.requires c.loop-c.invariant
 pub run-b-requires : goal.run-b-requires
 run-b-requires c =
     let a = c.args in
-      subst (λ (x : Sweep). Sweepable a.recs.now a.ops.now a.regs.now c.ready-g.new.work c.loop-c.facts x c.zero-a.result x.k) (sym c.ready-g.ensures.0)
-          (sweep_may c.requires c.loop-c.invariant c.ready-g.ensures.1 c.zero-a.ensures.1)
+    subst (λ (x : Sweep). Sweepable a.code.now.recs.now a.code.now.ops.now a.regs.now c.ready-g.new.work c.loop-c.facts x (record { keep = mathlib.Core.Bool.false; count = 0 }) x.k) (sym c.ready-g.ensures.0)
+    (sweep_may c.requires c.loop-c.invariant c.ready-g.ensures.1 refl)
 
-pub next-d-requires : goal.next-d-requires
-next-d-requires c = next_may c.requires c.loop-c.invariant c.ready-g.ensures.1 c.zero-a.ensures.1 (swept c.ready-g.ensures.0 c.run-b.ensures)
+pub next-c-requires : goal.next-c-requires
+next-c-requires c = next_may c.requires c.loop-c.invariant c.ready-g.ensures.1 refl (swept c.ready-g.ensures.0 c.run-b.ensures)
 
 pub loop-c-smaller : goal.loop-c-smaller
-loop-c-smaller c = looping_less c.requires c.loop-c.invariant c.ready-g.ensures.1 c.zero-a.ensures.1 (swept c.ready-g.ensures.0 c.run-b.ensures) c.loop-c-test.true c.next-d.ensures
+loop-c-smaller c = looping_less c.requires c.loop-c.invariant c.ready-g.ensures.1 refl (swept c.ready-g.ensures.0 c.run-b.ensures) c.loop-c-test.true c.next-c.ensures
 
 pub loop-c-preserved : goal.loop-c-preserved
-loop-c-preserved c = looping_more c.requires c.loop-c.invariant c.ready-g.ensures.1 c.zero-a.ensures.1 (swept c.ready-g.ensures.0 c.run-b.ensures) c.next-d.ensures
+loop-c-preserved c = looping_more c.requires c.loop-c.invariant c.ready-g.ensures.1 refl (swept c.ready-g.ensures.0 c.run-b.ensures) c.next-c.ensures
 
 pub returns : goal.returns
 returns c = looping_end c.requires c.loop-c.invariant c.loop-c-test.false
