@@ -1,3 +1,4 @@
 pub mod Chain
 pub mod Places
 pub mod Cursor
+pub mod Positions

@@ -1,6 +1,6 @@
 -- `worth::look::worth_a_look` meets its contract. Assumes nothing.
 use native.Mathlib.Omega.{arith}
-use mathlib.Core.Path.{◌∙◌, ap}
+use mathlib.Core.Path.{ap}
 use Prim.Native.Nat.{ℕ, ◌+◌, ◌*◌}
 use lib.ListN.{get_or}
 use Rattle.worth.proofs.Looks.{too_few, too_long, by_replay, by_cat, worth_for, worth_is}
