@@ -34,7 +34,8 @@ pub fn bad_kind(t: &Table, recs: &[u32], p: usize) -> bool
     (f < least(x)) | (most(x) < f) | ((k == CAT) & (SCALARS < word(recs, p, 9)))
 }
 
-// 5: a slot that asks this may not hold r, of that many registers.
+// 5: a slot that asks this may not hold r, of that many registers. (What it asks is two bits of the packed table; an enum of it would be
+// made for this one match.)
 fn bad_at(regs: u32, ask: u32, r: u32) -> bool
     ensures { result ≡ bad_at regs ask r }
 {

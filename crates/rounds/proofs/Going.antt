@@ -10,7 +10,7 @@ use lib.Dec.{ltb}
 use lib.ListN.{length, take, replicate, take-append-drop}
 use borrow.Author.Tests.{ltb-true, ltb-false}
 use Rattle.words.specs.Lists.{concat}
-use Rattle.words.proofs.Bools.{clash}
+use Rattle.std.specs.Prelude.{Option, Some, None}
 use Rattle.model.specs.declared.Used.{Used}
 use Rattle.model.specs.declared.Answer.{Answer}
 use Rattle.model.specs.declared.Answer.TheVariants as answer
@@ -35,7 +35,7 @@ use Rattle.oneround.proofs.Kept.{holds_is}
 use Rattle.rounds.specs.declared.state.At.{At}
 use Rattle.rounds.specs.Ended.{Did}
 use Rattle.rounds.specs.State.{line_words, Advancing, gone, ended, advanced}
-use Rattle.rounds.specs.Going.{Leads, Between, Going, to_come}
+use Rattle.rounds.specs.Going.{Leads, Between, Going, after, to_come}
 use Rattle.rounds.proofs.Lines.{long_still, one_more, zero_still}
 
 -- each slice is as long as it was
@@ -60,19 +60,28 @@ done_of {o} {i} {lines} {Q} a l e = record {
 
 -- ---- fewer rounds may come after a round
 
-pub fewer : (m q : At) (r : Step) → m.more ≡ true → m.rounds < most_rounds → q ≡ advanced m r → to_come q < to_come m
+pub fewer : (m q : At) (r : Step) → m.answer ≡ None → m.rounds < most_rounds → q ≡ advanced m r → to_come q < to_come m
 fewer m q r on few e =
-    subst (λ (b : Bool). to_come q < cond b (most_rounds + 1 - m.rounds) 0) (sym on)
+    subst (λ (o : Option Answer). to_come q < after m.rounds o) (sym on)
     (subst (λ (z : At). to_come z < most_rounds + 1 - m.rounds) (sym e) (go r))
   where
-    more : (b : Bool) → cond b (most_rounds + 1 - (m.rounds + 1)) 0 < most_rounds + 1 - m.rounds
-    more true = omega arith
-    more false = omega arith
+    more : (b : Bool) (a : Answer) → after (m.rounds + 1) (cond b None (Some a)) < most_rounds + 1 - m.rounds
+    more true a = omega arith
+    more false a = omega arith
 
     go : (r : Step) → to_come (advanced m r) < most_rounds + 1 - m.rounds
-    go (Goes l) = more (ltb (m.rounds + 1) most_rounds)
+    go (Goes l) = more (ltb (m.rounds + 1) most_rounds) _
     go Short = omega arith
     go Ends = omega arith
+
+-- an answer where b is false
+open_if : (b : Bool) (a : Answer) → cond b None (Some a) ≡ None → b ≡ true
+open_if true a e = refl
+open_if false a e = absurd (let z : ⊥ = cc in z)
+
+ends_if : (b : Bool) (a : Answer) {c : Answer} → cond b None (Some a) ≡ Some c → (b ≡ false) × (a ≡ c)
+ends_if true a e = absurd (let z : ⊥ = cc in z)
+ends_if false a e = (refl, cc)
 
 -- ---- a round is to be tried
 
@@ -154,17 +163,18 @@ module _ {P : Picture} {w64 w32 nf : ℕ} {Q : Picture} {m : At} {work64 work32 
           lent = b.lent;
           accepted = accepted_next;
           begun = subst (λ (Z : Picture). Begun Z (facts P) work64' work32') (sym here) z.4.1;
-          few = ltb-true (m.rounds + 1) most_rounds e;
+          few = ltb-true (m.rounds + 1) most_rounds (open_if (ltb (m.rounds + 1) most_rounds) _ e);
           long = long_still m.rounds l m.lines b.few b.long;
           sizes_are = sizes_next;
-          answer_is = refl;
           leads = lead;
         };
-        ends = λ e.
-            let h = ltb-false (m.rounds + 1) most_rounds e in
+        ends = λ a e.
+            let f = ends_if (ltb (m.rounds + 1) most_rounds) (answer.Done (used (m.rounds + 1) (at_next q))) e in
+            let h = ltb-false (m.rounds + 1) most_rounds f.0 in
             let y : most_rounds - (m.rounds + 1) ≡ 0 = omega arith in
-            done_of (answer.Done (used (m.rounds + 1) (at_next q)))
-            (subst (λ (k : ℕ). Leads (sink P w64 w32 nf) (m.rounds + 1) q.lines (sink_all k (m.rounds + 1) (facts P) (at_next q))) y lead) refl;
+            subst (λ (c : Answer). Did (sink P w64 w32 nf) c q.lines bounds recs locs vias types ops) f.1
+            (done_of (answer.Done (used (m.rounds + 1) (at_next q)))
+            (subst (λ (k : ℕ). Leads (sink P w64 w32 nf) (m.rounds + 1) q.lines (sink_all k (m.rounds + 1) (facts P) (at_next q))) y lead) refl);
       }
 
     -- without one
@@ -173,8 +183,11 @@ module _ {P : Picture} {w64 w32 nf : ℕ} {Q : Picture} {m : At} {work64 work32 
         let here : at_next (ended m a) ≡ Q = holds_is Q h (ap (λ (s : Sizes). s.regs) b.sizes_are) (ap (λ (s : Sizes). s.opers) b.sizes_are) in
         let d = done_of a (subst (Leads (sink P w64 w32 nf) m.rounds m.lines) e leads_on) n in
         record {
-          opens = λ y. clash y refl;
-          ends = λ y. subst (λ (Z : Picture). Did (sink P w64 w32 nf) a m.lines Z.bounds Z.recs Z.locs Z.vias Z.types Z.ops) (sym here) d;
+          opens = λ y. absurd (let z : ⊥ = cc in z);
+          ends = λ c y.
+              let same : a ≡ c = cc in
+              subst (λ (c : Answer). Did (sink P w64 w32 nf) c m.lines bounds recs locs vias types ops) same
+              (subst (λ (Z : Picture). Did (sink P w64 w32 nf) a m.lines Z.bounds Z.recs Z.locs Z.vias Z.types Z.ops) (sym here) d);
         }
 
     used_is : used m.rounds Q ≡ record { rounds = m.rounds; registers = m.sizes.regs; operands = m.sizes.opers }
@@ -190,4 +203,4 @@ module _ {P : Picture} {w64 w32 nf : ℕ} {Q : Picture} {m : At} {work64 work32 
         go : (r : Step) → IsNext Q r Left (facts P) → Then (advanced m r)
         go (Goes l) z = moved_on q sized l z
         go Short z = halts (answer.Short _) z.3.0 (sink_short k m.rounds (facts P) Q z.0 z.1 z.2 ∙ ap (λ (u : Used). ends_in (answer.Short u) Q) used_is) refl
-        go Ends z = halts m.answer z.1.0 (sink_done k m.rounds (facts P) Q z.0 ∙ ap (λ (a : Answer). ends_in a Q) (sym b.answer_is)) (ap rounds b.answer_is)
+        go Ends z = halts (answer.Done _) z.1.0 (sink_done k m.rounds (facts P) Q z.0 ∙ ap (λ (u : Used). ends_in (answer.Done u) Q) used_is) refl

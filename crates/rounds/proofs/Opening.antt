@@ -6,7 +6,6 @@ use Prim.Native.Nat.{ℕ, ◌-◌, ◌*◌, ◌≤◌}
 use native.Mathlib.Omega.{arith}
 use lib.ListN.{length, replicate}
 use Rattle.words.specs.Lists.{concat}
-use Rattle.words.proofs.Bools.{clash}
 use Rattle.std.specs.Prelude.{Option, Some, None, Result, Ok, Err}
 use Rattle.model.specs.declared.Refusal.{Refusal}
 use Rattle.model.specs.Numbered.{verdict}
@@ -16,7 +15,7 @@ use Rattle.model.specs.declared.Answer.TheVariants as answer
 use Rattle.model.specs.Picture.{Picture, nblocks}
 use Rattle.model.specs.Refusal.{refusal, records}
 use Rattle.model.specs.Analyse.{facts}
-use Rattle.model.specs.Pass.{Outcome, used, ends_in, gated, sink, sink_all, most_rounds}
+use Rattle.model.specs.Pass.{Outcome, ends_in, gated, sink, sink_all, most_rounds}
 use Rattle.laws.proofs.Accepted.{accepted, needed_records}
 use Rattle.laws.proofs.Sizes.{few_blocks}
 use Rattle.laws.proofs.Rounds.{sink_refused, sink_gated, sink_through}
@@ -84,7 +83,7 @@ module _ (l : Lent) (replay work64 work32 : List ℕ) (nf : ℕ) where
     CameBy = IsJudged P (length work64) (length work32) nf
 
     -- no round is tried
-    pub started_ends : {a : Answer} {q : At} → v ≡ Some a → q ≡ first_at false a (record { blocks = 0; insts = 0; regs = P.regs; lent = 0; opers = P.opers }) → Started P work64 work32 nf q work64 work32
+    pub started_ends : {a : Answer} {q : At} → v ≡ Some a → q ≡ first_at (Some a) (record { blocks = 0; insts = 0; regs = P.regs; lent = 0; opers = P.opers }) → Started P work64 work32 nf q work64 work32
     started_ends {a} {q} e f =
         let s : CameBy (Some a) = subst CameBy e (j.is replay) in
         subst (λ (z : At). Started P work64 work32 nf z work64 work32) (sym f)
@@ -93,13 +92,14 @@ module _ (l : Lent) (replay work64 work32 : List ℕ) (nf : ℕ) where
           regs_are = refl;
           opers_are = refl;
           going = record {
-            opens = λ y. clash y refl;
-            ends = λ y. subst (λ (o : Outcome). Did o a (replicate 48 0) P.bounds P.recs P.locs P.vias P.types P.ops) (sym s.0)
+            opens = λ y. absurd (let z : ⊥ = cc in z);
+            ends = λ c y. let same : a ≡ c = cc in subst (λ (c : Answer). Did (sink P (length work64) (length work32) nf) c (replicate 48 0) P.bounds P.recs P.locs P.vias P.types P.ops) same
+                (subst (λ (o : Outcome). Did o a (replicate 48 0) P.bounds P.recs P.locs P.vias P.types P.ops) (sym s.0)
                 (record {
                   answer_is = refl;
                   lines_are = ap (λ (n : ℕ). replicate (48 - 6 * n) 0) (sym s.1);
                   holds = record { bounds_are = refl; recs_are = refl; locs_are = refl; vias_are = refl; types_are = refl; ops_are = refl };
-                });
+                }));
           };
         })
 
@@ -122,7 +122,7 @@ module _ (l : Lent) (replay work64 work32 : List ℕ) (nf : ℕ) where
       through = sink_through P (length work64) (length work32) nf opens.0 opens.1
 
       pub started_opens : {q : At} {work64' work32' : List ℕ} → Began P.bounds P.recs P.ops P.pairs P.targets work64 work32 (sizes_of P) work64' work32'
-          → q ≡ first_at true (answer.Done (used 0 P)) (sizes_of P) → Started P work64 work32 nf q work64' work32'
+          → q ≡ first_at None (sizes_of P) → Started P work64 work32 nf q work64' work32'
       started_opens {q} {work64'} {work32'} b f = subst (λ (z : At). Started P work64 work32 nf z work64' work32') (sym f) (record {
         work = record { size64 = b.size64; size32 = b.size32; kept = λ h. absurd (h opens.0) };
         regs_are = refl;
@@ -135,9 +135,8 @@ module _ (l : Lent) (replay work64 work32 : List ℕ) (nf : ℕ) where
             few = omega arith;
             long = refl;
             sizes_are = refl;
-            answer_is = refl;
             leads = record { answer_same = ap (λ (o : Outcome). o.answer) through; left_same = ap (λ (o : Outcome). o.left) through; lines_same = ap (λ (o : Outcome). concat o.lines) through; rest_zero = refl };
           };
-          ends = λ y. clash refl y;
+          ends = λ a y. absurd (let z : ⊥ = cc in z);
         };
       })

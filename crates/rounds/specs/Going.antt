@@ -1,12 +1,12 @@
 -- 01, "The call" and "A round": where the call stands, from its start to its end. P is the picture that was lent, with work slices of w64
 -- and w32 words and nf records; Q is the one that stands. Assumes nothing.
-use Rattle.std.specs.Prelude.{◌≡◌, true, false, cond, List, ◌++◌, ℕ, ◌+◌, ◌*◌, ◌-◌, ◌<◌, length, take, drop, replicate}
+use Rattle.std.specs.Prelude.{◌≡◌, Option, Some, None, List, ◌++◌, ℕ, ◌+◌, ◌*◌, ◌-◌, ◌<◌, length, take, drop, replicate}
 use Rattle.words.specs.Lists.{concat}
-use Rattle.model.specs.declared.Answer.TheVariants.{Done}
+use Rattle.model.specs.declared.Answer.{Answer}
 use Rattle.model.specs.Picture.{Picture}
 use Rattle.model.specs.Refusal.{refusal, records}
 use Rattle.model.specs.Analyse.{facts}
-use Rattle.model.specs.Pass.{Outcome, used, sink_all, sink, most_rounds}
+use Rattle.model.specs.Pass.{Outcome, sink_all, sink, most_rounds}
 use Rattle.sizes.specs.Parts.{sizes_of}
 use Rattle.chainwords.specs.Work.{Begun}
 use Rattle.rounds.specs.declared.state.At.{At}
@@ -28,17 +28,20 @@ pub record Between (P : Picture) (w64 w32 nf : ℕ) (Q : Picture) (m : At) (work
   pub few : m.rounds < most_rounds
   pub long : length m.lines ≡ 48
   pub sizes_are : m.sizes ≡ sizes_of Q
-  pub answer_is : m.answer ≡ Done (used m.rounds Q)
   pub leads : Leads (sink P w64 w32 nf) m.rounds m.lines (sink_all (most_rounds - m.rounds) m.rounds (facts P) Q)
 
 -- a round is to be tried, or the call is at its end
 pub record Going (P : Picture) (w64 w32 nf : ℕ) (Q : Picture) (m : At) (work64 work32 : List ℕ) : Type 0 where
-  pub opens : m.more ≡ true → Between P w64 w32 nf Q m work64 work32
-  pub ends : m.more ≡ false → Did (sink P w64 w32 nf) m.answer m.lines Q.bounds Q.recs Q.locs Q.vias Q.types Q.ops
+  pub opens : m.answer ≡ None → Between P w64 w32 nf Q m work64 work32
+  pub ends : (a : Answer) → m.answer ≡ Some a → Did (sink P w64 w32 nf) a m.lines Q.bounds Q.recs Q.locs Q.vias Q.types Q.ops
 
--- how many rounds may come
+-- how many rounds may come, after n
+abbrev pub after : ℕ → Option Answer → ℕ
+after n None = most_rounds + 1 - n
+after n (Some a) = 0
+
 abbrev pub to_come : At → ℕ
-to_come m = cond m.more (most_rounds + 1 - m.rounds) 0
+to_come m = after m.rounds m.answer
 
 -- ---- the start of the call
 

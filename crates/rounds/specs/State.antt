@@ -1,5 +1,5 @@
 -- 01, "A round", "At most 8 rounds": the lines of the rounds, and what a round makes of where the call stands. Assumes nothing.
-use Rattle.std.specs.Prelude.{◌≡◌, Bool, false, List, [], ◌∷◌, ℕ, ◌+◌, ◌*◌, ◌<◌, ltb, length, replicate}
+use Rattle.std.specs.Prelude.{◌≡◌, cond, Option, Some, None, List, [], ◌∷◌, ℕ, ◌+◌, ◌*◌, ◌<◌, ltb, length, replicate}
 use Rattle.std.proofs.lemmas.List.Edits.{sets}
 use Rattle.model.specs.declared.Answer.{Answer}
 use Rattle.model.specs.declared.Answer.TheVariants as answer
@@ -22,8 +22,8 @@ with_line i l lines = sets lines (6 * i) (line_words (i + 1) l)
 
 -- ---- before the first round
 
-abbrev pub first_at : Bool → Answer → Sizes → At
-first_at more answer s = record { more = more; answer = answer; rounds = 0; sizes = s; lines = replicate 48 0 }
+abbrev pub first_at : Option Answer → Sizes → At
+first_at answer s = record { answer = answer; rounds = 0; sizes = s; lines = replicate 48 0 }
 
 -- ---- one round on
 
@@ -35,8 +35,7 @@ pub record Advancing (m : At) : Type 0 where
 -- after a move
 abbrev pub gone : At → Line → At
 gone m l = record {
-  more = ltb (m.rounds + 1) most_rounds;
-  answer = answer.Done (record { rounds = m.rounds + 1; registers = l.registers; operands = l.operands });
+  answer = cond (ltb (m.rounds + 1) most_rounds) None (Some (answer.Done (record { rounds = m.rounds + 1; registers = l.registers; operands = l.operands })));
   rounds = m.rounds + 1;
   sizes = record { blocks = m.sizes.blocks; insts = m.sizes.insts; regs = l.registers; lent = m.sizes.lent; opers = l.operands };
   lines = with_line m.rounds l m.lines;
@@ -44,9 +43,9 @@ gone m l = record {
 
 -- at the end, with this answer
 abbrev pub ended : At → Answer → At
-ended m a = record { more = false; answer = a; rounds = m.rounds; sizes = m.sizes; lines = m.lines }
+ended m a = record { answer = Some a; rounds = m.rounds; sizes = m.sizes; lines = m.lines }
 
 abbrev pub advanced : At → Step → At
 advanced m (Goes l) = gone m l
 advanced m Short = ended m (answer.Short (record { rounds = m.rounds; registers = m.sizes.regs; operands = m.sizes.opers }))
-advanced m Ends = ended m m.answer
+advanced m Ends = ended m (answer.Done (record { rounds = m.rounds; registers = m.sizes.regs; operands = m.sizes.opers }))

@@ -9,18 +9,17 @@ use crate::state::At;
 use acceptance::lent::Lent;
 use cfg::graph::Func;
 use inst::table::Table;
-use model::{Answer, Used};
+use model::Answer;
 use search::begin::begin;
 use sizes::{Room, Sizes};
 
-fn at_first(more: bool, answer: Answer, s: Sizes) -> At
-    ensures { result ≡ first_at more answer s }
+fn at_first(answer: Option<Answer>, sizes: Sizes) -> At
+    ensures { result ≡ first_at answer sizes }
 {
     At {
-        more: more,
-        answer: answer,
+        answer,
         rounds: 0,
-        sizes: s,
+        sizes,
         lines: [0u32; 48],
     }
 }
@@ -41,7 +40,7 @@ pub fn start(
         w32: work32.len(),
         records: records,
     };
-    if let Some(a) = judge(t, lent, room) {
+    if let Some(answer) = judge(t, lent, room) {
         let none = Sizes {
             blocks: 0,
             insts: 0,
@@ -49,7 +48,7 @@ pub fn start(
             lent: 0,
             opers: used.opers,
         };
-        return at_first(false, a, none);
+        return at_first(Some(answer), none);
     }
     let s = Sizes {
         blocks: (lent.bounds.len() / 2) as u32,
@@ -66,10 +65,5 @@ pub fn start(
         targets: lent.targets,
     };
     begin(&func, lent.ops, work64, work32, s);
-    let done = Answer::Done(Used {
-        rounds: 0,
-        registers: used.regs,
-        operands: used.opers,
-    });
-    at_first(true, done, s)
+    at_first(None, s)
 }

@@ -9,32 +9,20 @@ use oneround::weigh::{Line, Step};
 use sizes::Sizes;
 
 // The answer, and a line of six words for each round: its number, from, into, moved, then registers and operands in use. Zeros behind.
+// They are words and no eight structs of six: `model`'s lines are lists of words of any length, which the contract sets end to end.
 #[derive(Clone, Copy)]
 pub struct Ran {
     pub answer: Answer,
     pub lines: [u32; 48],
 }
 
-// Is a round to be tried? The answer, where none is; rounds done; sizes, with the registers and operands in use; the lines so far.
+// The answer, where no more round is to be tried; rounds done; sizes, with the registers and operands in use; the lines so far.
 #[derive(Clone, Copy)]
 pub struct At {
-    pub more: bool,
-    pub answer: Answer,
+    pub answer: Option<Answer>,
     pub rounds: u32,
     pub sizes: Sizes,
     pub lines: [u32; 48],
-}
-
-// What the call gives, where it is at its end.
-pub fn given(m: At) -> Ran
-    ensures { (result.answer ≡ m.answer) × (result.lines ≡ m.lines) }
-{
-    let answer = m.answer;
-    let lines = m.lines;
-    Ran {
-        answer: answer,
-        lines: lines,
-    }
 }
 
 // The lines with that of round i + 1.
@@ -61,15 +49,13 @@ fn gone(m: At, l: Line) -> At
     requires { Advancing m }
     ensures { result ≡ gone m l }
 {
-    let before = m.lines;
-    let lines = put_line(before, m.rounds, l);
     let done = m.rounds + 1;
-    let was = m.sizes;
     let answer = Answer::Done(Used {
         rounds: done,
         registers: l.registers,
         operands: l.operands,
     });
+    let was = m.sizes;
     let sizes = Sizes {
         blocks: was.blocks,
         insts: was.insts,
@@ -78,11 +64,14 @@ fn gone(m: At, l: Line) -> At
         opers: l.operands,
     };
     At {
-        more: done < Sink::ROUNDS,
-        answer: answer,
+        answer: if done < Sink::ROUNDS {
+            None
+        } else {
+            Some(answer)
+        },
         rounds: done,
-        sizes: sizes,
-        lines: lines,
+        sizes,
+        lines: put_line(m.lines, m.rounds, l),
     }
 }
 
@@ -90,14 +79,12 @@ fn gone(m: At, l: Line) -> At
 fn ended(m: At, answer: Answer) -> At
     ensures { result ≡ ended m answer }
 {
-    let sizes = m.sizes;
     let lines = m.lines;
     At {
-        more: false,
-        answer: answer,
+        answer: Some(answer),
         rounds: m.rounds,
-        sizes: sizes,
-        lines: lines,
+        sizes: m.sizes,
+        lines,
     }
 }
 
@@ -106,20 +93,14 @@ pub fn advance(m: At, r: Step) -> At
     requires { Advancing m }
     ensures { result ≡ advanced m r }
 {
+    let used = Used {
+        rounds: m.rounds,
+        registers: m.sizes.regs,
+        operands: m.sizes.opers,
+    };
     match r {
         Step::Goes(l) => gone(m, l),
-        Step::Short => {
-            let sizes = m.sizes;
-            let answer = Answer::Short(Used {
-                rounds: m.rounds,
-                registers: sizes.regs,
-                operands: sizes.opers,
-            });
-            ended(m, answer)
-        }
-        Step::Ends => {
-            let answer = m.answer;
-            ended(m, answer)
-        }
+        Step::Short => ended(m, Answer::Short(used)),
+        Step::Ends => ended(m, Answer::Done(used)),
     }
 }

@@ -1,6 +1,6 @@
 -- The call's loop (01, "A round"): where it has come to after some rounds, and what it then gives. Assumes nothing.
-use mathlib.Core.Path.{◌≡◌, sym, ◌∙◌, subst}
-use mathlib.Core.Bool.{true, false}
+use mathlib.Core.Path.{◌≡◌, ◌∙◌}
+use Rattle.std.specs.Prelude.{Some, None}
 use mathlib.Core.List.{List}
 use Prim.Native.Nat.{ℕ, ◌≤◌}
 use native.Mathlib.Omega.{arith}
@@ -8,7 +8,6 @@ use lib.ListN.{length}
 use Rattle.model.specs.declared.Answer.{Answer}
 use Rattle.model.specs.Picture.{Picture}
 use Rattle.model.specs.Refusal.{refusal}
-use Rattle.model.specs.Pass.{sink}
 use Rattle.laws.proofs.Accepted.{work_room}
 use Rattle.checks.specs.Causes.{picture_of}
 use Rattle.facts.specs.declared.Fact.{Fact}
@@ -16,7 +15,6 @@ use Rattle.oneround.specs.declared.weigh.Step.{Step}
 use Rattle.oneround.specs.Round.{Stepped}
 use Rattle.rounds.specs.declared.state.At.{At}
 use Rattle.rounds.specs.State.{advanced}
-use Rattle.rounds.specs.Ended.{Did}
 use Rattle.rounds.specs.Going.{Between, Going}
 use Rattle.rounds.proofs.Going.{Sized, onward}
 use Rattle.sink.specs.Sink.{Coming, Finished}
@@ -32,10 +30,10 @@ pub record Running (Q : Picture) (m : At) (work64 work32 : List ℕ) (fs : List 
 
 module _ {Q : Picture} {m : At} {work64 work32 : List ℕ} {fs : List Fact} {Z : Picture} {q : At} {work64' work32' : List ℕ} {fs' : List Fact} (r : Running Q m work64 work32 fs Z q work64' work32' fs') where
   -- a round is to be tried
-  pub running_next : (c : Coming Q m work64 work32 (length fs)) → q.more ≡ true → Between c.P c.w64 c.w32 (length fs) Z q work64' work32'
+  pub running_next : (c : Coming Q m work64 work32 (length fs)) → q.answer ≡ None → Between c.P c.w64 c.w32 (length fs) Z q work64' work32'
   running_next c on = (r.still c.P c.w64 c.w32 c.going).opens on
 
-  pub running_many : Coming Q m work64 work32 (length fs) → q.more ≡ true → 800 ≤ length fs'
+  pub running_many : Coming Q m work64 work32 (length fs) → q.answer ≡ None → 800 ≤ length fs'
   running_many c on =
       let a = (work_room c.P c.w64 c.w32 (length fs) (running_next c on).lent).2 in
       let e = r.size in
@@ -46,7 +44,7 @@ module _ {Q : Picture} {m : At} {work64 work32 : List ℕ} {fs : List Fact} {Z :
     abbrev at_next : At → Picture
     at_next p = picture_of bounds recs locs vias types p.sizes.regs ops p.sizes.opers Z.pairs Z.targets Z.replay
 
-    pub running_more : (p : At) {fs'' : List Fact} → q.more ≡ true → p ≡ advanced q a → Sized Z (at_next p) → length fs'' ≡ length fs' → Running Q m work64 work32 fs (at_next p) p work64'' work32'' fs''
+    pub running_more : (p : At) {fs'' : List Fact} → q.answer ≡ None → p ≡ advanced q a → Sized Z (at_next p) → length fs'' ≡ length fs' → Running Q m work64 work32 fs (at_next p) p work64'' work32'' fs''
     running_more p on e z f = record {
       still = λ P w64 w32 y. onward ((r.still P w64 w32 y).opens on) s p z e;
       sized = record {
@@ -64,12 +62,10 @@ module _ {Q : Picture} {m : At} {work64 work32 : List ℕ} {fs : List Fact} {Z :
     }
 
   -- at the end
-  pub running_end : q.more ≡ false → (a : Answer) (lines : List ℕ) → a ≡ q.answer → lines ≡ q.lines
-      → Finished Q m work64 work32 fs a lines Z.bounds Z.recs Z.locs Z.vias Z.types Z.ops work64' work32' fs'
-  running_end off a lines ea el = record {
-    did = λ P w64 w32 y.
-        subst (λ (x : Answer). Did (sink P w64 w32 (length fs)) x lines Z.bounds Z.recs Z.locs Z.vias Z.types Z.ops) (sym ea)
-        (subst (λ (x : List ℕ). Did (sink P w64 w32 (length fs)) q.answer x Z.bounds Z.recs Z.locs Z.vias Z.types Z.ops) (sym el) ((r.still P w64 w32 y).ends off));
+  pub running_end : (a : Answer) → q.answer ≡ Some a
+      → Finished Q m work64 work32 fs a q.lines Z.bounds Z.recs Z.locs Z.vias Z.types Z.ops work64' work32' fs'
+  running_end a off = record {
+    did = λ P w64 w32 y. (r.still P w64 w32 y).ends a off;
     work = λ P w64 w32 y. record {
       size64 = r.size64;
       size32 = r.size32;

@@ -17,7 +17,7 @@ use facts::Fact;
 use inst::table::Table;
 use oneround::round::round;
 use rounds::start::start;
-use rounds::state::{At, Ran, advance, given};
+use rounds::state::{At, Ran, advance};
 use sizes::InUse;
 
 // Round after round, until none is to be tried.
@@ -43,7 +43,11 @@ fn run(
         Finished P m work64.old work32.old facts.old result.answer result.lines bounds.new recs.new locs.new vias.new types.new ops.new work64.new work32.new facts.new }
 {
     let mut m = m;
-    while m.more {
+    loop {
+        if let Some(answer) = m.answer {
+            let lines = m.lines;
+            return Ran { answer, lines };
+        }
         let r = round(
             t, bounds, recs, locs, vias, types, ops, pairs, targets, replay, work64, work32, facts,
             m.sizes,
@@ -51,7 +55,6 @@ fn run(
         let next = advance(m, r);
         m = next;
     }
-    given(m)
 }
 
 // The call, with a line for each round. Of its promise: the picture lent, the outcome for it, the cause for which it is refused (or 0)

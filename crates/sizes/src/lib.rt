@@ -8,7 +8,8 @@ use model::CHAIN_WORDS;
 use words::bits::width;
 use words::numbers::wide;
 
-// Registers and operands in use.
+// Registers and operands in use, as a picture is lent with them. (`model::Used` is what an answer gives, by the paper's names and with the
+// rounds; `apply`'s `Counts` has what a move would need, which is a length.)
 #[derive(Clone, Copy)]
 pub struct InUse {
     pub regs: u32,

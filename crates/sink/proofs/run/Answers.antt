@@ -5,18 +5,18 @@ use Rattle.sink.proofs.run.Goals as goal
 
 pub round-r-requires : goal.round-r-requires
 round-r-requires c =
-    (opening (running_next c.loop-m.invariant c.requires c.loop-m-test.true), running_many c.loop-m.invariant c.requires c.loop-m-test.true)
+    (opening (running_next c.loop-m.invariant c.requires c.in_default.is), running_many c.loop-m.invariant c.requires c.in_default.is)
 
 pub advance-next-requires : goal.advance-next-requires
-advance-next-requires c = advancing (running_next c.loop-m.invariant c.requires c.loop-m-test.true)
+advance-next-requires c = advancing (running_next c.loop-m.invariant c.requires c.in_default.is)
 
 pub loop-m-smaller : goal.loop-m-smaller
-loop-m-smaller c = fewer c.loop-m.m c.advance-next.result c.round-r.result c.loop-m-test.true (running_next c.loop-m.invariant c.requires c.loop-m-test.true).few c.advance-next.ensures
+loop-m-smaller c = fewer c.loop-m.m c.advance-next.result c.round-r.result c.in_default.is (running_next c.loop-m.invariant c.requires c.in_default.is).few c.advance-next.ensures
 
 pub loop-m-preserved : goal.loop-m-preserved
 loop-m-preserved c =
-    running_more c.loop-m.invariant c.round-r.ensures.0 c.advance-next.result c.loop-m-test.true c.advance-next.ensures
+    running_more c.loop-m.invariant c.round-r.ensures.0 c.advance-next.result c.in_default.is c.advance-next.ensures
     (record { bounds = c.round-r.auto.bounds; recs = c.round-r.auto.recs; locs = c.round-r.auto.locs; vias = c.round-r.auto.vias; types = c.round-r.auto.types; ops = c.round-r.auto.ops }) c.round-r.auto.facts
 
-pub returns : goal.returns
-returns c = running_end c.loop-m.invariant c.loop-m-test.false _ _ c.given.ensures.0 c.given.ensures.1
+pub returns-in-Some : goal.returns-in-Some
+returns-in-Some c = running_end c.loop-m.invariant c.in-Some.answer c.in-Some.is
