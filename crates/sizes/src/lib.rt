@@ -6,7 +6,6 @@ ghost use Rattle.sizes.specs.Parts.{regs_at, stamps_at, needed_at, preds_at};
 
 use model::CHAIN_WORDS;
 use words::bits::width;
-use words::numbers::wide;
 
 // Registers and operands in use, as a picture is lent with them. (`model::Used` is what an answer gives, by the paper's names and with the
 // rounds; `apply`'s `Counts` has what a move would need, which is a length.)
@@ -42,7 +41,7 @@ pub fn at_needed(s: Sizes) -> usize
     requires { (s.blocks ≤ 4096) × (s.regs ≤ 65536) }
     ensures { (result ≡ needed_at s) × (result ≤ 8388608) }
 {
-    let rows = wide(s.blocks) * width(wide(s.regs));
+    let rows = s.blocks as usize * width(s.regs as usize);
     rows + rows
 }
 
@@ -51,7 +50,7 @@ pub fn at_regs(s: Sizes) -> usize
     requires { (s.blocks ≤ 4096) × (s.lent ≤ 65536) }
     ensures { (result ≡ regs_at s) × (result ≤ 16777216) }
 {
-    4 * wide(s.blocks) * width(s.lent)
+    4 * s.blocks as usize * width(s.lent)
 }
 
 // Where their stamps begin.
