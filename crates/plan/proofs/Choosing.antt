@@ -17,7 +17,7 @@ use Rattle.legalset.proofs.Settling.{Settling, settling_start, settling_more, se
 use Rattle.plan.specs.declared.sweep.Tally.{Tally}
 use Rattle.plan.specs.declared.settle.Cycle.{Cycle}
 use Rattle.summary.specs.Passes.{Summed, Greatest}
-use Rattle.plan.specs.Sweep.{part, marks}
+use Rattle.plan.specs.Sweep.{part, marks, is_start, is_forth}
 use Rattle.plan.specs.Cycle.{Next}
 use Rattle.legality.proofs.Chosen.{chosen}
 
@@ -26,13 +26,13 @@ pub record Choosing (recs ops regs : List ℕ) (w : List Fact) (bits : List ℕ)
   pub S : List ℕ
   pub begun : (p : ℕ) → in_set S p ≡ begins (view recs ops w regs) c.n (λ q. eqb (fact_in w q).class 1) c.m (λ r. is_in bits (64 * c.o + r)) p
   pub size : length S ≡ c.n
-  pub settling : Settling (view recs ops w regs) c.n c.m S (marks c.n fs) c.ahead c.quiet c.done c.left
-  pub sum : c.ahead ≡ true → Summed recs w c.n 0 (part c.s (length regs) work) ls (marks c.n fs)
+  pub settling : Settling (view recs ops w regs) c.n c.m S (marks c.n fs) (is_forth c.phase) c.quiet c.done c.left
+  pub sum : (is_forth c.phase) ≡ true → Summed recs w c.n 0 (part c.s (length regs) work) ls (marks c.n fs)
   pub go : c.go ≡ (not c.done && leb c.least c.left)
 
 module _ {recs ops regs : List ℕ} {w : List Fact} {bits : List ℕ} {c r : Cycle} {a : Tally} (x : Next c a r) where
   -- the start
-  pub choosing_first : {work ls : List ℕ} {fs : List Fact} → c.first ≡ true → a.count ≡ members (marks c.n fs) → length (marks c.n fs) ≡ c.n
+  pub choosing_first : {work ls : List ℕ} {fs : List Fact} → (is_start c.phase) ≡ true → a.count ≡ members (marks c.n fs) → length (marks c.n fs) ≡ c.n
       → ((p : ℕ) → in_set (marks c.n fs) p ≡ begins (view recs ops w regs) c.n (λ q. eqb (fact_in w q).class 1) c.m (λ r. is_in bits (64 * c.o + r)) p) → Choosing recs ops regs w bits r work ls fs
   choosing_first {work} {ls} {fs} e k l b =
       let z = x.begun e in
@@ -51,8 +51,8 @@ module _ {recs ops regs : List ℕ} {w : List Fact} {bits : List ℕ} {c r : Cyc
       }
 
   -- a sweep backward or forward
-  pub choosing_more : {work ls work' ls' : List ℕ} {fs fs' : List Fact} → c.first ≡ false → Choosing recs ops regs w bits c work ls fs
-      → Passed (pass_ok (view recs ops w regs) c.n c.ahead) 0 c.m (marks c.n fs) (marks c.n fs') a.count → (c.ahead ≡ false → Summed recs w c.n 0 (part c.s (length regs) work') ls' (marks c.n fs'))
+  pub choosing_more : {work ls work' ls' : List ℕ} {fs fs' : List Fact} → (is_start c.phase) ≡ false → Choosing recs ops regs w bits c work ls fs
+      → Passed (pass_ok (view recs ops w regs) c.n (is_forth c.phase)) 0 c.m (marks c.n fs) (marks c.n fs') a.count → ((is_forth c.phase) ≡ false → Summed recs w c.n 0 (part c.s (length regs) work') ls' (marks c.n fs'))
       → Choosing recs ops regs w bits r work' ls' fs'
   choosing_more {work} {ls} {work'} {ls'} {fs} {fs'} e i k y =
       let z = x.went e in
@@ -62,15 +62,15 @@ module _ {recs ops regs : List ℕ} {w : List Fact} {bits : List ℕ} {c r : Cyc
             ∙ sym (ap₂ (λ (n m : ℕ). begins (view recs ops w regs) n (λ q. eqb (fact_in w q).class 1) m (λ r₁. is_in bits (64 * r.o + r₁)) p) x.n x.m
             ∙ ap (λ (o : ℕ). begins (view recs ops w regs) c.n (λ q. eqb (fact_in w q).class 1) c.m (λ r₁. is_in bits (64 * o + r₁)) p) x.o);
         size = i.size ∙ sym x.n;
-        settling = subst (λ (n : ℕ). Settling (view recs ops w regs) n r.m i.S (marks n fs') r.ahead r.quiet r.done r.left) (sym x.n)
-            (subst (λ (m : ℕ). Settling (view recs ops w regs) c.n m i.S (marks c.n fs') r.ahead r.quiet r.done r.left) (sym x.m)
+        settling = subst (λ (n : ℕ). Settling (view recs ops w regs) n r.m i.S (marks n fs') (is_forth r.phase) r.quiet r.done r.left) (sym x.n)
+            (subst (λ (m : ℕ). Settling (view recs ops w regs) c.n m i.S (marks c.n fs') (is_forth r.phase) r.quiet r.done r.left) (sym x.m)
             (subst (λ (b : Bool). Settling (view recs ops w regs) c.n c.m i.S (marks c.n fs') b r.quiet r.done r.left) (sym z.1)
-            (subst (λ (b : Bool). Settling (view recs ops w regs) c.n c.m i.S (marks c.n fs') (not c.ahead) b r.done r.left) (sym z.2)
-            (subst (λ (b : Bool). Settling (view recs ops w regs) c.n c.m i.S (marks c.n fs') (not c.ahead) (eqb a.count 0) b r.left) (sym z.3)
-            (subst (Settling (view recs ops w regs) c.n c.m i.S (marks c.n fs') (not c.ahead) (eqb a.count 0) (c.quiet && eqb a.count 0)) (sym z.0)
+            (subst (λ (b : Bool). Settling (view recs ops w regs) c.n c.m i.S (marks c.n fs') (not (is_forth c.phase)) b r.done r.left) (sym z.2)
+            (subst (λ (b : Bool). Settling (view recs ops w regs) c.n c.m i.S (marks c.n fs') (not (is_forth c.phase)) (eqb a.count 0) b r.left) (sym z.3)
+            (subst (Settling (view recs ops w regs) c.n c.m i.S (marks c.n fs') (not (is_forth c.phase)) (eqb a.count 0) (c.quiet && eqb a.count 0)) (sym z.0)
             (settling_more (view recs ops w regs) c.n c.m i.settling k))))));
         sum = λ u. subst (λ (n : ℕ). Summed recs w n 0 (part r.s (length regs) work') ls' (marks n fs')) (sym x.n)
-            (subst (λ (s : ℕ). Summed recs w c.n 0 (part s (length regs) work') ls' (marks c.n fs')) (sym x.s) (y (not-true c.ahead (sym z.1 ∙ u))));
+            (subst (λ (s : ℕ). Summed recs w c.n 0 (part s (length regs) work') ls' (marks c.n fs')) (sym x.s) (y (not-true (is_forth c.phase) (sym z.1 ∙ u))));
         go = x.go;
       }
 

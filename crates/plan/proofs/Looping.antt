@@ -20,7 +20,7 @@ use Rattle.legalset.specs.Rules.{begins, pass_ok}
 use Rattle.plan.specs.declared.sweep.Tally.{Tally}
 use Rattle.plan.specs.declared.settle.Cycle.{Cycle}
 use Rattle.summary.specs.Passes.{Near, Around, Ended, Summed, Greatest}
-use Rattle.plan.specs.Sweep.{part, marks, Sweepable, Swept}
+use Rattle.plan.specs.Sweep.{part, marks, Sweepable, Swept, is_start, is_forth}
 use Rattle.plan.specs.Cycle.{sweep_of, Readied, Next, Choosable, Chose}
 use Rattle.legality.proofs.Marking.{members_low, past_marks}
 use Rattle.plan.proofs.Cycling.{to_go, to_go_less}
@@ -38,9 +38,9 @@ pub record Looping (recs ops regs : List ℕ) (z : Cycle) (work₀ : List ℕ) (
   pub bare_same : bare fs ≡ bare fs₀
   pub long : length fs ≡ length fs₀
   pub around : Around z.s (length regs) work₀ work
-  pub start : c.first ≡ true → (work ≡ work₀) × (c.ahead ≡ false)
-  pub goes : c.first ≡ true → c.go ≡ true
-  pub on : c.first ≡ false → Choosing recs ops regs (bare fs₀) work₀ c work ls fs
+  pub start : (is_start c.phase) ≡ true → (work ≡ work₀) × ((is_forth c.phase) ≡ false)
+  pub goes : (is_start c.phase) ≡ true → c.go ≡ true
+  pub on : (is_start c.phase) ≡ false → Choosing recs ops regs (bare fs₀) work₀ c work ls fs
 
 pub looping_none : {recs ops regs work ls : List ℕ} {fs : List Fact} {z : Cycle} → Choosable recs ops regs work fs z → Looping recs ops regs z work fs z work ls fs
 looping_none h = record { o = refl; s = refl; m = refl; n = refl; least = refl; bare_same = refl; long = refl; around = record { size = refl; below = refl; behind = refl }; start = λ e. (refl, h.ahead); goes = λ e. h.go; on = λ e. clash h.first e }
@@ -51,7 +51,7 @@ ready_may h i = let x = i.s in let y = i.around.size in let room = h.room in ome
 
 -- a bound on the sweeps still to come
 abbrev pub to_come : Cycle → List Fact → ℕ
-to_come c fs = cond c.first (3 * c.n + 4) (to_go (marks c.n fs) c.quiet c.done)
+to_come c fs = cond (is_start c.phase) (3 * c.n + 4) (to_go (marks c.n fs) c.quiet c.done)
 
 -- the sweep may be made
 pub sweep_may : {recs ops regs work₀ work ls work' ls' : List ℕ} {fs₀ fs : List Fact} {z c : Cycle} {a : Tally} → Choosable recs ops regs work₀ fs₀ z → Looping recs ops regs z work₀ fs₀ c work ls fs
@@ -74,7 +74,7 @@ sweep_may {recs} {ops} {regs} {work₀} {work} {ls} {work'} {ls'} {fs₀} {fs} {
       row = omega arith;
       room = omega arith;
       long = omega arith;
-      turns = turns c.ahead;
+      turns = turns (is_forth c.phase);
       fresh = f;
     }
   where
@@ -91,12 +91,12 @@ module _ {recs ops regs work₀ work ls work' ls' work'' ls'' : List ℕ} {fs₀
   in_x = let e = i.n in let k = i.m in let g = h.in_x in omega arith
 
   -- what was dropped
-  pub sweep_pass : c.first ≡ false → Passed (pass_ok (view recs ops (bare fs₀) regs) c.n c.ahead) 0 c.m (marks c.n fs) (marks c.n fs'') b.count
-      × (c.ahead ≡ false → Summed recs (bare fs₀) c.n 0 (part c.s (length regs) work'') ls'' (marks c.n fs''))
-  sweep_pass e = go (bool? c.ahead)
+  pub sweep_pass : (is_start c.phase) ≡ false → Passed (pass_ok (view recs ops (bare fs₀) regs) c.n (is_forth c.phase)) 0 c.m (marks c.n fs) (marks c.n fs'') b.count
+      × ((is_forth c.phase) ≡ false → Summed recs (bare fs₀) c.n 0 (part c.s (length regs) work'') ls'' (marks c.n fs''))
+  sweep_pass e = go (bool? (is_forth c.phase))
     where
-      go : (c.ahead ≡ true) ⊎ (c.ahead ≡ false) → Passed (pass_ok (view recs ops (bare fs₀) regs) c.n c.ahead) 0 c.m (marks c.n fs) (marks c.n fs'') b.count
-          × (c.ahead ≡ false → Summed recs (bare fs₀) c.n 0 (part c.s (length regs) work'') ls'' (marks c.n fs''))
+      go : ((is_forth c.phase) ≡ true) ⊎ ((is_forth c.phase) ≡ false) → Passed (pass_ok (view recs ops (bare fs₀) regs) c.n (is_forth c.phase)) 0 c.m (marks c.n fs) (marks c.n fs'') b.count
+          × ((is_forth c.phase) ≡ false → Summed recs (bare fs₀) c.n 0 (part c.s (length regs) work'') ls'' (marks c.n fs''))
       go (inl v) =
           let y = r.ahead e v in (
             pass_forth may i.bare_same in_x e v (subst (λ (q : List ℕ). Summed recs (bare fs₀) c.n 0 (part c.s (length regs) q) ls' (marks c.n fs)) (sym y.0)
@@ -109,7 +109,7 @@ module _ {recs ops regs work₀ work ls work' ls' work'' ls'' : List ℕ} {fs₀
           let p = pass_back may i.bare_same in_x e v y.0 y.1 (subst (λ (k : ℕ). Swept recs ops regs (sweep_of c ls) work' ls' fs a k work'' ls'' fs'' b) (ap (λ (x : Bool). cond x c.m c.n) v) sw) in
           (p.0, λ u. p.1)
 
-  pub next_may : c.first ≡ false → b.count ≤ c.left
+  pub next_may : (is_start c.phase) ≡ false → b.count ≤ c.left
   next_may e = let p = (sweep_pass e).0.count in let q = (i.on e).settling.count in omega arith
 
   pub looping_more : {t : Cycle} → Next c b t → Looping recs ops regs z work₀ fs₀ t work'' ls'' fs''
@@ -124,10 +124,10 @@ module _ {recs ops regs work₀ work ls work' ls' work'' ls'' : List ℕ} {fs₀
     around = around_on i.around (subst (λ (s : ℕ). Around s (length regs) work work'') i.s (around_on r.around (swept_around sw)));
     start = λ e. clash e x.first;
     goes = λ e. clash e x.first;
-    on = λ _. on (bool? c.first);
+    on = λ _. on (bool? (is_start c.phase));
   }
     where
-      on : (c.first ≡ true) ⊎ (c.first ≡ false) → Choosing recs ops regs (bare fs₀) work₀ t work'' ls'' fs''
+      on : ((is_start c.phase) ≡ true) ⊎ ((is_start c.phase) ≡ false) → Choosing recs ops regs (bare fs₀) work₀ t work'' ls'' fs''
       on (inl e) =
           let v = (i.start e).1 in
           let k : (sweep_of c ls).k ≡ c.n = ap (λ (x : Bool). cond x c.m c.n) v in
@@ -139,9 +139,9 @@ module _ {recs ops regs work₀ work ls work' ls' work'' ls'' : List ℕ} {fs₀
 
   -- fewer sweeps are to come
   pub looping_less : {t : Cycle} → c.go ≡ true → Next c b t → to_come t fs'' < to_come c fs
-  looping_less {t} g x = subst (λ (y : Bool). cond y (3 * t.n + 4) (to_go (marks t.n fs'') t.quiet t.done) < to_come c fs) (sym x.first) (subst (λ (n : ℕ). to_go (marks n fs'') t.quiet t.done < to_come c fs) (sym x.n) (less (bool? c.first)))
+  looping_less {t} g x = subst (λ (y : Bool). cond y (3 * t.n + 4) (to_go (marks t.n fs'') t.quiet t.done) < to_come c fs) (sym x.first) (subst (λ (n : ℕ). to_go (marks n fs'') t.quiet t.done < to_come c fs) (sym x.n) (less (bool? (is_start c.phase))))
     where
-      less : (c.first ≡ true) ⊎ (c.first ≡ false) → to_go (marks c.n fs'') t.quiet t.done < to_come c fs
+      less : ((is_start c.phase) ≡ true) ⊎ ((is_start c.phase) ≡ false) → to_go (marks c.n fs'') t.quiet t.done < to_come c fs
       less (inl e) =
           let y = x.begun e in
           let l = marks_long c.n fs'' (let l = swept_long sw in let l₀ = i.long in let g = h.long in let n = i.n in omega arith) in
@@ -158,9 +158,9 @@ module _ {recs ops regs work₀ work ls work' ls' work'' ls'' : List ℕ} {fs₀
 -- no sweep is to come
 pub looping_end : {recs ops regs work₀ work ls : List ℕ} {fs₀ fs : List Fact} {z c : Cycle} → Choosable recs ops regs work₀ fs₀ z → Looping recs ops regs z work₀ fs₀ c work ls fs → c.go ≡ false
     → Chose recs ops regs z work₀ fs₀ work fs c.left
-looping_end {recs} {ops} {regs} {work₀} {work} {ls} {fs₀} {fs} {z} {c} h i e = record { set = set (bool? c.first); around = i.around; bare_same = i.bare_same; long = i.long }
+looping_end {recs} {ops} {regs} {work₀} {work} {ls} {fs₀} {fs} {z} {c} h i e = record { set = set (bool? (is_start c.phase)); around = i.around; bare_same = i.bare_same; long = i.long }
   where
-    set : (c.first ≡ true) ⊎ (c.first ≡ false) → Greatest recs ops (bare fs₀) regs work₀ z.o (marks z.n fs) z.m z.n z.least c.left
+    set : ((is_start c.phase) ≡ true) ⊎ ((is_start c.phase) ≡ false) → Greatest recs ops (bare fs₀) regs work₀ z.o (marks z.n fs) z.m z.n z.least c.left
     set (inl y) = clash (i.goes y) e
     set (inr y) =
         subst (λ (o : ℕ). Greatest recs ops (bare fs₀) regs work₀ o (marks z.n fs) z.m z.n z.least c.left) i.o

@@ -24,7 +24,7 @@ use Rattle.legalset.proofs.Settling.{ahead_passed, back_passed}
 use Rattle.plan.specs.declared.sweep.Sweep.{Sweep}
 use Rattle.plan.specs.declared.sweep.Tally.{Tally}
 use Rattle.summary.specs.Passes.{writer_word, begin_test, Summed, Ended, Shows, Near, Around}
-use Rattle.plan.specs.Sweep.{part, place, Visit, Sweepable, Swept, none, more, marks_of, marks}
+use Rattle.plan.specs.Sweep.{part, place, Visit, Sweepable, Swept, none, more, marks_of, marks, is_start, is_forth}
 use Rattle.summary.proofs.Backing.{Backing, GoneBack, backing_none, backing_more, backing_end, gone_back}
 use Rattle.summary.proofs.Forwarding.{Going, GoneOn, going_none, going_more, going_end, gone_on, now_in}
 use Rattle.legality.proofs.Starting.{begins_in}
@@ -80,7 +80,7 @@ module _ {recs ops regs work : List ℕ} {fs : List Fact} {g : Sweep} {a : Tally
 
     -- ---- backward
 
-    module _ (e : g.first ≡ false) (u : g.ahead ≡ false) (clear : st₀ ≡ replicate (length st₀) 0) (new : ls ≡ replicate 2008 0) where
+    module _ (e : (is_start g.phase) ≡ false) (u : (is_forth g.phase) ≡ false) (clear : st₀ ≡ replicate (length st₀) 0) (new : ls ≡ replicate 2008 0) where
       pub swept_back : {i : ℕ} {work' ls' : List ℕ} {fs' : List Fact} {a' : Tally} → i ≤ g.n → Swept recs ops regs g work ls fs a i work' ls' fs' a'
           → Backing recs ops (bare fs) g.n (g.n - i) st₀ (marks g.n fs) (part g.s (length regs) work') ls' (marks g.n fs') a'.count
       swept_back h none = let z : g.n - 0 ≡ g.n = omega arith in
@@ -107,7 +107,7 @@ module _ {recs ops regs work : List ℕ} {fs : List Fact} {g : Sweep} {a : Tally
 
     -- ---- forward, by the summary that the sweep backward left
 
-    module _ (e : g.first ≡ false) (u : g.ahead ≡ true) (z : Summed recs (bare fs) g.n 0 st₀ ls (marks g.n fs)) (sus : g.sus ≡ get_or ls 2007 0 % 1024) (bar : g.bar ≡ get_or ls 2006 0 % 1024) where
+    module _ (e : (is_start g.phase) ≡ false) (u : (is_forth g.phase) ≡ true) (z : Summed recs (bare fs) g.n 0 st₀ ls (marks g.n fs)) (sus : g.sus ≡ get_or ls 2007 0 % 1024) (bar : g.bar ≡ get_or ls 2006 0 % 1024) where
       pub swept_forth : {i : ℕ} {work' ls' : List ℕ} {fs' : List Fact} {a' : Tally} → i ≤ g.n → Swept recs ops regs g work ls fs a i work' ls' fs' a'
           → Going recs ops (bare fs) regs g.n i st₀ ls (marks g.n fs) (part g.s (length regs) work') ls' (marks g.n fs') a'.count
       swept_forth h none = subst (Going recs ops (bare fs) regs g.n 0 st₀ ls (marks g.n fs) st₀ ls (marks g.n fs)) (sym r.fresh) (going_none z)
@@ -160,7 +160,7 @@ started_more {recs} {ops} {w} {regs} {bits} {o} {m} {n} {q} {S} {c} {b} l h e k 
         let u = d.count in
         omega arith
 
-module _ {recs ops regs work : List ℕ} {fs : List Fact} {g : Sweep} {a : Tally} {k : ℕ} (r : Sweepable recs ops regs work fs g a k) (d : Ended recs (bare fs) g.n regs) {ls : List ℕ} (e : g.first ≡ true) (u : g.ahead ≡ false) where
+module _ {recs ops regs work : List ℕ} {fs : List Fact} {g : Sweep} {a : Tally} {k : ℕ} (r : Sweepable recs ops regs work fs g a k) (d : Ended recs (bare fs) g.n regs) {ls : List ℕ} (e : (is_start g.phase) ≡ true) (u : (is_forth g.phase) ≡ false) where
   pub swept_work : {i : ℕ} {work' ls' : List ℕ} {fs' : List Fact} {a' : Tally} → Swept recs ops regs g work ls fs a i work' ls' fs' a' → work' ≡ work
   swept_work none = refl
   swept_work (more i work' ls' work'' ls'' fs' a' a'' s v) = (v.begun e).1.0 ∙ swept_work s
@@ -212,20 +212,20 @@ summed_near z = record { org = λ r h. let x = z.stamps.wrote r h in omega arith
 
 -- ---- the sweeps as passes over the marks, where the numbers of the facts are w
 
-module _ {recs ops regs : List ℕ} {w : List Fact} {work ls : List ℕ} {fs : List Fact} {g : Sweep} {a : Tally} {k : ℕ} (r : Sweepable recs ops regs work fs g a k) (is : bare fs ≡ w) (h : g.m ≤ g.n) (e : g.first ≡ false)
+module _ {recs ops regs : List ℕ} {w : List Fact} {work ls : List ℕ} {fs : List Fact} {g : Sweep} {a : Tally} {k : ℕ} (r : Sweepable recs ops regs work fs g a k) (is : bare fs ≡ w) (h : g.m ≤ g.n) (e : (is_start g.phase) ≡ false)
     {work' ls' : List ℕ} {fs' : List Fact} {a' : Tally} where
-  pub pass_back : g.ahead ≡ false → part g.s (length regs) work ≡ replicate (length regs) 0 → ls ≡ replicate 2008 0 → Swept recs ops regs g work ls fs a g.n work' ls' fs' a'
-      → Passed (pass_ok (view recs ops w regs) g.n g.ahead) 0 g.m (marks g.n fs) (marks g.n fs') a'.count × Summed recs w g.n 0 (part g.s (length regs) work') ls' (marks g.n fs')
+  pub pass_back : (is_forth g.phase) ≡ false → part g.s (length regs) work ≡ replicate (length regs) 0 → ls ≡ replicate 2008 0 → Swept recs ops regs g work ls fs a g.n work' ls' fs' a'
+      → Passed (pass_ok (view recs ops w regs) g.n (is_forth g.phase)) 0 g.m (marks g.n fs) (marks g.n fs') a'.count × Summed recs w g.n 0 (part g.s (length regs) work') ls' (marks g.n fs')
   pass_back u clear new s =
       let l = part_len g.s (length regs) work r.room in
       let z = passed_back r e u (clear ∙ ap (λ (x : ℕ). replicate x 0) (sym l)) new s in (
-        subst (λ (v : List Fact). Passed (pass_ok (view recs ops v regs) g.n g.ahead) 0 g.m (marks g.n fs) (marks g.n fs') a'.count) is (back_passed (view recs ops (bare fs) regs) g.n g.m h u z.0),
+        subst (λ (v : List Fact). Passed (pass_ok (view recs ops v regs) g.n (is_forth g.phase)) 0 g.m (marks g.n fs) (marks g.n fs') a'.count) is (back_passed (view recs ops (bare fs) regs) g.n g.m h u z.0),
         subst (λ (v : List Fact). Summed recs v g.n 0 (part g.s (length regs) work') ls' (marks g.n fs')) is z.2,
       )
 
-  pub pass_forth : g.ahead ≡ true → Summed recs w g.n 0 (part g.s (length regs) work) ls (marks g.n fs) → g.sus ≡ get_or ls 2007 0 % 1024 → g.bar ≡ get_or ls 2006 0 % 1024 → k ≡ g.m → Swept recs ops regs g work ls fs a k work' ls' fs' a'
-      → Passed (pass_ok (view recs ops w regs) g.n g.ahead) 0 g.m (marks g.n fs) (marks g.n fs') a'.count
+  pub pass_forth : (is_forth g.phase) ≡ true → Summed recs w g.n 0 (part g.s (length regs) work) ls (marks g.n fs) → g.sus ≡ get_or ls 2007 0 % 1024 → g.bar ≡ get_or ls 2006 0 % 1024 → k ≡ g.m → Swept recs ops regs g work ls fs a k work' ls' fs' a'
+      → Passed (pass_ok (view recs ops w regs) g.n (is_forth g.phase)) 0 g.m (marks g.n fs) (marks g.n fs') a'.count
   pass_forth u sum sus bar m s =
       let z = passed_forth r e u (subst (λ (v : List Fact). Summed recs v g.n 0 (part g.s (length regs) work) ls (marks g.n fs)) (sym is) sum) sus bar r.turns s in
-      subst (λ (v : List Fact). Passed (pass_ok (view recs ops v regs) g.n g.ahead) 0 g.m (marks g.n fs) (marks g.n fs') a'.count) is
+      subst (λ (v : List Fact). Passed (pass_ok (view recs ops v regs) g.n (is_forth g.phase)) 0 g.m (marks g.n fs) (marks g.n fs') a'.count) is
       (ahead_passed (view recs ops (bare fs) regs) g.n g.m u (subst (λ (x : ℕ). Passed (own (forward_ok (view recs ops (bare fs) regs) g.n)) 0 x (marks g.n fs) (marks g.n fs') a'.count) m z.0))

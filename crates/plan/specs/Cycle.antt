@@ -7,17 +7,17 @@ use Rattle.plan.specs.declared.sweep.Sweep.{Sweep}
 use Rattle.plan.specs.declared.sweep.Tally.{Tally}
 use Rattle.plan.specs.declared.settle.Cycle.{Cycle}
 use Rattle.summary.specs.Passes.{Around, Ended, Greatest}
-use Rattle.plan.specs.Sweep.{part, marks}
+use Rattle.plan.specs.Sweep.{part, marks, is_start, is_forth}
 
 -- which sweep comes next; the last suspension and barrier as the notes ls have them
 abbrev pub sweep_of : Cycle → List ℕ → Sweep
-sweep_of c ls = record { first = c.first; ahead = c.ahead; o = c.o; s = c.s; m = c.m; n = c.n; k = cond c.ahead c.m c.n; sus = get_or ls 2007 0 % 1024; bar = get_or ls 2006 0 % 1024 }
+sweep_of c ls = record { phase = c.phase; o = c.o; s = c.s; m = c.m; n = c.n; k = cond (is_forth c.phase) c.m c.n; sus = get_or ls 2007 0 % 1024; bar = get_or ls 2006 0 % 1024 }
 
 -- before a sweep backward the words of the R registers and the notes are cleared
 pub record Readied (R : ℕ) (c : Cycle) (work ls work' ls' : List ℕ) : Type 0 where
-  pub kept : (c.first ≡ true) → (work' ≡ work) × (ls' ≡ ls)
-  pub ahead : c.first ≡ false → c.ahead ≡ true → (work' ≡ work) × (ls' ≡ ls)
-  pub back : c.first ≡ false → c.ahead ≡ false → (part c.s R work' ≡ replicate R 0) × (ls' ≡ replicate 2008 0)
+  pub kept : ((is_start c.phase) ≡ true) → (work' ≡ work) × (ls' ≡ ls)
+  pub ahead : (is_start c.phase) ≡ false → (is_forth c.phase) ≡ true → (work' ≡ work) × (ls' ≡ ls)
+  pub back : (is_start c.phase) ≡ false → (is_forth c.phase) ≡ false → (part c.s R work' ≡ replicate R 0) × (ls' ≡ replicate 2008 0)
   pub around : Around c.s R work work'
 
 -- after a sweep that counted a
@@ -27,9 +27,9 @@ pub record Next (c : Cycle) (a : Tally) (r : Cycle) : Type 0 where
   pub m : r.m ≡ c.m
   pub n : r.n ≡ c.n
   pub least : r.least ≡ c.least
-  pub first : r.first ≡ false
-  pub begun : c.first ≡ true → (r.left ≡ a.count) × (r.ahead ≡ false) × (r.quiet ≡ false) × (r.done ≡ false)
-  pub went : c.first ≡ false → (r.left ≡ c.left - a.count) × (r.ahead ≡ not c.ahead) × (r.quiet ≡ eqb a.count 0) × (r.done ≡ (c.quiet && eqb a.count 0))
+  pub first : (is_start r.phase) ≡ false
+  pub begun : (is_start c.phase) ≡ true → (r.left ≡ a.count) × ((is_forth r.phase) ≡ false) × (r.quiet ≡ false) × (r.done ≡ false)
+  pub went : (is_start c.phase) ≡ false → (r.left ≡ c.left - a.count) × ((is_forth r.phase) ≡ not (is_forth c.phase)) × (r.quiet ≡ eqb a.count 0) × (r.done ≡ (c.quiet && eqb a.count 0))
   pub go : r.go ≡ (not r.done && leb r.least r.left)
 
 -- what the loop over sweeps asks: a chain's facts, a row and the registers' words in the work, and that the start comes next
@@ -41,8 +41,8 @@ pub record Choosable (recs ops regs work : List ℕ) (fs : List Fact) (c : Cycle
   pub row : c.o ≤ length work
   pub room : c.s + length regs ≤ length work
   pub long : c.n ≤ length fs
-  pub first : c.first ≡ true
-  pub ahead : c.ahead ≡ false
+  pub first : (is_start c.phase) ≡ true
+  pub ahead : (is_forth c.phase) ≡ false
   pub go : c.go ≡ true
 
 -- the marks are the greatest legal set, of r members, or that has fewer than `least`; nothing else of the facts and of the work is changed

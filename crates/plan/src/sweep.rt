@@ -11,12 +11,20 @@ use legality::backward::back;
 use legality::forward::forth;
 use legality::start::begins_in;
 
-// Which sweep it is: `first` the start, else `ahead` that forward. The row of registers needed elsewhere begins at word `o` of the work,
-// the words of the registers at `s`; `n` positions, of which the first `m` are in x; `k` turns; the last kept suspension and barrier, and 1.
+// What a sweep does: it marks the positions to begin with, or drops members, by rule 1 from the last position back or by rules 3 to 6
+// from the first one forth.
+#[derive(Clone, Copy)]
+pub enum Phase {
+    Start,
+    Back,
+    Forth,
+}
+
+// Which sweep it is. The row of registers needed elsewhere begins at word `o` of the work, the words of the registers at `s`; `n`
+// positions, of which the first `m` are in x; `k` turns; the last kept suspension and barrier, and 1.
 #[derive(Clone, Copy)]
 pub struct Sweep {
-    pub first: bool,
-    pub ahead: bool,
+    pub phase: Phase,
     pub o: usize,
     pub s: usize,
     pub m: usize,
@@ -38,10 +46,10 @@ fn place(g: Sweep, i: usize) -> usize
     requires { i < g.n }
     ensures { result ≡ place g i }
 {
-    if g.ahead {
-        return i;
+    match g.phase {
+        Phase::Forth => i,
+        _ => g.n - 1 - i,
     }
-    g.n - 1 - i
 }
 
 fn counted(keep: bool, count: u32, more: bool) -> Tally
@@ -110,17 +118,21 @@ fn visit(
     requires { Visitable code.now.recs.now code.now.ops.now regs.now work.old g f a p }
     ensures { Visit code.now.recs.now code.now.ops.now regs.now g f a p work.old lasts.old work.new lasts.new result }
 {
-    if g.first {
-        let b = starts(code, f, regs, work, g, p);
-        return counted(b, a.count, b);
-    }
     let e = g.s + regs.len();
-    if g.ahead {
-        let b = forth_in(code, f, regs, work, g, e, lasts, p);
-        return counted(b, a.count, f.member & !b);
+    match g.phase {
+        Phase::Start => {
+            let b = starts(code, f, regs, work, g, p);
+            counted(b, a.count, b)
+        }
+        Phase::Back => {
+            let b = back_in(code, f, work, g.s, e, lasts, p);
+            counted(b, a.count, f.member & !b)
+        }
+        Phase::Forth => {
+            let b = forth_in(code, f, regs, work, g, e, lasts, p);
+            counted(b, a.count, f.member & !b)
+        }
     }
-    let b = back_in(code, f, work, g.s, e, lasts, p);
-    counted(b, a.count, f.member & !b)
 }
 
 // k turns of a sweep.

@@ -12,6 +12,7 @@ use inst::index::BlockId;
 use inst::table::Table;
 use plan::set::legal_set;
 use plan::settle::Cycle;
+use plan::sweep::Phase;
 use sizes::{COPIED, Sizes, at_needed, at_preds, at_stamps};
 use words::bits::width;
 use words::numbers::wide;
@@ -49,8 +50,7 @@ fn from_start(o: usize, s: usize, m: usize, n: usize, least: u32) -> Cycle
 {
     Cycle {
         go: true,
-        first: true,
-        ahead: false,
+        phase: Phase::Start,
         quiet: false,
         done: false,
         o: o,
