@@ -28,19 +28,19 @@ cleared_part {s} {e} work ys h l z =
     (part_is work ys h l n ∙ z ∙ ap (λ (k : ℕ). replicate k 0) (mid_len s e work l), part_around work ys h l n)
 
 pub readied_other : (R : ℕ) (c : Cycle) (work ls : List ℕ) → (c.phase ≡ Back → ⊥) → Readied R c work ls work ls
-readied_other R c work ls n = record { kept = λ _. (refl, refl); ahead = λ u v. (refl, refl); back = λ u v. absurd (n (is_back c.phase u v)); around = nothing_moved c.s R work }
+readied_other R c work ls n = record { kept = λ _. (refl, refl); ahead = λ u v. (refl, refl); back = λ u v. absurd (n (is_back c.phase u v)); around = nothing_moved c.span.s R work }
 
 pub readied_back : (R : ℕ) (c : Cycle) {work work' ls ls' : List ℕ} → (is_start c.phase) ≡ false → (is_forth c.phase) ≡ false
-    → (part c.s (c.s + R - c.s) work' ≡ replicate (c.s + R - c.s) 0) × Around c.s (c.s + R - c.s) work work' → ls' ≡ replicate 2008 0 → Readied R c work ls work' ls'
+    → (part c.span.s (c.span.s + R - c.span.s) work' ≡ replicate (c.span.s + R - c.span.s) 0) × Around c.span.s (c.span.s + R - c.span.s) work work' → ls' ≡ replicate 2008 0 → Readied R c work ls work' ls'
 readied_back R c {work} {work'} e f k z = record {
   kept = λ u. clash u e;
   ahead = λ u v. clash v f;
-  back = λ u v. (subst (λ (x : ℕ). part c.s x work' ≡ replicate x 0) (sized c.s R) k.0, z);
-  around = subst (λ (x : ℕ). Around c.s x work work') (sized c.s R) k.1;
+  back = λ u v. (subst (λ (x : ℕ). part c.span.s x work' ≡ replicate x 0) (sized c.span.s R) k.0, z);
+  around = subst (λ (x : ℕ). Around c.span.s x work work') (sized c.span.s R) k.1;
 }
 
 pub next_first : (c : Cycle) (a : Tally) → c.phase ≡ Start
-    → Next c a (record { go = leb c.least a.count; phase = Back; quiet = false; done = false; o = c.o; s = c.s; m = c.m; n = c.n; least = c.least; left = a.count })
+    → Next c a (record { go = leb c.least a.count; phase = Back; quiet = false; done = false; span = c.span; least = c.least; left = a.count })
 next_first c a e = record { o = refl; s = refl; m = refl; n = refl; least = refl; first = refl; begun = λ _. (refl, refl, refl, refl); went = λ u. clash (ap is_start e) u; go = refl }
 
 -- p comes after the phase of c
@@ -50,10 +50,7 @@ pub next_went : (c : Cycle) (a : Tally) (p : Phase) → is_start c.phase ≡ fal
       phase = p;
       quiet = eqb a.count 0;
       done = c.quiet && eqb a.count 0;
-      o = c.o;
-      s = c.s;
-      m = c.m;
-      n = c.n;
+      span = c.span;
       least = c.least;
       left = c.left - a.count;
     })

@@ -6,23 +6,20 @@ ghost use Rattle.plan.specs.Sweep.{part, is_start, is_forth};
 ghost use Rattle.plan.specs.declared.sweep.Tally.{Tally as TallyAt};
 ghost use Rattle.plan.specs.Cycle.{sweep_of, Readied, Next, Choosable, Chose};
 
-use crate::sweep::{Phase, Sweep, Tally, run};
+use crate::sweep::{Phase, Span, Sweep, Tally, run};
 use facts::Fact;
 use inst::code::Code;
 use summary::notes::{BARRIER, MEMBER, SUSPENSION};
 
 // `go`: there is a sweep to come, of this phase. `quiet`: the last dropped nothing; `done`: nor did the one before. `left` members are
-// left; with fewer than `least` no more sweeps are made. The rest is as in `Sweep`.
+// left; with fewer than `least` no more sweeps are made.
 #[derive(Clone, Copy)]
 pub struct Cycle {
     pub go: bool,
     pub phase: Phase,
     pub quiet: bool,
     pub done: bool,
-    pub o: usize,
-    pub s: usize,
-    pub m: usize,
-    pub n: usize,
+    pub span: Span,
     pub least: u32,
     pub left: u32,
 }
@@ -33,13 +30,10 @@ fn sweep_of(c: Cycle, lasts: &[u32; 2008]) -> Sweep
 {
     Sweep {
         phase: c.phase,
-        o: c.o,
-        s: c.s,
-        m: c.m,
-        n: c.n,
+        span: c.span,
         k: match c.phase {
-            Phase::Forth => c.m,
-            _ => c.n,
+            Phase::Forth => c.span.m,
+            _ => c.span.n,
         },
         sus: lasts[SUSPENSION] % MEMBER,
         bar: lasts[BARRIER] % MEMBER,
@@ -56,13 +50,13 @@ fn clear_part(work: &mut [u64], s: usize, e: usize)
 
 // Before a sweep backward the words of the `regs` registers and the notes are cleared. Says which sweep comes.
 pub fn ready(work: &mut [u64], lasts: &mut [u32; 2008], c: Cycle, regs: usize) -> Sweep
-    requires { c.s + regs ≤ length work.old }
+    requires { c.span.s + regs ≤ length work.old }
     ensures { (result ≡ sweep_of c lasts.old) × Readied regs c work.old lasts.old work.new lasts.new }
 {
     let g = sweep_of(c, lasts);
     match c.phase {
         Phase::Back => {
-            clear_part(work, c.s, c.s + regs);
+            clear_part(work, c.span.s, c.span.s + regs);
             *lasts = [0u32; 2008];
             g
         }

@@ -20,15 +20,21 @@ pub enum Phase {
     Forth,
 }
 
-// Which sweep it is. The row of registers needed elsewhere begins at word `o` of the work, the words of the registers at `s`; `n`
-// positions, of which the first `m` are in x; `k` turns; the last kept suspension and barrier, and 1.
+// What all sweeps are over: the row of registers needed elsewhere begins at word `o` of the work, the words of the registers at `s`; `n`
+// positions, of which the first `m` are in x.
 #[derive(Clone, Copy)]
-pub struct Sweep {
-    pub phase: Phase,
+pub struct Span {
     pub o: usize,
     pub s: usize,
     pub m: usize,
     pub n: usize,
+}
+
+// Which sweep it is, and over what; `k` turns; the last kept suspension and barrier, and 1.
+#[derive(Clone, Copy)]
+pub struct Sweep {
+    pub phase: Phase,
+    pub span: Span,
     pub k: usize,
     pub sus: u32,
     pub bar: u32,
@@ -43,12 +49,12 @@ pub struct Tally {
 
 // Turn i's position.
 fn place(g: Sweep, i: usize) -> usize
-    requires { i < g.n }
+    requires { i < g.span.n }
     ensures { result ≡ place g i }
 {
     match g.phase {
         Phase::Forth => i,
-        _ => g.n - 1 - i,
+        _ => g.span.n - 1 - i,
     }
 }
 
@@ -64,10 +70,10 @@ fn counted(keep: bool, count: u32, more: bool) -> Tally
 
 // Does position p, of fact f, begin in the set?
 fn starts(code: &Code, f: Fact, regs: &[u32], work: &[u64], g: Sweep, p: usize) -> bool
-    requires { Written code.now.recs.now (length regs.now) f.rec f.def f.more × (p < 800) × (g.o ≤ length work.now) }
-    ensures { result ≡ (ltb p g.m && begin_test code.now.recs.now regs.now work.now f g.o p) }
+    requires { Written code.now.recs.now (length regs.now) f.rec f.def f.more × (p < 800) × (g.span.o ≤ length work.now) }
+    ensures { result ≡ (ltb p g.span.m && begin_test code.now.recs.now regs.now work.now f g.span.o p) }
 {
-    p < g.m && begins_in(code, f, regs, work, g.o, p)
+    p < g.span.m && begins_in(code, f, regs, work, g.span.o, p)
 }
 
 // The step backward, over the words of the work from s on.
@@ -97,10 +103,10 @@ fn forth_in(
     lasts: &mut [u32; 2008],
     p: usize,
 ) -> bool
-    requires { Written code.now.recs.now (e - g.s) f.rec f.def f.more × Readable code.now.recs.now code.now.ops.now (e - g.s) f × Small f × Near (part g.s (e - g.s) work.old) × (length regs.now ≡ e - g.s) × (p < 800) × (g.s ≤ e) × (e ≤ length work.old) }
-    ensures { Forwarded code.now.recs.now code.now.ops.now regs.now f g.sus g.bar p (part g.s (e - g.s) work.old) lasts.old (part g.s (e - g.s) work.new) lasts.new result × Around g.s (e - g.s) work.old work.new }
+    requires { Written code.now.recs.now (e - g.span.s) f.rec f.def f.more × Readable code.now.recs.now code.now.ops.now (e - g.span.s) f × Small f × Near (part g.span.s (e - g.span.s) work.old) × (length regs.now ≡ e - g.span.s) × (p < 800) × (g.span.s ≤ e) × (e ≤ length work.old) }
+    ensures { Forwarded code.now.recs.now code.now.ops.now regs.now f g.sus g.bar p (part g.span.s (e - g.span.s) work.old) lasts.old (part g.span.s (e - g.span.s) work.new) lasts.new result × Around g.span.s (e - g.span.s) work.old work.new }
 {
-    let s = g.s;
+    let s = g.span.s;
     forth(code, f, regs, &mut work[s..e], lasts, g.sus, g.bar, p)
 }
 
@@ -118,14 +124,14 @@ fn visit(
     requires { Visitable code.now.recs.now code.now.ops.now regs.now work.old g f a p }
     ensures { Visit code.now.recs.now code.now.ops.now regs.now g f a p work.old lasts.old work.new lasts.new result }
 {
-    let e = g.s + regs.len();
+    let e = g.span.s + regs.len();
     match g.phase {
         Phase::Start => {
             let b = starts(code, f, regs, work, g, p);
             counted(b, a.count, b)
         }
         Phase::Back => {
-            let b = back_in(code, f, work, g.s, e, lasts, p);
+            let b = back_in(code, f, work, g.span.s, e, lasts, p);
             counted(b, a.count, f.member & !b)
         }
         Phase::Forth => {

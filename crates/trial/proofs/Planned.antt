@@ -123,7 +123,7 @@ module _ {bounds recs ops pairs targets : List ℕ} {s : Sizes} {c : Chain} {w :
     row_fits = let r = room t.planning.lists in omega (arith, r.rows, r.four, r.words64, d.size64)
 
     -- the part of the stamps
-    stamps_is : a.sweeps.s ≡ stamps_at s
+    stamps_is : a.sweeps.span.s ≡ stamps_at s
     stamps_is = ⊎_elim (λ (e : a.least ≡ 0). ap (λ (z : Cycle). z.s) (d.off e).0) (λ (h : 0 < a.least). ap (λ (z : Cycle). z.s) (d.on h).1) (some_or a.least)
 
     -- the registers' words, where there is a target

@@ -12,7 +12,7 @@ use inst::index::BlockId;
 use inst::table::Table;
 use plan::set::legal_set;
 use plan::settle::Cycle;
-use plan::sweep::Phase;
+use plan::sweep::{Phase, Span};
 use sizes::{COPIED, Sizes, at_needed, at_preds, at_stamps};
 use words::bits::width;
 use words::numbers::wide;
@@ -53,11 +53,8 @@ fn from_start(o: usize, s: usize, m: usize, n: usize, least: u32) -> Cycle
         phase: Phase::Start,
         quiet: false,
         done: false,
-        o: o,
-        s: s,
-        m: m,
-        n: n,
-        least: least,
+        span: Span { o, s, m, n },
+        least,
         left: 0,
     }
 }
@@ -148,7 +145,11 @@ pub fn try_target<'a>(
 {
     let a = take_aim(t, bounds, recs, pairs, targets, work64, work32, s, c, g);
     let e = a.end;
-    let code = Code { table: t, recs, ops };
+    let code = Code {
+        table: t,
+        recs,
+        ops,
+    };
     let k = legal_set(&code, &work32[COPIED..e], work64, facts, a.sweeps);
     let b = taken(k, a.least, g.places);
     put_facts(facts, work32, b.places);
