@@ -21,7 +21,7 @@ pub begin-requires : goal.begin-requires
 begin-requires c =
     let g = c.args in
     let P = picture_of g.bounds.now g.recs.now g.locs.now g.vias.now g.types.now g.used.regs g.ops.now g.used.opers g.pairs.now g.targets.now [] in
-    (c.requires, beginning P g.work64.now g.work32.now g.records c.judge-v.ensures c.in_default.is)
+    beginning P g.work64.now g.work32.now g.records c.judge-v.ensures c.in_default.is
 
 pub returns : goal.returns
 returns c = λ replay.
