@@ -17,64 +17,64 @@ use Rattle.legalset.proofs.Settling.{Settling, settling_start, settling_more, se
 use Rattle.plan.specs.declared.sweep.Tally.{Tally}
 use Rattle.plan.specs.declared.settle.Cycle.{Cycle}
 use Rattle.summary.specs.Passes.{Summed, Greatest}
-use Rattle.plan.specs.Sweep.{part, marks}
+use Rattle.plan.specs.Sweep.{part, marks, is_start, is_forth}
 use Rattle.plan.specs.Cycle.{Next}
 use Rattle.legality.proofs.Chosen.{chosen}
 
 -- after the start: S are the marks to begin with; bits has the row of registers needed elsewhere
 pub record Choosing (recs ops regs : List ℕ) (w : List Fact) (bits : List ℕ) (c : Cycle) (work ls : List ℕ) (fs : List Fact) : Type 0 where
   pub S : List ℕ
-  pub begun : (p : ℕ) → in_set S p ≡ begins (view recs ops w regs) c.n (λ q. eqb (fact_in w q).class 1) c.m (λ r. is_in bits (64 * c.o + r)) p
-  pub size : length S ≡ c.n
-  pub settling : Settling (view recs ops w regs) c.n c.m S (marks c.n fs) c.ahead c.quiet c.done c.left
-  pub sum : c.ahead ≡ true → Summed recs w c.n 0 (part c.s (length regs) work) ls (marks c.n fs)
+  pub begun : (p : ℕ) → in_set S p ≡ begins (view recs ops w regs) c.span.n (λ q. eqb (fact_in w q).class 1) c.span.m (λ r. is_in bits (64 * c.span.o + r)) p
+  pub size : length S ≡ c.span.n
+  pub settling : Settling (view recs ops w regs) c.span.n c.span.m S (marks c.span.n fs) (is_forth c.phase) c.quiet c.done c.left
+  pub sum : (is_forth c.phase) ≡ true → Summed recs w c.span.n 0 (part c.span.s (length regs) work) ls (marks c.span.n fs)
   pub go : c.go ≡ (not c.done && leb c.least c.left)
 
 module _ {recs ops regs : List ℕ} {w : List Fact} {bits : List ℕ} {c r : Cycle} {a : Tally} (x : Next c a r) where
   -- the start
-  pub choosing_first : {work ls : List ℕ} {fs : List Fact} → c.first ≡ true → a.count ≡ members (marks c.n fs) → length (marks c.n fs) ≡ c.n
-      → ((p : ℕ) → in_set (marks c.n fs) p ≡ begins (view recs ops w regs) c.n (λ q. eqb (fact_in w q).class 1) c.m (λ r. is_in bits (64 * c.o + r)) p) → Choosing recs ops regs w bits r work ls fs
+  pub choosing_first : {work ls : List ℕ} {fs : List Fact} → (is_start c.phase) ≡ true → a.count ≡ members (marks c.span.n fs) → length (marks c.span.n fs) ≡ c.span.n
+      → ((p : ℕ) → in_set (marks c.span.n fs) p ≡ begins (view recs ops w regs) c.span.n (λ q. eqb (fact_in w q).class 1) c.span.m (λ r. is_in bits (64 * c.span.o + r)) p) → Choosing recs ops regs w bits r work ls fs
   choosing_first {work} {ls} {fs} e k l b =
       let z = x.begun e in
       record {
-        S = marks r.n fs;
+        S = marks r.span.n fs;
         begun = λ p. ap (λ (n : ℕ). in_set (marks n fs) p) x.n ∙ b p
-            ∙ sym (ap₂ (λ (n m : ℕ). begins (view recs ops w regs) n (λ q. eqb (fact_in w q).class 1) m (λ r₁. is_in bits (64 * r.o + r₁)) p) x.n x.m
-            ∙ ap (λ (o : ℕ). begins (view recs ops w regs) c.n (λ q. eqb (fact_in w q).class 1) c.m (λ r₁. is_in bits (64 * o + r₁)) p) x.o);
+            ∙ sym (ap₂ (λ (n m : ℕ). begins (view recs ops w regs) n (λ q. eqb (fact_in w q).class 1) m (λ r₁. is_in bits (64 * r.span.o + r₁)) p) x.n x.m
+            ∙ ap (λ (o : ℕ). begins (view recs ops w regs) c.span.n (λ q. eqb (fact_in w q).class 1) c.span.m (λ r₁. is_in bits (64 * o + r₁)) p) x.o);
         size = ap (λ (n : ℕ). length (marks n fs)) x.n ∙ l ∙ sym x.n;
-        settling = subst (λ (b₁ : Bool). Settling (view recs ops w regs) r.n r.m (marks r.n fs) (marks r.n fs) b₁ r.quiet r.done r.left) (sym z.1)
-            (subst (λ (b₁ : Bool). Settling (view recs ops w regs) r.n r.m (marks r.n fs) (marks r.n fs) false b₁ r.done r.left) (sym z.2)
-            (subst (λ (b₁ : Bool). Settling (view recs ops w regs) r.n r.m (marks r.n fs) (marks r.n fs) false false b₁ r.left) (sym z.3)
-            (settling_start (view recs ops w regs) r.n r.m (z.0 ∙ k ∙ sym (ap (λ (n : ℕ). members (marks n fs)) x.n)))));
+        settling = subst (λ (b₁ : Bool). Settling (view recs ops w regs) r.span.n r.span.m (marks r.span.n fs) (marks r.span.n fs) b₁ r.quiet r.done r.left) (sym z.1)
+            (subst (λ (b₁ : Bool). Settling (view recs ops w regs) r.span.n r.span.m (marks r.span.n fs) (marks r.span.n fs) false b₁ r.done r.left) (sym z.2)
+            (subst (λ (b₁ : Bool). Settling (view recs ops w regs) r.span.n r.span.m (marks r.span.n fs) (marks r.span.n fs) false false b₁ r.left) (sym z.3)
+            (settling_start (view recs ops w regs) r.span.n r.span.m (z.0 ∙ k ∙ sym (ap (λ (n : ℕ). members (marks n fs)) x.n)))));
         sum = λ u. clash u z.1;
         go = x.go;
       }
 
   -- a sweep backward or forward
-  pub choosing_more : {work ls work' ls' : List ℕ} {fs fs' : List Fact} → c.first ≡ false → Choosing recs ops regs w bits c work ls fs
-      → Passed (pass_ok (view recs ops w regs) c.n c.ahead) 0 c.m (marks c.n fs) (marks c.n fs') a.count → (c.ahead ≡ false → Summed recs w c.n 0 (part c.s (length regs) work') ls' (marks c.n fs'))
+  pub choosing_more : {work ls work' ls' : List ℕ} {fs fs' : List Fact} → (is_start c.phase) ≡ false → Choosing recs ops regs w bits c work ls fs
+      → Passed (pass_ok (view recs ops w regs) c.span.n (is_forth c.phase)) 0 c.span.m (marks c.span.n fs) (marks c.span.n fs') a.count → ((is_forth c.phase) ≡ false → Summed recs w c.span.n 0 (part c.span.s (length regs) work') ls' (marks c.span.n fs'))
       → Choosing recs ops regs w bits r work' ls' fs'
   choosing_more {work} {ls} {work'} {ls'} {fs} {fs'} e i k y =
       let z = x.went e in
       record {
         S = i.S;
         begun = λ p. i.begun p
-            ∙ sym (ap₂ (λ (n m : ℕ). begins (view recs ops w regs) n (λ q. eqb (fact_in w q).class 1) m (λ r₁. is_in bits (64 * r.o + r₁)) p) x.n x.m
-            ∙ ap (λ (o : ℕ). begins (view recs ops w regs) c.n (λ q. eqb (fact_in w q).class 1) c.m (λ r₁. is_in bits (64 * o + r₁)) p) x.o);
+            ∙ sym (ap₂ (λ (n m : ℕ). begins (view recs ops w regs) n (λ q. eqb (fact_in w q).class 1) m (λ r₁. is_in bits (64 * r.span.o + r₁)) p) x.n x.m
+            ∙ ap (λ (o : ℕ). begins (view recs ops w regs) c.span.n (λ q. eqb (fact_in w q).class 1) c.span.m (λ r₁. is_in bits (64 * o + r₁)) p) x.o);
         size = i.size ∙ sym x.n;
-        settling = subst (λ (n : ℕ). Settling (view recs ops w regs) n r.m i.S (marks n fs') r.ahead r.quiet r.done r.left) (sym x.n)
-            (subst (λ (m : ℕ). Settling (view recs ops w regs) c.n m i.S (marks c.n fs') r.ahead r.quiet r.done r.left) (sym x.m)
-            (subst (λ (b : Bool). Settling (view recs ops w regs) c.n c.m i.S (marks c.n fs') b r.quiet r.done r.left) (sym z.1)
-            (subst (λ (b : Bool). Settling (view recs ops w regs) c.n c.m i.S (marks c.n fs') (not c.ahead) b r.done r.left) (sym z.2)
-            (subst (λ (b : Bool). Settling (view recs ops w regs) c.n c.m i.S (marks c.n fs') (not c.ahead) (eqb a.count 0) b r.left) (sym z.3)
-            (subst (Settling (view recs ops w regs) c.n c.m i.S (marks c.n fs') (not c.ahead) (eqb a.count 0) (c.quiet && eqb a.count 0)) (sym z.0)
-            (settling_more (view recs ops w regs) c.n c.m i.settling k))))));
-        sum = λ u. subst (λ (n : ℕ). Summed recs w n 0 (part r.s (length regs) work') ls' (marks n fs')) (sym x.n)
-            (subst (λ (s : ℕ). Summed recs w c.n 0 (part s (length regs) work') ls' (marks c.n fs')) (sym x.s) (y (not-true c.ahead (sym z.1 ∙ u))));
+        settling = subst (λ (n : ℕ). Settling (view recs ops w regs) n r.span.m i.S (marks n fs') (is_forth r.phase) r.quiet r.done r.left) (sym x.n)
+            (subst (λ (m : ℕ). Settling (view recs ops w regs) c.span.n m i.S (marks c.span.n fs') (is_forth r.phase) r.quiet r.done r.left) (sym x.m)
+            (subst (λ (b : Bool). Settling (view recs ops w regs) c.span.n c.span.m i.S (marks c.span.n fs') b r.quiet r.done r.left) (sym z.1)
+            (subst (λ (b : Bool). Settling (view recs ops w regs) c.span.n c.span.m i.S (marks c.span.n fs') (not (is_forth c.phase)) b r.done r.left) (sym z.2)
+            (subst (λ (b : Bool). Settling (view recs ops w regs) c.span.n c.span.m i.S (marks c.span.n fs') (not (is_forth c.phase)) (eqb a.count 0) b r.left) (sym z.3)
+            (subst (Settling (view recs ops w regs) c.span.n c.span.m i.S (marks c.span.n fs') (not (is_forth c.phase)) (eqb a.count 0) (c.quiet && eqb a.count 0)) (sym z.0)
+            (settling_more (view recs ops w regs) c.span.n c.span.m i.settling k))))));
+        sum = λ u. subst (λ (n : ℕ). Summed recs w n 0 (part r.span.s (length regs) work') ls' (marks n fs')) (sym x.n)
+            (subst (λ (s : ℕ). Summed recs w c.span.n 0 (part s (length regs) work') ls' (marks c.span.n fs')) (sym x.s) (y (not-true (is_forth c.phase) (sym z.1 ∙ u))));
         go = x.go;
       }
 
 -- no sweep is to come
-pub choosing_end : {recs ops regs : List ℕ} {w : List Fact} {bits work ls : List ℕ} {c : Cycle} {fs : List Fact} → Safe recs ops w c.n (length regs) → c.m ≤ c.n → Choosing recs ops regs w bits c work ls fs → c.go ≡ false
-    → Greatest recs ops w regs bits c.o (marks c.n fs) c.m c.n c.least c.left
-choosing_end {recs} {ops} {regs} {w} {bits} {c = c} s h i e = chosen regs bits c.o s h i.begun (settled (view recs ops w regs) c.n c.m i.settling (sym i.go ∙ e)) i.size
+pub choosing_end : {recs ops regs : List ℕ} {w : List Fact} {bits work ls : List ℕ} {c : Cycle} {fs : List Fact} → Safe recs ops w c.span.n (length regs) → c.span.m ≤ c.span.n → Choosing recs ops regs w bits c work ls fs → c.go ≡ false
+    → Greatest recs ops w regs bits c.span.o (marks c.span.n fs) c.span.m c.span.n c.least c.left
+choosing_end {recs} {ops} {regs} {w} {bits} {c = c} s h i e = chosen regs bits c.span.o s h i.begun (settled (view recs ops w regs) c.span.n c.span.m i.settling (sym i.go ∙ e)) i.size

@@ -14,7 +14,7 @@ use Rattle.facts.proofs.Bare.{bare_shows, bare_marked}
 use Rattle.plan.specs.declared.sweep.Sweep.{Sweep}
 use Rattle.plan.specs.declared.sweep.Tally.{Tally}
 use Rattle.summary.specs.Passes.{over, stamp, fact_word, Stamped, Near, Small, Shows}
-use Rattle.plan.specs.Sweep.{part, place, Visitable, Sweepable, Swept, none, more}
+use Rattle.plan.specs.Sweep.{part, place, Visitable, Sweepable, Swept, none, more, is_start, is_forth}
 use Rattle.summary.proofs.Wording.{written, readable, small}
 
 -- ---- a fact without its mark
@@ -24,11 +24,11 @@ shown fs p = record { same = bare_shows fs p }
 
 -- ---- turn by turn
 
-pub place_low : (g : Sweep) (i : ℕ) → i < g.n → place g i < g.n
+pub place_low : (g : Sweep) (i : ℕ) → i < g.span.n → place g i < g.span.n
 unfolding place
-place_low g i h = go g.ahead
+place_low g i h = go (is_forth g.phase)
   where
-    go : (b : Bool) → cond b i (g.n - 1 - i) < g.n
+    go : (b : Bool) → cond b i (g.span.n - 1 - i) < g.span.n
     go true = h
     go false = omega arith
 
@@ -55,9 +55,9 @@ module _ {recs ops regs work ls : List ℕ} {fs : List Fact} {g : Sweep} {a : Ta
 
   pub swept_count : {i : ℕ} {work' ls' : List ℕ} {fs' : List Fact} {a' : Tally} → Swept recs ops regs g work ls fs a i work' ls' fs' a' → a'.count ≤ a.count + i
   swept_count none = omega arith
-  swept_count (more i work' ls' work'' ls'' fs' a' a'' s v) = go (bool? g.first) (swept_count s)
+  swept_count (more i work' ls' work'' ls'' fs' a' a'' s v) = go (bool? (is_start g.phase)) (swept_count s)
     where
-      go : (g.first ≡ true) ⊎ (g.first ≡ false) → a'.count ≤ a.count + i → a''.count ≤ a.count + (i + 1)
+      go : ((is_start g.phase) ≡ true) ⊎ ((is_start g.phase) ≡ false) → a'.count ≤ a.count + i → a''.count ≤ a.count + (i + 1)
       go (inl e) y = let x = (v.begun e).1.1 in let z = hit_le a''.keep in omega arith
       go (inr e) y = let x = v.counted e in let z = hit_le ((get_or fs' (place g i) no_fact).member && not a''.keep) in omega arith
 
@@ -65,7 +65,7 @@ module _ {recs ops regs work ls : List ℕ} {fs : List Fact} {g : Sweep} {a : Ta
     says : {i : ℕ} {work' ls' : List ℕ} {fs' : List Fact} {a' : Tally} → Swept recs ops regs g work ls fs a i work' ls' fs' a' → (p : ℕ) → Shows (bare fs) p (get_or fs' p no_fact)
     says {fs' = fs'} s p = subst (λ (w : List Fact). Shows w p (get_or fs' p no_fact)) (swept_bare s) (shown fs' p)
 
-    swept_near : {i : ℕ} {work' ls' : List ℕ} {fs' : List Fact} {a' : Tally} → i ≤ k → g.first ≡ false → g.ahead ≡ true → Swept recs ops regs g work ls fs a i work' ls' fs' a' → Near (part g.s (length regs) work')
+    swept_near : {i : ℕ} {work' ls' : List ℕ} {fs' : List Fact} {a' : Tally} → i ≤ k → (is_start g.phase) ≡ false → (is_forth g.phase) ≡ true → Swept recs ops regs g work ls fs a i work' ls' fs' a' → Near (part g.span.s (length regs) work')
     swept_near h e u none = r.near e u
     swept_near h e u (more i work' ls' work'' ls'' fs' a' a'' s v) =
         let t = r.turns in near_next a''.keep (small r.safe (place_low g i (omega arith)) (says s (place g i))) (swept_near (omega arith) e u s) (v.forwarded e u).stamped
@@ -91,5 +91,5 @@ module _ {recs ops regs work ls : List ℕ} {fs : List Fact} {g : Sweep} {a : Ta
           few = omega arith;
         }
 
-    pub within : {i : ℕ} {work' ls' : List ℕ} {fs' : List Fact} {a' : Tally} → i < k → Swept recs ops regs g work ls fs a i work' ls' fs' a' → (place g i < length fs') × (i < g.n)
+    pub within : {i : ℕ} {work' ls' : List ℕ} {fs' : List Fact} {a' : Tally} → i < k → Swept recs ops regs g work ls fs a i work' ls' fs' a' → (place g i < length fs') × (i < g.span.n)
     within {i} h s = let t = r.turns in let p = place_low g i (omega arith) in let l = r.long in let z = swept_long s in (omega arith, omega arith)

@@ -24,7 +24,7 @@ use Rattle.legalset.proofs.Settling.{ahead_passed, back_passed}
 use Rattle.plan.specs.declared.sweep.Sweep.{Sweep}
 use Rattle.plan.specs.declared.sweep.Tally.{Tally}
 use Rattle.summary.specs.Passes.{writer_word, begin_test, Summed, Ended, Shows, Near, Around}
-use Rattle.plan.specs.Sweep.{part, place, Visit, Sweepable, Swept, none, more, marks_of, marks}
+use Rattle.plan.specs.Sweep.{part, place, Visit, Sweepable, Swept, none, more, marks_of, marks, is_start, is_forth}
 use Rattle.summary.proofs.Backing.{Backing, GoneBack, backing_none, backing_more, backing_end, gone_back}
 use Rattle.summary.proofs.Forwarding.{Going, GoneOn, going_none, going_more, going_end, gone_on, now_in}
 use Rattle.legality.proofs.Starting.{begins_in}
@@ -63,69 +63,69 @@ in_low n fs p h t = ⊎_elim (λ (l : p < n). l) (λ (l : n ≤ p). let z = mark
 
 module _ {recs ops regs work : List ℕ} {fs : List Fact} {g : Sweep} {a : Tally} {k : ℕ} (r : Sweepable recs ops regs work fs g a k) where
   abbrev st₀ : List ℕ
-  st₀ = part g.s (length regs) work
+  st₀ = part g.span.s (length regs) work
 
   same_len : length st₀ ≡ length regs
-  same_len = part_len g.s (length regs) work r.room
+  same_len = part_len g.span.s (length regs) work r.room
 
-  safe : Safe recs ops (bare fs) g.n (length st₀)
+  safe : Safe recs ops (bare fs) g.span.n (length st₀)
   safe = safe_len r.safe same_len
 
   module _ {ls : List ℕ} where
     says : {i : ℕ} {work' ls' : List ℕ} {fs' : List Fact} {a' : Tally} → Swept recs ops regs g work ls fs a i work' ls' fs' a' → (p : ℕ) → Shows (bare fs) p (get_or fs' p no_fact)
     says {fs' = fs'} s p = subst (λ (w : List Fact). Shows w p (get_or fs' p no_fact)) (swept_bare s) (shown fs' p)
 
-    marks_size : {i : ℕ} {work' ls' : List ℕ} {fs' : List Fact} {a' : Tally} → Swept recs ops regs g work ls fs a i work' ls' fs' a' → length (marks g.n fs') ≡ g.n
-    marks_size {fs' = fs'} s = let l = r.long in let z = swept_long s in marks_long g.n fs' (omega arith)
+    marks_size : {i : ℕ} {work' ls' : List ℕ} {fs' : List Fact} {a' : Tally} → Swept recs ops regs g work ls fs a i work' ls' fs' a' → length (marks g.span.n fs') ≡ g.span.n
+    marks_size {fs' = fs'} s = let l = r.long in let z = swept_long s in marks_long g.span.n fs' (omega arith)
 
     -- ---- backward
 
-    module _ (e : g.first ≡ false) (u : g.ahead ≡ false) (clear : st₀ ≡ replicate (length st₀) 0) (new : ls ≡ replicate 2008 0) where
-      pub swept_back : {i : ℕ} {work' ls' : List ℕ} {fs' : List Fact} {a' : Tally} → i ≤ g.n → Swept recs ops regs g work ls fs a i work' ls' fs' a'
-          → Backing recs ops (bare fs) g.n (g.n - i) st₀ (marks g.n fs) (part g.s (length regs) work') ls' (marks g.n fs') a'.count
-      swept_back h none = let z : g.n - 0 ≡ g.n = omega arith in
-          subst (λ (q : ℕ). Backing recs ops (bare fs) g.n q st₀ (marks g.n fs) st₀ ls (marks g.n fs) a.count) (sym z)
-          (subst (Backing recs ops (bare fs) g.n g.n st₀ (marks g.n fs) st₀ ls (marks g.n fs)) (sym r.fresh) (backing_none recs ops (bare fs) g.n st₀ (marks g.n fs) clear new inside))
+    module _ (e : (is_start g.phase) ≡ false) (u : (is_forth g.phase) ≡ false) (clear : st₀ ≡ replicate (length st₀) 0) (new : ls ≡ replicate 2008 0) where
+      pub swept_back : {i : ℕ} {work' ls' : List ℕ} {fs' : List Fact} {a' : Tally} → i ≤ g.span.n → Swept recs ops regs g work ls fs a i work' ls' fs' a'
+          → Backing recs ops (bare fs) g.span.n (g.span.n - i) st₀ (marks g.span.n fs) (part g.span.s (length regs) work') ls' (marks g.span.n fs') a'.count
+      swept_back h none = let z : g.span.n - 0 ≡ g.span.n = omega arith in
+          subst (λ (q : ℕ). Backing recs ops (bare fs) g.span.n q st₀ (marks g.span.n fs) st₀ ls (marks g.span.n fs) a.count) (sym z)
+          (subst (Backing recs ops (bare fs) g.span.n g.span.n st₀ (marks g.span.n fs) st₀ ls (marks g.span.n fs)) (sym r.fresh) (backing_none recs ops (bare fs) g.span.n st₀ (marks g.span.n fs) clear new inside))
         where
-          inside : Inside g.n (marks g.n fs)
-          inside = record { low = λ p t. in_low g.n fs p r.long t }
+          inside : Inside g.span.n (marks g.span.n fs)
+          inside = record { low = λ p t. in_low g.span.n fs p r.long t }
       swept_back h (more i work' ls' work'' ls'' fs' a' a'' s v) =
-          let p : g.n - i - 1 ≡ place g i = (let y : g.n - i - 1 ≡ g.n - 1 - i = omega arith in y ∙ place_back g i u) in
-          let z : g.n - (i + 1) ≡ g.n - i - 1 = omega arith in
+          let p : g.span.n - i - 1 ≡ place g i = (let y : g.span.n - i - 1 ≡ g.span.n - 1 - i = omega arith in y ∙ place_back g i u) in
+          let z : g.span.n - (i + 1) ≡ g.span.n - i - 1 = omega arith in
           let b = swept_back (omega arith) s in
-          let l : place g i < g.n = (let y : g.n - i - 1 < g.n = omega arith in subst (λ (x : ℕ). x < g.n) p y) in
-          let k = gone_back (marks g.n fs') safe l b.notes.size (says s (place g i)) (subst (λ (x : ℕ). place g i < x) (sym (marks_size s)) l) (marks_at g.n fs' (place g i) l) (v.backed e u) in
-          subst (λ (q : ℕ). Backing recs ops (bare fs) g.n q st₀ (marks g.n fs) (part g.s (length regs) work'') ls'' (marks g.n (set fs' (place g i) (marked (get_or fs' (place g i) no_fact) a''.keep))) a''.count) (sym z)
-          (subst (λ (S : List ℕ). Backing recs ops (bare fs) g.n (g.n - i - 1) st₀ (marks g.n fs) (part g.s (length regs) work'') ls'' S a''.count) (sym (marks_set g.n fs' (place g i) a''.keep l))
-          (subst (Backing recs ops (bare fs) g.n (g.n - i - 1) st₀ (marks g.n fs) (part g.s (length regs) work'') ls'' (set (marks g.n fs') (place g i) (num a''.keep))) (sym (v.counted e))
-          (backing_more safe (omega arith) (omega arith) b (subst (λ (q : ℕ). GoneBack (bare fs) (defs_of recs (bare fs)) (reads_of recs ops (bare fs)) q (part g.s (length regs) work') ls' (marks g.n fs') (part g.s (length regs) work'') ls'' (set (marks g.n fs') (place g i) (num a''.keep)) (hit ((get_or fs' (place g i) no_fact).member && not a''.keep))) (sym p) k))))
+          let l : place g i < g.span.n = (let y : g.span.n - i - 1 < g.span.n = omega arith in subst (λ (x : ℕ). x < g.span.n) p y) in
+          let k = gone_back (marks g.span.n fs') safe l b.notes.size (says s (place g i)) (subst (λ (x : ℕ). place g i < x) (sym (marks_size s)) l) (marks_at g.span.n fs' (place g i) l) (v.backed e u) in
+          subst (λ (q : ℕ). Backing recs ops (bare fs) g.span.n q st₀ (marks g.span.n fs) (part g.span.s (length regs) work'') ls'' (marks g.span.n (set fs' (place g i) (marked (get_or fs' (place g i) no_fact) a''.keep))) a''.count) (sym z)
+          (subst (λ (S : List ℕ). Backing recs ops (bare fs) g.span.n (g.span.n - i - 1) st₀ (marks g.span.n fs) (part g.span.s (length regs) work'') ls'' S a''.count) (sym (marks_set g.span.n fs' (place g i) a''.keep l))
+          (subst (Backing recs ops (bare fs) g.span.n (g.span.n - i - 1) st₀ (marks g.span.n fs) (part g.span.s (length regs) work'') ls'' (set (marks g.span.n fs') (place g i) (num a''.keep))) (sym (v.counted e))
+          (backing_more safe (omega arith) (omega arith) b (subst (λ (q : ℕ). GoneBack (bare fs) (defs_of recs (bare fs)) (reads_of recs ops (bare fs)) q (part g.span.s (length regs) work') ls' (marks g.span.n fs') (part g.span.s (length regs) work'') ls'' (set (marks g.span.n fs') (place g i) (num a''.keep)) (hit ((get_or fs' (place g i) no_fact).member && not a''.keep))) (sym p) k))))
 
-      pub passed_back : {work' ls' : List ℕ} {fs' : List Fact} {a' : Tally} → Swept recs ops regs g work ls fs a g.n work' ls' fs' a'
-          → Passed (backward_ok (defs_of recs (bare fs)) (reads_of recs ops (bare fs)) g.n) 0 g.n (marks g.n fs) (marks g.n fs') a'.count × (length (part g.s (length regs) work') ≡ length st₀)
-          × Summed recs (bare fs) g.n 0 (part g.s (length regs) work') ls' (marks g.n fs')
+      pub passed_back : {work' ls' : List ℕ} {fs' : List Fact} {a' : Tally} → Swept recs ops regs g work ls fs a g.span.n work' ls' fs' a'
+          → Passed (backward_ok (defs_of recs (bare fs)) (reads_of recs ops (bare fs)) g.span.n) 0 g.span.n (marks g.span.n fs) (marks g.span.n fs') a'.count × (length (part g.span.s (length regs) work') ≡ length st₀)
+          × Summed recs (bare fs) g.span.n 0 (part g.span.s (length regs) work') ls' (marks g.span.n fs')
       passed_back s = backing_end safe (swept_back (omega arith) s) (omega arith)
 
     -- ---- forward, by the summary that the sweep backward left
 
-    module _ (e : g.first ≡ false) (u : g.ahead ≡ true) (z : Summed recs (bare fs) g.n 0 st₀ ls (marks g.n fs)) (sus : g.sus ≡ get_or ls 2007 0 % 1024) (bar : g.bar ≡ get_or ls 2006 0 % 1024) where
-      pub swept_forth : {i : ℕ} {work' ls' : List ℕ} {fs' : List Fact} {a' : Tally} → i ≤ g.n → Swept recs ops regs g work ls fs a i work' ls' fs' a'
-          → Going recs ops (bare fs) regs g.n i st₀ ls (marks g.n fs) (part g.s (length regs) work') ls' (marks g.n fs') a'.count
-      swept_forth h none = subst (Going recs ops (bare fs) regs g.n 0 st₀ ls (marks g.n fs) st₀ ls (marks g.n fs)) (sym r.fresh) (going_none z)
+    module _ (e : (is_start g.phase) ≡ false) (u : (is_forth g.phase) ≡ true) (z : Summed recs (bare fs) g.span.n 0 st₀ ls (marks g.span.n fs)) (sus : g.sus ≡ get_or ls 2007 0 % 1024) (bar : g.bar ≡ get_or ls 2006 0 % 1024) where
+      pub swept_forth : {i : ℕ} {work' ls' : List ℕ} {fs' : List Fact} {a' : Tally} → i ≤ g.span.n → Swept recs ops regs g work ls fs a i work' ls' fs' a'
+          → Going recs ops (bare fs) regs g.span.n i st₀ ls (marks g.span.n fs) (part g.span.s (length regs) work') ls' (marks g.span.n fs') a'.count
+      swept_forth h none = subst (Going recs ops (bare fs) regs g.span.n 0 st₀ ls (marks g.span.n fs) st₀ ls (marks g.span.n fs)) (sym r.fresh) (going_none z)
       swept_forth h (more i work' ls' work'' ls'' fs' a' a'' s v) =
           let p : i ≡ place g i = place_on g i u in
-          let l : i < g.n = omega arith in
+          let l : i < g.span.n = omega arith in
           let w = subst (λ (j : ℕ). Visit recs ops regs g (get_or fs' j no_fact) a' j work' ls' work'' ls'' a'') (sym p) v in
           let b = swept_forth (omega arith) s in
-          let k = gone_on (marks g.n fs') (says s i) (subst (λ (x : ℕ). i < x) (sym (marks_size s)) l) (marks_at g.n fs' i l) (w.forwarded e u) in
-          subst (λ (j : ℕ). Going recs ops (bare fs) regs g.n (i + 1) st₀ ls (marks g.n fs) (part g.s (length regs) work'') ls'' (marks g.n (set fs' j (marked (get_or fs' j no_fact) a''.keep))) a''.count) p
-          (subst (λ (S : List ℕ). Going recs ops (bare fs) regs g.n (i + 1) st₀ ls (marks g.n fs) (part g.s (length regs) work'') ls'' S a''.count) (sym (marks_set g.n fs' i a''.keep l))
-          (subst (Going recs ops (bare fs) regs g.n (i + 1) st₀ ls (marks g.n fs) (part g.s (length regs) work'') ls'' (set (marks g.n fs') i (num a''.keep))) (sym (w.counted e))
-          (going_more safe l z b (says s i) (let x = marks_long g.n fs r.long in omega arith)
-          (subst (λ (x : ℕ). GoneOn recs ops (bare fs) regs (get_or fs' i no_fact) x (get_or ls 2006 0 % 1024) i (part g.s (length regs) work') ls' (marks g.n fs') (part g.s (length regs) work'') ls'' (set (marks g.n fs') i (num a''.keep)) (hit ((get_or fs' i no_fact).member && not a''.keep))) sus
-          (subst (λ (x : ℕ). GoneOn recs ops (bare fs) regs (get_or fs' i no_fact) g.sus x i (part g.s (length regs) work') ls' (marks g.n fs') (part g.s (length regs) work'') ls'' (set (marks g.n fs') i (num a''.keep)) (hit ((get_or fs' i no_fact).member && not a''.keep))) bar k)))))
+          let k = gone_on (marks g.span.n fs') (says s i) (subst (λ (x : ℕ). i < x) (sym (marks_size s)) l) (marks_at g.span.n fs' i l) (w.forwarded e u) in
+          subst (λ (j : ℕ). Going recs ops (bare fs) regs g.span.n (i + 1) st₀ ls (marks g.span.n fs) (part g.span.s (length regs) work'') ls'' (marks g.span.n (set fs' j (marked (get_or fs' j no_fact) a''.keep))) a''.count) p
+          (subst (λ (S : List ℕ). Going recs ops (bare fs) regs g.span.n (i + 1) st₀ ls (marks g.span.n fs) (part g.span.s (length regs) work'') ls'' S a''.count) (sym (marks_set g.span.n fs' i a''.keep l))
+          (subst (Going recs ops (bare fs) regs g.span.n (i + 1) st₀ ls (marks g.span.n fs) (part g.span.s (length regs) work'') ls'' (set (marks g.span.n fs') i (num a''.keep))) (sym (w.counted e))
+          (going_more safe l z b (says s i) (let x = marks_long g.span.n fs r.long in omega arith)
+          (subst (λ (x : ℕ). GoneOn recs ops (bare fs) regs (get_or fs' i no_fact) x (get_or ls 2006 0 % 1024) i (part g.span.s (length regs) work') ls' (marks g.span.n fs') (part g.span.s (length regs) work'') ls'' (set (marks g.span.n fs') i (num a''.keep)) (hit ((get_or fs' i no_fact).member && not a''.keep))) sus
+          (subst (λ (x : ℕ). GoneOn recs ops (bare fs) regs (get_or fs' i no_fact) g.sus x i (part g.span.s (length regs) work') ls' (marks g.span.n fs') (part g.span.s (length regs) work'') ls'' (set (marks g.span.n fs') i (num a''.keep)) (hit ((get_or fs' i no_fact).member && not a''.keep))) bar k)))))
 
-      pub passed_forth : {work' ls' : List ℕ} {fs' : List Fact} {a' : Tally} → k ≤ g.n → Swept recs ops regs g work ls fs a k work' ls' fs' a'
-          → Passed (own (forward_ok (view recs ops (bare fs) regs) g.n)) 0 k (marks g.n fs) (marks g.n fs') a'.count × (length (part g.s (length regs) work') ≡ length st₀)
+      pub passed_forth : {work' ls' : List ℕ} {fs' : List Fact} {a' : Tally} → k ≤ g.span.n → Swept recs ops regs g work ls fs a k work' ls' fs' a'
+          → Passed (own (forward_ok (view recs ops (bare fs) regs) g.span.n)) 0 k (marks g.span.n fs) (marks g.span.n fs') a'.count × (length (part g.span.s (length regs) work') ≡ length st₀)
       passed_forth h s = going_end (swept_forth h s) (omega arith) (omega arith)
 
 -- ---- the start, from behind
@@ -160,40 +160,40 @@ started_more {recs} {ops} {w} {regs} {bits} {o} {m} {n} {q} {S} {c} {b} l h e k 
         let u = d.count in
         omega arith
 
-module _ {recs ops regs work : List ℕ} {fs : List Fact} {g : Sweep} {a : Tally} {k : ℕ} (r : Sweepable recs ops regs work fs g a k) (d : Ended recs (bare fs) g.n regs) {ls : List ℕ} (e : g.first ≡ true) (u : g.ahead ≡ false) where
+module _ {recs ops regs work : List ℕ} {fs : List Fact} {g : Sweep} {a : Tally} {k : ℕ} (r : Sweepable recs ops regs work fs g a k) (d : Ended recs (bare fs) g.span.n regs) {ls : List ℕ} (e : (is_start g.phase) ≡ true) (u : (is_forth g.phase) ≡ false) where
   pub swept_work : {i : ℕ} {work' ls' : List ℕ} {fs' : List Fact} {a' : Tally} → Swept recs ops regs g work ls fs a i work' ls' fs' a' → work' ≡ work
   swept_work none = refl
   swept_work (more i work' ls' work'' ls'' fs' a' a'' s v) = (v.begun e).1.0 ∙ swept_work s
 
-  pub swept_first : {i : ℕ} {work' ls' : List ℕ} {fs' : List Fact} {a' : Tally} → i ≤ g.n → Swept recs ops regs g work ls fs a i work' ls' fs' a'
-      → Started recs ops (bare fs) regs work g.o g.m g.n (g.n - i) (marks g.n fs') a'.count
+  pub swept_first : {i : ℕ} {work' ls' : List ℕ} {fs' : List Fact} {a' : Tally} → i ≤ g.span.n → Swept recs ops regs g work ls fs a i work' ls' fs' a'
+      → Started recs ops (bare fs) regs work g.span.o g.span.m g.span.n (g.span.n - i) (marks g.span.n fs') a'.count
   unfolding members
-  swept_first h none = record { each = λ p x y. absurd (omega arith); count = r.fresh ∙ sym (ap members (drop_of_length-le (marks g.n fs) {i = g.n - 0} (let z = marks_long g.n fs r.long in omega arith))) }
+  swept_first h none = record { each = λ p x y. absurd (omega arith); count = r.fresh ∙ sym (ap members (drop_of_length-le (marks g.span.n fs) {i = g.span.n - 0} (let z = marks_long g.span.n fs r.long in omega arith))) }
   swept_first h (more i work' ls' work'' ls'' fs' a' a'' s v) =
-      let p : g.n - i - 1 ≡ place g i = (let y : g.n - i - 1 ≡ g.n - 1 - i = omega arith in y ∙ place_back g i u) in
-      let z : g.n - (i + 1) ≡ g.n - i - 1 = omega arith in
-      let l : g.n - i - 1 < g.n = omega arith in
+      let p : g.span.n - i - 1 ≡ place g i = (let y : g.span.n - i - 1 ≡ g.span.n - 1 - i = omega arith in y ∙ place_back g i u) in
+      let z : g.span.n - (i + 1) ≡ g.span.n - i - 1 = omega arith in
+      let l : g.span.n - i - 1 < g.span.n = omega arith in
       let w = subst (λ (j : ℕ). Visit recs ops regs g (get_or fs' j no_fact) a' j work' ls' work'' ls'' a'') (sym p) v in
-      let k = (w.begun e).0 ∙ ap (λ (x : List ℕ). ltb (g.n - i - 1) g.m && begin_test recs regs x (get_or fs' (g.n - i - 1) no_fact) g.o (g.n - i - 1)) (swept_work s)
-      ∙ begins_in work g.o r.safe d g.m (g.n - i - 1) l (says r s (g.n - i - 1)) in
-      subst (λ (q : ℕ). Started recs ops (bare fs) regs work g.o g.m g.n q (marks g.n (set fs' (place g i) (marked (get_or fs' (place g i) no_fact) a''.keep))) a''.count) (sym z)
-      (subst (λ (j : ℕ). Started recs ops (bare fs) regs work g.o g.m g.n (g.n - i - 1) (marks g.n (set fs' j (marked (get_or fs' j no_fact) a''.keep))) a''.count) p
-      (subst (λ (S : List ℕ). Started recs ops (bare fs) regs work g.o g.m g.n (g.n - i - 1) S a''.count) (sym (marks_set g.n fs' (g.n - i - 1) a''.keep l))
-      (subst (Started recs ops (bare fs) regs work g.o g.m g.n (g.n - i - 1) (set (marks g.n fs') (g.n - i - 1) (num a''.keep))) (sym (w.begun e).1.1)
+      let k = (w.begun e).0 ∙ ap (λ (x : List ℕ). ltb (g.span.n - i - 1) g.span.m && begin_test recs regs x (get_or fs' (g.span.n - i - 1) no_fact) g.span.o (g.span.n - i - 1)) (swept_work s)
+      ∙ begins_in work g.span.o r.safe d g.span.m (g.span.n - i - 1) l (says r s (g.span.n - i - 1)) in
+      subst (λ (q : ℕ). Started recs ops (bare fs) regs work g.span.o g.span.m g.span.n q (marks g.span.n (set fs' (place g i) (marked (get_or fs' (place g i) no_fact) a''.keep))) a''.count) (sym z)
+      (subst (λ (j : ℕ). Started recs ops (bare fs) regs work g.span.o g.span.m g.span.n (g.span.n - i - 1) (marks g.span.n (set fs' j (marked (get_or fs' j no_fact) a''.keep))) a''.count) p
+      (subst (λ (S : List ℕ). Started recs ops (bare fs) regs work g.span.o g.span.m g.span.n (g.span.n - i - 1) S a''.count) (sym (marks_set g.span.n fs' (g.span.n - i - 1) a''.keep l))
+      (subst (Started recs ops (bare fs) regs work g.span.o g.span.m g.span.n (g.span.n - i - 1) (set (marks g.span.n fs') (g.span.n - i - 1) (num a''.keep))) (sym (w.begun e).1.1)
       (started_more (omega arith) (omega arith) (marks_size r s) k (swept_first (omega arith) s)))))
 
   -- all positions are marked: those that begin in the set
-  pub started : {work' ls' : List ℕ} {fs' : List Fact} {a' : Tally} → g.m ≤ g.n → Swept recs ops regs g work ls fs a g.n work' ls' fs' a'
-      → (work' ≡ work) × (a'.count ≡ members (marks g.n fs')) × ((p : ℕ) → in_set (marks g.n fs') p ≡ begins (view recs ops (bare fs) regs) g.n (λ z. eqb (fact_in (bare fs) z).class 1) g.m (λ r. is_in work (64 * g.o + r)) p)
+  pub started : {work' ls' : List ℕ} {fs' : List Fact} {a' : Tally} → g.span.m ≤ g.span.n → Swept recs ops regs g work ls fs a g.span.n work' ls' fs' a'
+      → (work' ≡ work) × (a'.count ≡ members (marks g.span.n fs')) × ((p : ℕ) → in_set (marks g.span.n fs') p ≡ begins (view recs ops (bare fs) regs) g.span.n (λ z. eqb (fact_in (bare fs) z).class 1) g.span.m (λ r. is_in work (64 * g.span.o + r)) p)
   unfolding begins
   started {fs' = fs'} h s =
-      let z : g.n - g.n ≡ 0 = omega arith in
+      let z : g.span.n - g.span.n ≡ 0 = omega arith in
       let t = swept_first (omega arith) s in
       let l = marks_size r s in (
         swept_work s,
-        t.count ∙ ap (λ (q : ℕ). members (drop q (marks g.n fs'))) z,
-        λ p. ⊎_elim (λ (x : p < g.n). t.each p (omega arith) x)
-            (λ (x : g.n ≤ p). sym (past_marks (marks g.n fs') p (omega arith)) ∙ sym (ap (λ (b : Bool). (b && eqb (fact_in (bare fs) p).class 1) && result_ok (view recs ops (bare fs) regs) g.n (λ r. is_in work (64 * g.o + r)) p) (le-ltb p g.m (omega arith)))) (lt? p g.n),
+        t.count ∙ ap (λ (q : ℕ). members (drop q (marks g.span.n fs'))) z,
+        λ p. ⊎_elim (λ (x : p < g.span.n). t.each p (omega arith) x)
+            (λ (x : g.span.n ≤ p). sym (past_marks (marks g.span.n fs') p (omega arith)) ∙ sym (ap (λ (b : Bool). (b && eqb (fact_in (bare fs) p).class 1) && result_ok (view recs ops (bare fs) regs) g.span.n (λ r. is_in work (64 * g.span.o + r)) p) (le-ltb p g.span.m (omega arith)))) (lt? p g.span.n),
       )
 
 -- ---- what a sweep leaves as it was, and what the summary says of the registers' words
@@ -202,7 +202,7 @@ pub around_on : {s k : ℕ} {x y z : List ℕ} → Around s k x y → Around s k
 around_on a b = record { size = b.size ∙ a.size; below = b.below ∙ a.below; behind = b.behind ∙ a.behind }
 
 pub swept_around : {recs ops regs work ls : List ℕ} {fs : List Fact} {g : Sweep} {a : Tally} {i : ℕ} {work' ls' : List ℕ} {fs' : List Fact} {a' : Tally} → Swept recs ops regs g work ls fs a i work' ls' fs' a'
-    → Around g.s (length regs) work work'
+    → Around g.span.s (length regs) work work'
 swept_around none = record { size = refl; below = refl; behind = refl }
 swept_around (more i work' ls' work'' ls'' fs' a' a'' s v) = around_on (swept_around s) v.around
 
@@ -212,20 +212,20 @@ summed_near z = record { org = λ r h. let x = z.stamps.wrote r h in omega arith
 
 -- ---- the sweeps as passes over the marks, where the numbers of the facts are w
 
-module _ {recs ops regs : List ℕ} {w : List Fact} {work ls : List ℕ} {fs : List Fact} {g : Sweep} {a : Tally} {k : ℕ} (r : Sweepable recs ops regs work fs g a k) (is : bare fs ≡ w) (h : g.m ≤ g.n) (e : g.first ≡ false)
+module _ {recs ops regs : List ℕ} {w : List Fact} {work ls : List ℕ} {fs : List Fact} {g : Sweep} {a : Tally} {k : ℕ} (r : Sweepable recs ops regs work fs g a k) (is : bare fs ≡ w) (h : g.span.m ≤ g.span.n) (e : (is_start g.phase) ≡ false)
     {work' ls' : List ℕ} {fs' : List Fact} {a' : Tally} where
-  pub pass_back : g.ahead ≡ false → part g.s (length regs) work ≡ replicate (length regs) 0 → ls ≡ replicate 2008 0 → Swept recs ops regs g work ls fs a g.n work' ls' fs' a'
-      → Passed (pass_ok (view recs ops w regs) g.n g.ahead) 0 g.m (marks g.n fs) (marks g.n fs') a'.count × Summed recs w g.n 0 (part g.s (length regs) work') ls' (marks g.n fs')
+  pub pass_back : (is_forth g.phase) ≡ false → part g.span.s (length regs) work ≡ replicate (length regs) 0 → ls ≡ replicate 2008 0 → Swept recs ops regs g work ls fs a g.span.n work' ls' fs' a'
+      → Passed (pass_ok (view recs ops w regs) g.span.n (is_forth g.phase)) 0 g.span.m (marks g.span.n fs) (marks g.span.n fs') a'.count × Summed recs w g.span.n 0 (part g.span.s (length regs) work') ls' (marks g.span.n fs')
   pass_back u clear new s =
-      let l = part_len g.s (length regs) work r.room in
+      let l = part_len g.span.s (length regs) work r.room in
       let z = passed_back r e u (clear ∙ ap (λ (x : ℕ). replicate x 0) (sym l)) new s in (
-        subst (λ (v : List Fact). Passed (pass_ok (view recs ops v regs) g.n g.ahead) 0 g.m (marks g.n fs) (marks g.n fs') a'.count) is (back_passed (view recs ops (bare fs) regs) g.n g.m h u z.0),
-        subst (λ (v : List Fact). Summed recs v g.n 0 (part g.s (length regs) work') ls' (marks g.n fs')) is z.2,
+        subst (λ (v : List Fact). Passed (pass_ok (view recs ops v regs) g.span.n (is_forth g.phase)) 0 g.span.m (marks g.span.n fs) (marks g.span.n fs') a'.count) is (back_passed (view recs ops (bare fs) regs) g.span.n g.span.m h u z.0),
+        subst (λ (v : List Fact). Summed recs v g.span.n 0 (part g.span.s (length regs) work') ls' (marks g.span.n fs')) is z.2,
       )
 
-  pub pass_forth : g.ahead ≡ true → Summed recs w g.n 0 (part g.s (length regs) work) ls (marks g.n fs) → g.sus ≡ get_or ls 2007 0 % 1024 → g.bar ≡ get_or ls 2006 0 % 1024 → k ≡ g.m → Swept recs ops regs g work ls fs a k work' ls' fs' a'
-      → Passed (pass_ok (view recs ops w regs) g.n g.ahead) 0 g.m (marks g.n fs) (marks g.n fs') a'.count
+  pub pass_forth : (is_forth g.phase) ≡ true → Summed recs w g.span.n 0 (part g.span.s (length regs) work) ls (marks g.span.n fs) → g.sus ≡ get_or ls 2007 0 % 1024 → g.bar ≡ get_or ls 2006 0 % 1024 → k ≡ g.span.m → Swept recs ops regs g work ls fs a k work' ls' fs' a'
+      → Passed (pass_ok (view recs ops w regs) g.span.n (is_forth g.phase)) 0 g.span.m (marks g.span.n fs) (marks g.span.n fs') a'.count
   pass_forth u sum sus bar m s =
-      let z = passed_forth r e u (subst (λ (v : List Fact). Summed recs v g.n 0 (part g.s (length regs) work) ls (marks g.n fs)) (sym is) sum) sus bar r.turns s in
-      subst (λ (v : List Fact). Passed (pass_ok (view recs ops v regs) g.n g.ahead) 0 g.m (marks g.n fs) (marks g.n fs') a'.count) is
-      (ahead_passed (view recs ops (bare fs) regs) g.n g.m u (subst (λ (x : ℕ). Passed (own (forward_ok (view recs ops (bare fs) regs) g.n)) 0 x (marks g.n fs) (marks g.n fs') a'.count) m z.0))
+      let z = passed_forth r e u (subst (λ (v : List Fact). Summed recs v g.span.n 0 (part g.span.s (length regs) work) ls (marks g.span.n fs)) (sym is) sum) sus bar r.turns s in
+      subst (λ (v : List Fact). Passed (pass_ok (view recs ops v regs) g.span.n (is_forth g.phase)) 0 g.span.m (marks g.span.n fs) (marks g.span.n fs') a'.count) is
+      (ahead_passed (view recs ops (bare fs) regs) g.span.n g.span.m u (subst (λ (x : ℕ). Passed (own (forward_ok (view recs ops (bare fs) regs) g.span.n)) 0 x (marks g.span.n fs) (marks g.span.n fs') a'.count) m z.0))

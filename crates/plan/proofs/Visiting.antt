@@ -12,18 +12,25 @@ use Rattle.words.specs.Lists.{hit}
 use Rattle.words.proofs.Bools.{clash}
 use Rattle.words.proofs.Parts.{put_part}
 use Rattle.facts.specs.declared.Fact.{Fact}
+use Rattle.plan.specs.declared.sweep.Phase.{Phase}
+use Rattle.plan.specs.declared.sweep.Phase.TheVariants.{Start, Back, Forth}
 use Rattle.plan.specs.declared.sweep.Sweep.{Sweep}
 use Rattle.plan.specs.declared.sweep.Tally.{Tally}
 use Rattle.summary.specs.Passes.{begin_test, Backed, Forwarded, Around, Near, Written, Readable, Small}
-use Rattle.plan.specs.Sweep.{part, place, Visitable, Visit}
+use Rattle.plan.specs.Sweep.{part, place, Visitable, Visit, is_start, is_forth}
 
-pub place_on : (g : Sweep) (i : ℕ) → g.ahead ≡ true → i ≡ place g i
-unfolding place
-place_on g i e = sym (ap (λ (b : Bool). cond b i (g.n - 1 - i)) e)
+pub not_forth : (p : Phase) → (p ≡ Forth → ⊥) → is_forth p ≡ false
+not_forth Start n = refl
+not_forth Back n = refl
+not_forth Forth n = absurd (n refl)
 
-pub place_back : (g : Sweep) (i : ℕ) → g.ahead ≡ false → g.n - 1 - i ≡ place g i
+pub place_on : (g : Sweep) (i : ℕ) → (is_forth g.phase) ≡ true → i ≡ place g i
 unfolding place
-place_back g i e = sym (ap (λ (b : Bool). cond b i (g.n - 1 - i)) e)
+place_on g i e = sym (ap (λ (b : Bool). cond b i (g.span.n - 1 - i)) e)
+
+pub place_back : (g : Sweep) (i : ℕ) → (is_forth g.phase) ≡ false → g.span.n - 1 - i ≡ place g i
+unfolding place
+place_back g i e = sym (ap (λ (b : Bool). cond b i (g.span.n - 1 - i)) e)
 
 pub one_more : (c : ℕ) {b : Bool} → b ≡ true → c + 1 ≡ c + hit b
 one_more c e = ap (λ (b : Bool). c + hit b) (sym e)
@@ -74,17 +81,17 @@ sized s k = omega arith
 
 module _ {recs ops regs work : List ℕ} {g : Sweep} {f : Fact} {a : Tally} {p : ℕ} (v : Visitable recs ops regs work g f a p) where
   abbrev wide : ℕ
-  wide = g.s + length regs - g.s
+  wide = g.span.s + length regs - g.span.s
 
   same : length regs ≡ wide
-  same = sym (sized g.s (length regs))
+  same = sym (sized g.span.s (length regs))
 
-  pub back_asks : Written recs wide f.rec f.def f.more × Readable recs ops wide f × Small f × (p < 800) × (g.s ≤ g.s + length regs) × (g.s + length regs ≤ length work)
+  pub back_asks : Written recs wide f.rec f.def f.more × Readable recs ops wide f × Small f × (p < 800) × (g.span.s ≤ g.span.s + length regs) × (g.span.s + length regs ≤ length work)
   back_asks = (subst (λ (m : ℕ). Written recs m f.rec f.def f.more) same v.written, subst (λ (m : ℕ). Readable recs ops m f) same v.readable, v.small, v.low, omega arith, v.room)
 
-  pub forth_asks : g.first ≡ false → g.ahead ≡ true
-      → Written recs wide f.rec f.def f.more × Readable recs ops wide f × Small f × Near (part g.s wide work) × (length regs ≡ wide) × (p < 800) × (g.s ≤ g.s + length regs) × (g.s + length regs ≤ length work)
-  forth_asks e u = (subst (λ (m : ℕ). Written recs m f.rec f.def f.more) same v.written, subst (λ (m : ℕ). Readable recs ops m f) same v.readable, v.small, subst (λ (m : ℕ). Near (part g.s m work)) same (v.near e u), same, v.low, omega arith, v.room)
+  pub forth_asks : (is_start g.phase) ≡ false → (is_forth g.phase) ≡ true
+      → Written recs wide f.rec f.def f.more × Readable recs ops wide f × Small f × Near (part g.span.s wide work) × (length regs ≡ wide) × (p < 800) × (g.span.s ≤ g.span.s + length regs) × (g.span.s + length regs ≤ length work)
+  forth_asks e u = (subst (λ (m : ℕ). Written recs m f.rec f.def f.more) same v.written, subst (λ (m : ℕ). Readable recs ops m f) same v.readable, v.small, subst (λ (m : ℕ). Near (part g.span.s m work)) same (v.near e u), same, v.low, omega arith, v.room)
 
 -- ---- the three kinds of visit
 
@@ -92,7 +99,7 @@ pub nothing_moved : (s k : ℕ) (work : List ℕ) → Around s k work work
 nothing_moved s k work = record { size = refl; below = refl; behind = refl }
 
 module _ {recs ops regs : List ℕ} {g : Sweep} {f : Fact} {a r : Tally} {p : ℕ} {work ls : List ℕ} {b : Bool} where
-  pub visit_first : g.first ≡ true → b ≡ (ltb p g.m && begin_test recs regs work f g.o p) → (r.keep ≡ b) × (r.count ≡ a.count + hit b) → Visit recs ops regs g f a p work ls work ls r
+  pub visit_first : (is_start g.phase) ≡ true → b ≡ (ltb p g.span.m && begin_test recs regs work f g.span.o p) → (r.keep ≡ b) × (r.count ≡ a.count + hit b) → Visit recs ops regs g f a p work ls work ls r
   visit_first e t k = record {
     size = refl;
     begun = λ _. (k.0 ∙ t, (refl, k.1 ∙ ap (λ (x : Bool). a.count + hit x) (sym k.0)));
@@ -102,23 +109,23 @@ module _ {recs ops regs : List ℕ} {g : Sweep} {f : Fact} {a r : Tally} {p : �
     counted = λ u. clash e u;
   }
 
-  module _ {work' ls' : List ℕ} {R : ℕ} (e : g.first ≡ false) (z : R ≡ length regs) (k : (r.keep ≡ b) × (r.count ≡ a.count + hit (f.member && not b))) (m : Around g.s R work work') where
-    pub visit_back : g.ahead ≡ false → Backed recs ops f p (part g.s R work) ls (part g.s R work') ls' b → Visit recs ops regs g f a p work ls work' ls' r
+  module _ {work' ls' : List ℕ} {R : ℕ} (e : (is_start g.phase) ≡ false) (z : R ≡ length regs) (k : (r.keep ≡ b) × (r.count ≡ a.count + hit (f.member && not b))) (m : Around g.span.s R work work') where
+    pub visit_back : (is_forth g.phase) ≡ false → Backed recs ops f p (part g.span.s R work) ls (part g.span.s R work') ls' b → Visit recs ops regs g f a p work ls work' ls' r
     visit_back u d = record {
       size = m.size;
       begun = λ v. clash v e;
-      backed = λ _ _. subst (λ (x : ℕ). Backed recs ops f p (part g.s x work) ls (part g.s x work') ls' r.keep) z (subst (Backed recs ops f p (part g.s R work) ls (part g.s R work') ls') (sym k.0) d);
+      backed = λ _ _. subst (λ (x : ℕ). Backed recs ops f p (part g.span.s x work) ls (part g.span.s x work') ls' r.keep) z (subst (Backed recs ops f p (part g.span.s R work) ls (part g.span.s R work') ls') (sym k.0) d);
       forwarded = λ _ v. clash v u;
-      around = subst (λ (x : ℕ). Around g.s x work work') z m;
+      around = subst (λ (x : ℕ). Around g.span.s x work work') z m;
       counted = λ _. k.1 ∙ ap (λ (x : Bool). a.count + hit (f.member && not x)) (sym k.0);
     }
 
-    pub visit_forth : g.ahead ≡ true → Forwarded recs ops regs f g.sus g.bar p (part g.s R work) ls (part g.s R work') ls' b → Visit recs ops regs g f a p work ls work' ls' r
+    pub visit_forth : (is_forth g.phase) ≡ true → Forwarded recs ops regs f g.sus g.bar p (part g.span.s R work) ls (part g.span.s R work') ls' b → Visit recs ops regs g f a p work ls work' ls' r
     visit_forth u d = record {
       size = m.size;
       begun = λ v. clash v e;
       backed = λ _ v. clash u v;
-      forwarded = λ _ _. subst (λ (x : ℕ). Forwarded recs ops regs f g.sus g.bar p (part g.s x work) ls (part g.s x work') ls' r.keep) z (subst (Forwarded recs ops regs f g.sus g.bar p (part g.s R work) ls (part g.s R work') ls') (sym k.0) d);
-      around = subst (λ (x : ℕ). Around g.s x work work') z m;
+      forwarded = λ _ _. subst (λ (x : ℕ). Forwarded recs ops regs f g.sus g.bar p (part g.span.s x work) ls (part g.span.s x work') ls' r.keep) z (subst (Forwarded recs ops regs f g.sus g.bar p (part g.span.s R work) ls (part g.span.s R work') ls') (sym k.0) d);
+      around = subst (λ (x : ℕ). Around g.span.s x work work') z m;
       counted = λ _. k.1 ∙ ap (λ (x : Bool). a.count + hit (f.member && not x)) (sym k.0);
     }

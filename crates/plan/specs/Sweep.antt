@@ -1,11 +1,13 @@
 -- A sweep over a chain's facts: the start, which marks the positions to begin with, that backward and that forward (01, "The legal set").
 -- Assumes nothing.
-use Rattle.std.specs.Prelude.{◌≡◌, true, false, not, ◌&&◌, cond, List, map, ℕ, ◌+◌, ◌-◌, ◌≤◌, ◌<◌, ltb, get_or, length, set, take, drop}
+use Rattle.std.specs.Prelude.{◌≡◌, Bool, true, false, not, ◌&&◌, cond, List, map, ℕ, ◌+◌, ◌-◌, ◌≤◌, ◌<◌, ltb, get_or, length, set, take, drop}
 use Rattle.words.specs.Lists.{hit}
 use Rattle.facts.specs.declared.Fact.{Fact}
 use Rattle.facts.specs.Marks.{no_fact, marked, bare}
 use Rattle.effects.specs.Origin.{num}
 use Rattle.legalset.specs.Chain.{Safe, Brief}
+use Rattle.plan.specs.declared.sweep.Phase.{Phase}
+use Rattle.plan.specs.declared.sweep.Phase.TheVariants.{Start, Back, Forth}
 use Rattle.plan.specs.declared.sweep.Sweep.{Sweep}
 use Rattle.plan.specs.declared.sweep.Tally.{Tally}
 use Rattle.summary.specs.Passes.{begin_test, Near, Written, Readable, Small, Backed, Forwarded, Around}
@@ -22,39 +24,50 @@ marks_of fs = map (λ f. num f.member) fs
 abbrev pub marks : ℕ → List Fact → List ℕ
 marks n fs = take n (marks_of fs)
 
+-- the phase that marks the positions to begin with, and the one that goes forward
+abbrev pub is_start : Phase → Bool
+is_start Start = true
+is_start Back = false
+is_start Forth = false
+
+abbrev pub is_forth : Phase → Bool
+is_forth Start = false
+is_forth Back = false
+is_forth Forth = true
+
 -- turn i's position
 unfoldable pub place : Sweep → ℕ → ℕ
-place g i = cond g.ahead i (g.n - 1 - i)
+place g i = cond (is_forth g.phase) i (g.span.n - 1 - i)
 
 -- what a visit asks of the position p of fact f, and of the work
 pub record Visitable (recs ops regs work : List ℕ) (g : Sweep) (f : Fact) (a : Tally) (p : ℕ) : Type 0 where
   pub written : Written recs (length regs) f.rec f.def f.more
   pub readable : Readable recs ops (length regs) f
   pub small : Small f
-  pub near : g.first ≡ false → g.ahead ≡ true → Near (part g.s (length regs) work)
-  pub row : g.o ≤ length work
-  pub room : g.s + length regs ≤ length work
+  pub near : (is_start g.phase) ≡ false → (is_forth g.phase) ≡ true → Near (part g.span.s (length regs) work)
+  pub row : g.span.o ≤ length work
+  pub room : g.span.s + length regs ≤ length work
   pub low : p < 800
   pub few : a.count ≤ 800
 
 -- position p of fact f was visited: whether it is in the set, and a count of those that begin in it, or are dropped
 pub record Visit (recs ops regs : List ℕ) (g : Sweep) (f : Fact) (a : Tally) (p : ℕ) (work ls work' ls' : List ℕ) (r : Tally) : Type 0 where
   pub size : length work' ≡ length work
-  pub begun : g.first ≡ true → (r.keep ≡ (ltb p g.m && begin_test recs regs work f g.o p)) × ((work' ≡ work) × (r.count ≡ a.count + hit r.keep))
-  pub backed : g.first ≡ false → g.ahead ≡ false → Backed recs ops f p (part g.s (length regs) work) ls (part g.s (length regs) work') ls' r.keep
-  pub forwarded : g.first ≡ false → g.ahead ≡ true → Forwarded recs ops regs f g.sus g.bar p (part g.s (length regs) work) ls (part g.s (length regs) work') ls' r.keep
-  pub around : Around g.s (length regs) work work'
-  pub counted : g.first ≡ false → r.count ≡ a.count + hit (f.member && not r.keep)
+  pub begun : (is_start g.phase) ≡ true → (r.keep ≡ (ltb p g.span.m && begin_test recs regs work f g.span.o p)) × ((work' ≡ work) × (r.count ≡ a.count + hit r.keep))
+  pub backed : (is_start g.phase) ≡ false → (is_forth g.phase) ≡ false → Backed recs ops f p (part g.span.s (length regs) work) ls (part g.span.s (length regs) work') ls' r.keep
+  pub forwarded : (is_start g.phase) ≡ false → (is_forth g.phase) ≡ true → Forwarded recs ops regs f g.sus g.bar p (part g.span.s (length regs) work) ls (part g.span.s (length regs) work') ls' r.keep
+  pub around : Around g.span.s (length regs) work work'
+  pub counted : (is_start g.phase) ≡ false → r.count ≡ a.count + hit (f.member && not r.keep)
 
 -- what a sweep of k turns asks
 pub record Sweepable (recs ops regs work : List ℕ) (fs : List Fact) (g : Sweep) (a : Tally) (k : ℕ) : Type 0 where
-  pub safe : Safe recs ops (bare fs) g.n (length regs)
-  pub brief : Brief recs ops (bare fs) g.n
-  pub near : g.first ≡ false → g.ahead ≡ true → Near (part g.s (length regs) work)
-  pub row : g.o ≤ length work
-  pub room : g.s + length regs ≤ length work
-  pub long : g.n ≤ length fs
-  pub turns : k ≤ g.n
+  pub safe : Safe recs ops (bare fs) g.span.n (length regs)
+  pub brief : Brief recs ops (bare fs) g.span.n
+  pub near : (is_start g.phase) ≡ false → (is_forth g.phase) ≡ true → Near (part g.span.s (length regs) work)
+  pub row : g.span.o ≤ length work
+  pub room : g.span.s + length regs ≤ length work
+  pub long : g.span.n ≤ length fs
+  pub turns : k ≤ g.span.n
   pub fresh : a.count ≡ 0
 
 -- the first i turns of a sweep: the facts are marked as the visits answer

@@ -12,7 +12,7 @@ pub fn legal_set(code: &Code, regs: &[u32], work: &mut [u64], facts: &mut [Fact]
     requires { Choosable code.now.recs.now code.now.ops.now regs.now work.old facts.old z }
     ensures { Chose code.now.recs.now code.now.ops.now regs.now z work.old facts.old work.new facts.new result }
 {
-    if z.n == 0 {
+    if z.span.n == 0 {
         return 0;
     }
     let mut lasts = [0u32; 2008];

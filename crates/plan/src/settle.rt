@@ -1,28 +1,25 @@
 // Sweeps in turn until both drop nothing, or too few are left (01, "The legal set": unions of legal sets are legal, so a greatest one exists):
 // the loop, and what is decided between them.
-ghost use Rattle.std.specs.Prelude.{◌≡◌, true, false, cond, ◌+◌, ◌-◌, ◌≤◌, length, replicate};
+ghost use Rattle.std.specs.Prelude.{◌≡◌, false, not, ◌+◌, ◌-◌, ◌≤◌, length, replicate};
 ghost use Rattle.summary.specs.Passes.{Around};
-ghost use Rattle.plan.specs.Sweep.{part};
+ghost use Rattle.plan.specs.Sweep.{part, is_start, is_forth};
+ghost use Rattle.plan.specs.declared.sweep.Tally.{Tally as TallyAt};
 ghost use Rattle.plan.specs.Cycle.{sweep_of, Readied, Next, Choosable, Chose};
 
-use crate::sweep::{Sweep, Tally, run};
+use crate::sweep::{Phase, Span, Sweep, Tally, run};
 use facts::Fact;
 use inst::code::Code;
 use summary::notes::{BARRIER, MEMBER, SUSPENSION};
 
-// `go`: there is a sweep to come; `first` the start, else `ahead` that forward. `quiet`: the last dropped nothing; `done`: nor did the one
-// before. `left` members are left; with fewer than `least` no more sweeps are made. The rest is as in `Sweep`.
+// `go`: there is a sweep to come, of this phase. `quiet`: the last dropped nothing; `done`: nor did the one before. `left` members are
+// left; with fewer than `least` no more sweeps are made.
 #[derive(Clone, Copy)]
 pub struct Cycle {
     pub go: bool,
-    pub first: bool,
-    pub ahead: bool,
+    pub phase: Phase,
     pub quiet: bool,
     pub done: bool,
-    pub o: usize,
-    pub s: usize,
-    pub m: usize,
-    pub n: usize,
+    pub span: Span,
     pub least: u32,
     pub left: u32,
 }
@@ -32,13 +29,12 @@ fn sweep_of(c: Cycle, lasts: &[u32; 2008]) -> Sweep
     ensures { result ≡ sweep_of c lasts.now }
 {
     Sweep {
-        first: c.first,
-        ahead: c.ahead,
-        o: c.o,
-        s: c.s,
-        m: c.m,
-        n: c.n,
-        k: if c.ahead { c.m } else { c.n },
+        phase: c.phase,
+        span: c.span,
+        k: match c.phase {
+            Phase::Forth => c.span.m,
+            _ => c.span.n,
+        },
         sus: lasts[SUSPENSION] % MEMBER,
         bar: lasts[BARRIER] % MEMBER,
     }
@@ -54,44 +50,53 @@ fn clear_part(work: &mut [u64], s: usize, e: usize)
 
 // Before a sweep backward the words of the `regs` registers and the notes are cleared. Says which sweep comes.
 pub fn ready(work: &mut [u64], lasts: &mut [u32; 2008], c: Cycle, regs: usize) -> Sweep
-    requires { c.s + regs ≤ length work.old }
+    requires { c.span.s + regs ≤ length work.old }
     ensures { (result ≡ sweep_of c lasts.old) × Readied regs c work.old lasts.old work.new lasts.new }
 {
     let g = sweep_of(c, lasts);
-    if c.first | c.ahead {
-        return g;
+    match c.phase {
+        Phase::Back => {
+            clear_part(work, c.span.s, c.span.s + regs);
+            *lasts = [0u32; 2008];
+            g
+        }
+        _ => g,
     }
-    clear_part(work, c.s, c.s + regs);
-    *lasts = [0u32; 2008];
-    g
+}
+
+// After a sweep that dropped `count`, one of this phase comes.
+fn went(c: Cycle, count: u32, phase: Phase) -> Cycle
+    requires { (count ≤ c.left) × (is_start c.phase ≡ false) × (is_start phase ≡ false) × (is_forth phase ≡ not (is_forth c.phase)) }
+    ensures { (a : TallyAt) → a.count ≡ count → Next c a result }
+{
+    let left = c.left - count;
+    let done = c.quiet & (count == 0);
+    Cycle {
+        go: !done & (c.least <= left),
+        phase,
+        quiet: count == 0,
+        done,
+        left,
+        ..c
+    }
 }
 
 // After a sweep that counted a.
 pub fn next(c: Cycle, a: Tally) -> Cycle
-    requires { c.first ≡ false → a.count ≤ c.left }
+    requires { is_start c.phase ≡ false → a.count ≤ c.left }
     ensures { Next c a result }
 {
-    if c.first {
-        return Cycle {
+    match c.phase {
+        Phase::Start => Cycle {
             go: c.least <= a.count,
-            first: false,
-            ahead: false,
+            phase: Phase::Back,
             quiet: false,
             done: false,
             left: a.count,
             ..c
-        };
-    }
-    let left = c.left - a.count;
-    let done = c.quiet & (a.count == 0);
-    Cycle {
-        go: !done & (c.least <= left),
-        first: false,
-        ahead: !c.ahead,
-        quiet: a.count == 0,
-        done,
-        left,
-        ..c
+        },
+        Phase::Back => went(c, a.count, Phase::Forth),
+        Phase::Forth => went(c, a.count, Phase::Back),
     }
 }
 

@@ -11,16 +11,30 @@ use legality::backward::back;
 use legality::forward::forth;
 use legality::start::begins_in;
 
-// Which sweep it is: `first` the start, else `ahead` that forward. The row of registers needed elsewhere begins at word `o` of the work,
-// the words of the registers at `s`; `n` positions, of which the first `m` are in x; `k` turns; the last kept suspension and barrier, and 1.
+// What a sweep does: it marks the positions to begin with, or drops members, by rule 1 from the last position back or by rules 3 to 6
+// from the first one forth.
 #[derive(Clone, Copy)]
-pub struct Sweep {
-    pub first: bool,
-    pub ahead: bool,
+pub enum Phase {
+    Start,
+    Back,
+    Forth,
+}
+
+// What all sweeps are over: the row of registers needed elsewhere begins at word `o` of the work, the words of the registers at `s`; `n`
+// positions, of which the first `m` are in x.
+#[derive(Clone, Copy)]
+pub struct Span {
     pub o: usize,
     pub s: usize,
     pub m: usize,
     pub n: usize,
+}
+
+// Which sweep it is, and over what; `k` turns; the last kept suspension and barrier, and 1.
+#[derive(Clone, Copy)]
+pub struct Sweep {
+    pub phase: Phase,
+    pub span: Span,
     pub k: usize,
     pub sus: u32,
     pub bar: u32,
@@ -35,13 +49,13 @@ pub struct Tally {
 
 // Turn i's position.
 fn place(g: Sweep, i: usize) -> usize
-    requires { i < g.n }
+    requires { i < g.span.n }
     ensures { result ≡ place g i }
 {
-    if g.ahead {
-        return i;
+    match g.phase {
+        Phase::Forth => i,
+        _ => g.span.n - 1 - i,
     }
-    g.n - 1 - i
 }
 
 fn counted(keep: bool, count: u32, more: bool) -> Tally
@@ -56,10 +70,10 @@ fn counted(keep: bool, count: u32, more: bool) -> Tally
 
 // Does position p, of fact f, begin in the set?
 fn starts(code: &Code, f: Fact, regs: &[u32], work: &[u64], g: Sweep, p: usize) -> bool
-    requires { Written code.now.recs.now (length regs.now) f.rec f.def f.more × (p < 800) × (g.o ≤ length work.now) }
-    ensures { result ≡ (ltb p g.m && begin_test code.now.recs.now regs.now work.now f g.o p) }
+    requires { Written code.now.recs.now (length regs.now) f.rec f.def f.more × (p < 800) × (g.span.o ≤ length work.now) }
+    ensures { result ≡ (ltb p g.span.m && begin_test code.now.recs.now regs.now work.now f g.span.o p) }
 {
-    p < g.m && begins_in(code, f, regs, work, g.o, p)
+    p < g.span.m && begins_in(code, f, regs, work, g.span.o, p)
 }
 
 // The step backward, over the words of the work from s on.
@@ -89,10 +103,10 @@ fn forth_in(
     lasts: &mut [u32; 2008],
     p: usize,
 ) -> bool
-    requires { Written code.now.recs.now (e - g.s) f.rec f.def f.more × Readable code.now.recs.now code.now.ops.now (e - g.s) f × Small f × Near (part g.s (e - g.s) work.old) × (length regs.now ≡ e - g.s) × (p < 800) × (g.s ≤ e) × (e ≤ length work.old) }
-    ensures { Forwarded code.now.recs.now code.now.ops.now regs.now f g.sus g.bar p (part g.s (e - g.s) work.old) lasts.old (part g.s (e - g.s) work.new) lasts.new result × Around g.s (e - g.s) work.old work.new }
+    requires { Written code.now.recs.now (e - g.span.s) f.rec f.def f.more × Readable code.now.recs.now code.now.ops.now (e - g.span.s) f × Small f × Near (part g.span.s (e - g.span.s) work.old) × (length regs.now ≡ e - g.span.s) × (p < 800) × (g.span.s ≤ e) × (e ≤ length work.old) }
+    ensures { Forwarded code.now.recs.now code.now.ops.now regs.now f g.sus g.bar p (part g.span.s (e - g.span.s) work.old) lasts.old (part g.span.s (e - g.span.s) work.new) lasts.new result × Around g.span.s (e - g.span.s) work.old work.new }
 {
-    let s = g.s;
+    let s = g.span.s;
     forth(code, f, regs, &mut work[s..e], lasts, g.sus, g.bar, p)
 }
 
@@ -110,17 +124,21 @@ fn visit(
     requires { Visitable code.now.recs.now code.now.ops.now regs.now work.old g f a p }
     ensures { Visit code.now.recs.now code.now.ops.now regs.now g f a p work.old lasts.old work.new lasts.new result }
 {
-    if g.first {
-        let b = starts(code, f, regs, work, g, p);
-        return counted(b, a.count, b);
+    let e = g.span.s + regs.len();
+    match g.phase {
+        Phase::Start => {
+            let b = starts(code, f, regs, work, g, p);
+            counted(b, a.count, b)
+        }
+        Phase::Back => {
+            let b = back_in(code, f, work, g.span.s, e, lasts, p);
+            counted(b, a.count, f.member & !b)
+        }
+        Phase::Forth => {
+            let b = forth_in(code, f, regs, work, g, e, lasts, p);
+            counted(b, a.count, f.member & !b)
+        }
     }
-    let e = g.s + regs.len();
-    if g.ahead {
-        let b = forth_in(code, f, regs, work, g, e, lasts, p);
-        return counted(b, a.count, f.member & !b);
-    }
-    let b = back_in(code, f, work, g.s, e, lasts, p);
-    counted(b, a.count, f.member & !b)
 }
 
 // k turns of a sweep.

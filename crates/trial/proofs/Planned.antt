@@ -123,8 +123,8 @@ module _ {bounds recs ops pairs targets : List ℕ} {s : Sizes} {c : Chain} {w :
     row_fits = let r = room t.planning.lists in omega (arith, r.rows, r.four, r.words64, d.size64)
 
     -- the part of the stamps
-    stamps_is : a.sweeps.s ≡ stamps_at s
-    stamps_is = ⊎_elim (λ (e : a.least ≡ 0). ap (λ (z : Cycle). z.s) (d.off e).0) (λ (h : 0 < a.least). ap (λ (z : Cycle). z.s) (d.on h).1) (some_or a.least)
+    stamps_is : a.sweeps.span.s ≡ stamps_at s
+    stamps_is = ⊎_elim (λ (e : a.least ≡ 0). ap (λ (z : Cycle). z.span.s) (d.off e).0) (λ (h : 0 < a.least). ap (λ (z : Cycle). z.span.s) (d.on h).1) (some_or a.least)
 
     -- the registers' words, where there is a target
     regs_are : 0 < a.least → (P : Picture) → Lists P bounds recs ops s (length work64) (length work32) → take (a.end - 8000) (drop 8000 work32) ≡ copied_words P work32
@@ -255,7 +255,7 @@ module _ {bounds recs ops pairs targets : List ℕ} {s : Sizes} {c : Chain} {fs 
       best =
           rw (l.recs_are, l.ops_are) at
           (subst (λ (rs : List ℕ). Greatest recs ops (bare fs) rs work64₁ (needed_at s) (marks g.places fs') g.inside g.places g.least k) (regs_are t d h P l)
-          (subst (λ (z : Cycle). Greatest recs ops (bare fs) (take (a.end - 8000) (drop 8000 work32)) work64₁ z.o (marks z.n fs') z.m z.n z.least k) (d.on h).1 ch.set))
+          (subst (λ (z : Cycle). Greatest recs ops (bare fs) (take (a.end - 8000) (drop 8000 work32)) work64₁ z.span.o (marks z.span.n fs') z.span.m z.span.n z.least k) (d.on h).1 ch.set))
 
       row : Row work64₁ (needed_at s) (length (copied_words P work32)) need
       row = subst (λ (x : ℕ). Row work64₁ (needed_at s) x need) (sym (regs_long t d P l)) (d.row h P G ops l u hd)

@@ -40,7 +40,11 @@ pub fn learn(
     let r = s.regs as usize;
     let a = at_regs(s);
     let e = a + s.lent;
-    let code = Code { table: t, recs, ops };
+    let code = Code {
+        table: t,
+        recs,
+        ops,
+    };
     let n = analyse(&code, &mut work64[a..e], facts, bounds, c, r);
     copy_regs(work64, work32, a, r);
     n as usize

@@ -13,6 +13,7 @@ use inst::index::BlockId;
 use inst::table::Table;
 use plan::set::legal_set;
 use plan::settle::Cycle;
+use plan::sweep::{Phase, Span};
 use sizes::{COPIED, Sizes, at_needed, at_preds, at_stamps};
 use words::bits::width;
 
@@ -49,14 +50,10 @@ fn from_start(o: usize, s: usize, m: usize, n: usize, least: u32) -> Cycle
 {
     Cycle {
         go: true,
-        first: true,
-        ahead: false,
+        phase: Phase::Start,
         quiet: false,
         done: false,
-        o,
-        s,
-        m,
-        n,
+        span: Span { o, s, m, n },
         least,
         left: 0,
     }
@@ -142,7 +139,11 @@ pub fn try_target<'a>(
 {
     let a = take_aim(t, bounds, recs, pairs, targets, work64, work32, s, c, g);
     let e = a.end;
-    let code = Code { table: t, recs, ops };
+    let code = Code {
+        table: t,
+        recs,
+        ops,
+    };
     let k = legal_set(&code, &work32[COPIED..e], work64, facts, a.sweeps);
     let b = taken(k, a.least, g.places);
     put_facts(facts, work32, b.places);

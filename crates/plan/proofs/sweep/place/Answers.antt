@@ -1,9 +1,11 @@
 -- `plan::sweep::place` meets its contract. Assumes nothing.
-use Rattle.plan.proofs.Visiting.{place_on, place_back}
+use mathlib.Core.Path.{ap}
+use Rattle.plan.specs.Sweep.{is_forth}
+use Rattle.plan.proofs.Visiting.{not_forth, place_on, place_back}
 use Rattle.plan.proofs.sweep.place.Goals as goal
 
-pub returns-then-g : goal.returns-then-g
-returns-then-g c = place_on _ _ c.if-g.true
+pub returns-in-Forth : goal.returns-in-Forth
+returns-in-Forth c = place_on _ _ (ap is_forth c.in-Forth.is)
 
-pub returns : goal.returns
-returns c = place_back _ _ c.if-g.false
+pub returns-in_default : goal.returns-in_default
+returns-in_default c = place_back _ _ (not_forth _ c.in_default.not-Forth)
