@@ -41,22 +41,28 @@ fn toward_f(g: Goal, moved: u32) -> Goal
     }
 }
 
-// k members move from block x into t, or else l into f.
-fn found(x: BlockId, g: Goal, k: u32, l: u32) -> Option<Move>
-    ensures { result ≡ found x g k l }
+// So many members move from block x into a block.
+fn move_into(x: BlockId, g: Goal, into: BlockId, moved: u32) -> Move
+    ensures { result ≡ record { from = x; into = into; inside = g.inside; places = g.places; moved = moved } }
 {
-    let moves = |into, moved| Move {
+    Move {
         from: x,
         into,
         inside: g.inside,
         places: g.places,
         moved,
-    };
+    }
+}
+
+// k members move from block x into t, or else l into f.
+fn found(x: BlockId, g: Goal, k: u32, l: u32) -> Option<Move>
+    ensures { result ≡ found x g k l }
+{
     if 0 < k {
-        return Some(moves(g.into, k));
+        return Some(move_into(x, g, g.into, k));
     }
     if 0 < l {
-        return Some(moves(g.other, l));
+        return Some(move_into(x, g, g.other, l));
     }
     None
 }

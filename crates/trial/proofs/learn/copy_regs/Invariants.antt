@@ -1,5 +1,4 @@
 -- `trial::learn::copy_regs` meets its contract. Assumes nothing.
-use Prim.Native.Nat.{◌≤◌, ◌-◌}
 use Rattle.chainwords.specs.Puts.{Copied}
 use Rattle.trial.proofs.learn.copy_regs.Given as goal
 

@@ -1,10 +1,9 @@
 -- `trial::target::take_aim` meets its contract. Assumes nothing.
-use mathlib.Core.Path.{sym, ap, ◌∙◌, subst}
-use Prim.Native.Nat.{ℕ, ◌+◌, ◌-◌, ◌*◌, ◌≤◌}
+use mathlib.Core.Path.{refl, sym, ap, subst}
+use Prim.Native.Nat.{ℕ, ◌-◌, ◌*◌, ◌≤◌}
 use native.Mathlib.Omega.{arith}
 use borrow.Author.Tests.{not-true, not-false}
 use lib.ListN.{length, take, drop}
-use Rattle.words.specs.Bits.{width}
 use Rattle.chainwords.proofs.Rooms.{room, preds_room}
 use Rattle.trial.proofs.Aiming.{graph_lent, block_lent, block_in, row_lent, preds_from, aim_off, aim_on}
 use mathlib.Core.Bool.{not}
@@ -27,7 +26,6 @@ slice_bounds-is_target-count c = let r = room c.requires.lists in omega (arith, 
 
 pub is_target-requires : goal.is_target-requires
 is_target-requires c =
-    let at_preds = c.before.before in
     let a = c.args in
     let p = c.requires in
     let low = block_in p.lists p.into_block in
@@ -37,15 +35,11 @@ is_target-requires c =
 
 pub returns-then-not-wanted : goal.returns-then-not-wanted
 returns-then-not-wanted c =
-    let at_Target = c.before.before in
-    let at_preds = at_Target.before.before.before in
-    let at_stamps = at_preds.before.before in
-    let at_needed = at_stamps.before in
     let a = c.args in
-    aim_off (record { is = λ P h. c.is_target.ensures P a.s.blocks (block_in c.requires.lists c.requires.into_block) (preds_from a.s a.work32.now P c.at_preds-k.ensures h) }) (not-true _ (ap not c.if-not-wanted.true)) c.at_needed-o.ensures.0 c.at_stamps-st.ensures.0 c.from_start-none.ensures
+    aim_off (record { is = λ P h. c.is_target.ensures P a.s.blocks (block_in c.requires.lists c.requires.into_block) (preds_from a.s a.work32.now P c.at_preds-k.ensures h) }) (not-true _ (ap not c.if-not-wanted.true)) c.at_needed-o.ensures.0 c.at_stamps-st.ensures.0 c.from_start.ensures
 
 pub width-requires : goal.width-requires
-width-requires c = let r = room c.requires.lists in omega (arith, r.lent, r.few, c.wide.ensures)
+width-requires c = let r = room c.requires.lists in omega (arith, r.lent, r.few)
 
 pub put_needed-requires : goal.put_needed-requires
 put_needed-requires c =
@@ -53,21 +47,14 @@ put_needed-requires c =
     let l = t.lists in
     let low = block_lent l t.into_block in
     let other = block_lent l t.other_block in
-    let ew = c.width.ensures ∙ ap width c.wide.ensures in
+    let ew = c.width.ensures in
     (graph_lent l t.tabled, omega (arith, low, other), omega (arith, low, other), row_lent l t.into_block ew)
 
 pub returns : goal.returns
 returns c =
-    let at_put = c.before.before.before in
-    let at_width = at_put.before in
-    let at_Target = at_width.before.before.before.before in
-    let at_preds = at_Target.before.before.before in
-    let at_Regs = at_preds.before in
-    let at_stamps = at_Regs.before in
-    let at_needed = at_stamps.before in
     let a = c.args in
-    aim_on c.requires (record { is = λ P h. c.is_target.ensures P a.s.blocks (block_in c.requires.lists c.requires.into_block) (preds_from a.s a.work32.now P c.at_preds-k.ensures h) }) (not-false _ (ap not c.if-not-wanted.false)) (c.width.ensures ∙ ap width c.wide.ensures) c.at_needed-o.ensures.0 c.at_stamps-st.ensures.0
-    (ap (λ (x : ℕ). 8000 + x) c.wide-end.ensures) c.put_needed.ensures c.from_start-all.ensures
+    aim_on c.requires (record { is = λ P h. c.is_target.ensures P a.s.blocks (block_in c.requires.lists c.requires.into_block) (preds_from a.s a.work32.now P c.at_preds-k.ensures h) }) (not-false _ (ap not c.if-not-wanted.false)) c.width.ensures c.at_needed-o.ensures.0 c.at_stamps-st.ensures.0
+    refl c.put_needed.ensures c.from_start-2.ensures
 
 pub slice_bounds-is_target-start : goal.slice_bounds-is_target-start
 slice_bounds-is_target-start c = let r = room c.requires.lists in omega (arith, r.words32, c.at_preds-k.ensures)
