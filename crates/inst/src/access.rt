@@ -18,7 +18,12 @@ pub fn row_at(t: &Table, recs: &[u32], p: usize) -> u32
     requires { Known recs.now p }
     ensures { result ≡ packed (kind (inst recs.now p)) }
 {
-    Code { table: t, recs, ops: recs }.row(p)
+    Code {
+        table: t,
+        recs,
+        ops: recs,
+    }
+    .row(p)
 }
 
 // What the slots of record p do, 2 bits a slot.
@@ -26,7 +31,13 @@ pub fn uses(t: &Table, recs: &[u32], p: usize) -> u32
     requires { Known recs.now p }
     ensures { result ≡ uses_of (inst recs.now p) }
 {
-    Code { table: t, recs, ops: recs }.slots(p).does
+    Code {
+        table: t,
+        recs,
+        ops: recs,
+    }
+    .slots(p)
+    .does
 }
 
 // What the slots of record p ask, 2 bits a slot.
@@ -34,7 +45,12 @@ pub fn wanted(t: &Table, recs: &[u32], p: usize) -> u32
     requires { Known recs.now p }
     ensures { result ≡ asks_of (inst recs.now p) }
 {
-    Code { table: t, recs, ops: recs }.wanted(p)
+    Code {
+        table: t,
+        recs,
+        ops: recs,
+    }
+    .wanted(p)
 }
 
 // The register, of `count`, that slot s reads, if there is one.
@@ -42,7 +58,12 @@ pub fn read_at(recs: &[u32], p: usize, uses: u32, s: usize, count: usize) -> Opt
     requires { Used recs.now p uses × (s < 5) }
     ensures { result ≡ reg_of (read_at (inst recs.now p) s) count }
 {
-    Slots { recs, p, does: uses }.read(s, count)
+    Slots {
+        recs,
+        p,
+        does: uses,
+    }
+    .read(s, count)
 }
 
 // The register, of `count`, that slot s writes, if there is one.
@@ -50,7 +71,12 @@ pub fn write_at(recs: &[u32], p: usize, uses: u32, s: usize, count: usize) -> Op
     requires { Used recs.now p uses × (s < 5) }
     ensures { result ≡ reg_of (write_at (inst recs.now p) s) count }
 {
-    Slots { recs, p, does: uses }.write(s, count)
+    Slots {
+        recs,
+        p,
+        does: uses,
+    }
+    .write(s, count)
 }
 
 // The operands in its list, as `Code::list` gives them, for callers that have no table.
@@ -75,7 +101,12 @@ pub fn scan(ops: &[u32], recs: &[u32], p: usize, uses: u32) -> Firsts
     requires { Used recs.now p uses × Listed recs.now ops.now p }
     ensures { Heads (reads ops.now (inst recs.now p)) (writes (inst recs.now p)) result }
 {
-    Slots { recs, p, does: uses }.scan(list(ops, recs, p))
+    Slots {
+        recs,
+        p,
+        does: uses,
+    }
+    .scan(list(ops, recs, p))
 }
 
 // The first three registers that a record reads, slots first and then its list, and the first two that it writes, as the words

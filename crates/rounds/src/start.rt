@@ -25,13 +25,7 @@ fn at_first(answer: Option<Answer>, sizes: Sizes) -> At
 }
 
 // Where the call stands at its start.
-pub fn start(
-    t: &Table,
-    lent: Lent,
-    work64: &mut [u64],
-    work32: &mut [u32],
-    records: usize,
-) -> At
+pub fn start(t: &Table, lent: Lent, work64: &mut [u64], work32: &mut [u32], records: usize) -> At
     ensures { (replay : List ℕ) → Started (picture lent.entry replay) work64.old work32.old records result work64.new work32.new }
 {
     let used = lent.used;
