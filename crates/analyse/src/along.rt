@@ -34,6 +34,7 @@ pub fn analyse(
 {
     let mut at = begin(regs, bounds, c, count);
     let mut p = 0u32;
+    // A cursor is moved on with the bounds at hand, which an iterator would have to keep: no `for` is plainer.
     while at.g < at.past {
         facts[p as usize] = learn_one(code, regs, at.g, p, count);
         at = next(bounds, c, at);

@@ -19,7 +19,8 @@ use pool::types::add_types;
 use rename::all::rename_all;
 use rename::parts::Head;
 
-// Move m, where c registers and operands are in use.
+// Move m, where c registers and operands are in use. (The slices that are written stay apart: a struct of `&mut` slices cannot be lent
+// on twice.)
 pub fn apply(
     t: &Table,
     bounds: &mut [u32],

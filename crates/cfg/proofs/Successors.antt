@@ -18,7 +18,7 @@ use Rattle.inst.proofs.Ends.{EndsAs, ends}
 use Rattle.inst.proofs.Lists.{part_is}
 use Rattle.inst.proofs.Words.{word_is}
 use Rattle.cfg.specs.Drawn.{drawn}
-use Rattle.cfg.specs.Graph.{Tables, Graph}
+use Rattle.cfg.specs.Graph.{Graph}
 
 -- ---- case tables
 
@@ -31,9 +31,6 @@ module _ (bounds recs pairs targets : List ℕ) (k : ℕ) where
 
   pub one_table : (a l : ℕ) → a ≡ get_or pairs (2 * k) 0 → l ≡ get_or pairs (2 * k + 1) 0 → take (a + l - a) (drop a targets) ≡ cases_of
   one_table a l p q = part_is targets p q
-
-pub table_fits : {pairs targets : List ℕ} {a l : ℕ} (i : ℕ) → Tables pairs targets → 2 * i + 1 < length pairs → a ≡ get_or pairs (2 * i) 0 → l ≡ get_or pairs (2 * i + 1) 0 → a + l ≤ length targets
-table_fits i t h p q = omega (arith, t.inside i h)
 
 -- the end of a block, seen from two pictures with the same tables
 pub end_same : (bounds bounds' recs recs' ops ops' pairs targets : List ℕ) (e : End)

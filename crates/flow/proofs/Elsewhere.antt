@@ -1,10 +1,10 @@
 -- The row of registers needed elsewhere, word by word, and that it is `model`'s `needed`. Assumes nothing.
-use mathlib.Core.Path.{◌≡◌, refl, sym, ap, ap₂, ◌∙◌, subst}
+use mathlib.Core.Path.{◌≡◌, sym, ap, ap₂, ◌∙◌, subst}
 use mathlib.Core.Logic.{⊎_elim}
 use mathlib.Core.Bool.{Bool, not, ◌&&◌, ◌||◌}
 use mathlib.Core.List.{List, []}
-use Prim.Native.Nat.{ℕ, ◌+◌, ◌-◌, ◌*◌, ◌/◌, ◌%◌, ◌^◌, ◌≤◌, ◌<◌, min, max}
-use native.Mathlib.Nat.{add-mul, zero-max, le_antisymm}
+use Prim.Native.Nat.{ℕ, ◌+◌, ◌-◌, ◌*◌, ◌/◌, ◌%◌, ◌^◌, ◌<◌, min, max}
+use native.Mathlib.Nat.{add-mul, zero-max}
 use native.Mathlib.Omega.{arith}
 use lib.Bits.{bit_and, bit_or}
 use lib.ListN.{length, get_or, set, take, length-set}
@@ -56,23 +56,6 @@ module _ {bits ss : List ℕ} {n w into other i : ℕ} where
         ∙ sym (hit_or (is_in bits (64 * (other * w) + r)) (any (λ s. is_in bits (64 * (s * w) + r)) ss && not (is_in bits (64 * ((n + into) * w) + r))));
   }
 
--- the words that it is made from lie within
-module _ {ss : List ℕ} {n w into other : ℕ} {bits : List ℕ} (f : Fits ss n w into other bits) where
-  pub live_inside : {o i : ℕ} → o ≡ other → i < w → o * w + i < length bits
-  live_inside {o} {i} e h = let b : o < n = omega (arith, f.branch) in omega (arith, row_fits w b, f.room)
-
-  pub writes_inside : {k t i : ℕ} → k ≡ n → t ≡ into → i < w → k * w + t * w + i < length bits
-  writes_inside {k} {t} {i} e q h =
-      let b : t < n = omega (arith, f.target) in
-      let z : k * w ≡ n * w = ap (λ (x : ℕ). x * w) e in
-      omega (arith, row_fits w b, f.room)
-
-  pub front_inside : n * w ≤ length bits
-  front_inside = omega (arith, f.room)
-
-  pub fits_kept : (m : List ℕ) → length m ≡ length bits → Fits ss n w into other m
-  fits_kept m e = record { target = f.target; branch = f.branch; next = f.next; room = omega (arith, f.room) }
-
 -- ---- one word more
 
 -- a bit of the row that begins at word `at`, by its word
@@ -92,9 +75,6 @@ module _ {bits ss : List ℕ} {n w into other : ℕ} (f : Fits ss n w into other
       (any_on (λ s. is_in m (64 * (s * w) + r)) (λ s. is_in bits (64 * (s * w) + r)) ss
       (λ s i. let z = in_index 0 s ss i in let l : s < n = subst (λ (x : ℕ). x < n) z.2 (f.next z.0 z.1) in in_front m bits o (64 * (s * w) + r) e (omega (arith, row_fits w l))))
       (ap not (in_front m bits o (64 * ((n + into) * w) + r) e (omega (arith, row_fits w f.target, add-mul n into w)))))
-
-  pub put_none : Put bits ss n w into other 0 bits
-  put_none = record { size = refl; front = refl; back = refl; row = λ r h. absurd (omega arith) }
 
   put_more : {i v : ℕ} (m : List ℕ) → Put bits ss n w into other i m → i < w → Word m ss n w into other i v → Put bits ss n w into other (i + 1) (set m (o + i) v)
   put_more {i} {v} m p l k = record {
@@ -119,9 +99,6 @@ module _ {bits ss : List ℕ} {n w into other : ℕ} (f : Fits ss n w into other
 
   pub put_next : {at i v : ℕ} (m : List ℕ) → at ≡ o → Put bits ss n w into other i m → i < w → Word m ss n w into other i v → Put bits ss n w into other (i + 1) (set m (at + i) v)
   put_next {at} {i} {v} m e p l k = subst (λ (x : ℕ). Put bits ss n w into other (i + 1) (set m (x + i) v)) (sym e) (put_more m p l k)
-
-  pub put_all : {i : ℕ} {m : List ℕ} → Put bits ss n w into other i m → i ≤ w → w ≤ i → Put bits ss n w into other w m
-  put_all {i} {m} p h g = subst (λ (k : ℕ). Put bits ss n w into other k m) (le_antisymm h g) p
 
 -- ---- of a whole picture
 

@@ -201,16 +201,8 @@ module _ {n w : ℕ} {ds l m : List ℕ} {b : ℕ} {r : Bool} where
       → Progress n w ds (λ c x i. (c ≡ b) × Among ss (length ss) x × (i < w)) l m r
   edge_all ss h g p = subst (λ (k : ℕ). Progress n w ds (λ c x i. (c ≡ b) × Among ss k x × (i < w)) l m r) (le_antisymm h g) p
 
-pub room_of : {n n' w : ℕ} {l : List ℕ} → n' ≡ n → Room n w l → Room n' w l
-room_of {w = w} {l = l} e r = subst (λ (k : ℕ). Room k w l) (sym e) r
-
 pub room_kept : {n w : ℕ} {l : List ℕ} (m : List ℕ) → length m ≡ length l → Room n w l → Room n w m
 room_kept m e r = record { fits = omega (arith, r.fits) }
-
--- the three words of an edge lie within
-pub edge_fits : {n w b s i : ℕ} {l : List ℕ} (m : List ℕ) → length m ≡ length l → Room n w l → b < n → s < n → i < w
-    → (b * w + i < length m) × (s * w + i < length m) × (n * w + b * w + i < length m)
-edge_fits {n} {w} m e r hb hs hi = (omega (arith, row_fits w hb, r.fits), omega (arith, row_fits w hs, r.fits), omega (arith, row_fits w hb, r.fits))
 
 -- ---- the blocks, down or up
 

@@ -18,14 +18,6 @@ abbrev pub Taken : Order → ℕ → ℕ → ℕ → Type 0
 Taken Down n k c = (n - k ≤ c) × (c < n)
 Taken Up n k c = c < k
 
-pub kth_low : (o : Order) (n k : ℕ) → k < n → kth o k n < n
-kth_low Down n k h = omega arith
-kth_low Up n k h = h
-
-pub none_taken : (o : Order) (n c : ℕ) → Taken o n 0 c → ⊥
-none_taken Down n c d = let u = d.0 in let v = d.1 in omega arith
-none_taken Up n c d = omega arith
-
 pub all_taken : (o : Order) (n k c : ℕ) → k ≤ n → n ≤ k → c < n → Taken o n k c
 all_taken Down n k c h g l = (omega arith, l)
 all_taken Up n k c h g l = omega arith

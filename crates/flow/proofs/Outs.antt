@@ -1,5 +1,5 @@
 -- The rows of listed blocks put together: the loop, and its bits. Assumes nothing.
-use mathlib.Core.Path.{◌≡◌, sym, ap, ◌∙◌, subst}
+use mathlib.Core.Path.{◌≡◌, sym, ap, ◌∙◌}
 use mathlib.Core.Bool.{◌||◌}
 use mathlib.Core.List.{List, [], ◌∷◌}
 use Prim.Native.Nat.{ℕ, ◌+◌, ◌*◌, ◌/◌, ◌%◌, ◌≤◌, ◌<◌, max}
@@ -40,6 +40,3 @@ gathered_bit bits w r x (s ∷ ss) =
     let e : digit (get_or bits (s * w + r / 64) 0) (r % 64) ≡ hit (is_in bits (at w s r)) = cell_is bits w s r in
     let f : hit (is_in bits (at w s r) || any (λ s. is_in bits (at w s r)) ss) ≡ max (hit (is_in bits (at w s r))) (hit (any (λ s. is_in bits (at w s r)) ss)) = hit_or (is_in bits (at w s r)) (any (λ s. is_in bits (at w s r)) ss) in
     gathered_bit bits w r (bit_or x (get_or bits (s * w + r / 64) 0)) ss ∙ omega (arith, digit_or x (get_or bits (s * w + r / 64) 0) (r % 64))
-
-pub row_of : {s k : ℕ} (w : ℕ) (bits : List ℕ) → s ≡ k → k * w + w ≤ length bits → s * w + w ≤ length bits
-row_of w bits e h = subst (λ (x : ℕ). x * w + w ≤ length bits) (sym e) h

@@ -164,9 +164,6 @@ pub record Made (bounds recs ops : List ℕ) (w b : ℕ) (l m : List ℕ) : Type
   pub behind : (i : ℕ) → 3 * (length bounds / 2) * w + w ≤ i → get_or m i 0 ≡ get_or l i 0
 
 module _ {bounds recs ops : List ℕ} {w : ℕ} {l : List ℕ} where
-  pub made_none : Made bounds recs ops w 0 l l
-  made_none = record { size = refl; each = λ c h. absurd (omega arith); behind = λ i h. refl }
-
   one_more : {b : ℕ} {k m : List ℕ} → b < length bounds / 2 → Made bounds recs ops w b l k → Rows (drawn bounds recs ops [] []) w b m → OnlyRows (length bounds / 2) w b k m
       → Made bounds recs ops w (b + 1) l m
   one_more {b} {k} {m} h s r o = record {
@@ -178,6 +175,3 @@ module _ {bounds recs ops : List ℕ} {w : ℕ} {l : List ℕ} where
   pub made_more : {b c : ℕ} {k m : List ℕ} → b ≡ c → b < length bounds / 2 → Made bounds recs ops w b l k → Rows (drawn bounds recs ops [] []) w c m → OnlyRows (length bounds / 2) w c k m
       → Made bounds recs ops w (b + 1) l m
   made_more {b} {c} {k} {m} e h s r o = one_more h s (subst (λ (x : ℕ). Rows (drawn bounds recs ops [] []) w x m) (sym e) r) (subst (λ (x : ℕ). OnlyRows (length bounds / 2) w x k m) (sym e) o)
-
-  pub room_made : {b : ℕ} {m : List ℕ} → Made bounds recs ops w b l m → RowRoom (length bounds / 2) w l → RowRoom (length bounds / 2) w m
-  room_made s r = record { fits = rw s.size r.fits }

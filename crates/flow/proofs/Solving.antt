@@ -1,14 +1,12 @@
 -- Sweeps that start from what is read first end at the least solution. Assumes nothing.
-use mathlib.Core.Path.{◌≡◌, refl, sym, ◌∙◌, subst}
-use mathlib.Core.Bool.{Bool, true, false, true≢false}
+use mathlib.Core.Path.{◌≡◌, sym, ◌∙◌, subst}
+use mathlib.Core.Bool.{Bool, false}
 use mathlib.Core.List.{List}
-use Prim.Native.Nat.{ℕ, ◌+◌, ◌-◌, ◌*◌, ◌/◌, ◌≤◌, ◌<◌, min}
-use native.Mathlib.Nat.{le_refl, le_trans}
+use Prim.Native.Nat.{ℕ, ◌-◌, ◌*◌, ◌/◌, ◌≤◌, ◌<◌, min}
+use native.Mathlib.Nat.{le_trans}
 use native.Mathlib.Omega.{arith}
 use lib.ListN.{length, drop}
-use Rattle.words.specs.Bits.{room}
-use Rattle.words.specs.Lists.{hit}
-use Rattle.flow.specs.Progress.{cell, Among, Edges, Progress, Solved}
+use Rattle.flow.specs.Progress.{cell, Among, Edges, Progress}
 
 -- what holds between sweeps: all of `Solved`, but for `closed` while the last one changed something
 pub record Between (n w : ℕ) (succ : ℕ → List ℕ) (l m : List ℕ) (again : Bool) : Type 0 where
@@ -22,15 +20,6 @@ pub record Between (n w : ℕ) (succ : ℕ → List ℕ) (l m : List ℕ) (again
       → ((b : ℕ) → b < n → cell l w b q ≤ y b) → (b : ℕ) → b < n → cell m w b q ≤ y b
 
 module _ {n w : ℕ} {succ : ℕ → List ℕ} where
-  pub at_first : (l : List ℕ) → Between n w succ l l true
-  at_first l = record {
-    size = refl;
-    rest = refl;
-    grow = λ b q h. le_refl (cell l w b q);
-    closed = λ t. absurd (true≢false t);
-    below = λ q h y up le. le;
-  }
-
   pub after_sweep : {l m k : List ℕ} {a r : Bool} → Between n w succ l m a → Progress n w (drop (n * w) m) (Edges n w succ) m k r → Between n w succ l k r
   after_sweep {l} {m} {k} s p = record {
     size = p.size ∙ s.size;
@@ -44,14 +33,3 @@ module _ {n w : ℕ} {succ : ℕ → List ℕ} where
     where
       word : (q : ℕ) → q < 64 * w → q / 64 < w
       word q h = omega arith
-
-  pub at_last : {l m : List ℕ} {a : Bool} → a ≡ false → Between n w succ l m a → Solved n w succ l m
-  at_last t s = record { size = s.size; rest = s.rest; grow = s.grow; closed = s.closed t; below = s.below }
-
--- a turn whose last sweep changed something leaves less room, and the last one was told
-pub turn_less : {n w : ℕ} {ds ds' : List ℕ} {D : ℕ → ℕ → ℕ → Type 0} {l m k : List ℕ} {r r' : Bool} → Progress n w ds D l m r → Progress n w ds' D m k r' → room k + hit r' < room l + 1
-turn_less {l = l} {m = m} {k = k} {r' = r'} p p' = go r' (λ t. p'.less t)
-  where
-    go : (q : Bool) → (q ≡ true → room k < room m) → room k + hit q < room l + 1
-    go true h = let g = h refl in omega (arith, p.mono)
-    go false h = omega (arith, p.mono, p'.mono)

@@ -14,7 +14,6 @@ use Rattle.words.proofs.Copying.{get_or-sets_in, get_or-sets_after, drop_sets}
 use Rattle.words.proofs.Parts.{row_fits, get_d_part}
 use Rattle.model.specs.Picture.{Picture, nblocks, succs}
 use Rattle.cfg.specs.Drawn.{drawn}
-use Rattle.defuse.specs.Sets.{Room}
 use Rattle.flow.specs.Progress.{cell, Solved}
 use Rattle.flow.specs.Live.{Live, RowRoom, Rows, OnlyRows}
 use Rattle.flow.proofs.Firsts.{at}
@@ -41,10 +40,6 @@ module _ {n w b : ℕ} {l : List ℕ} (r : RowRoom n w l) (h : b < n) where
 
 pub room_as : {n w v : ℕ} {l : List ℕ} → w ≡ v → RowRoom n v l → RowRoom n w l
 room_as {n} {l = l} e r = subst (λ (x : ℕ). RowRoom n x l) (sym e) r
-
--- with those rows there is room for live-in
-pub live_room : {n w : ℕ} {l : List ℕ} (m : List ℕ) → length m ≡ length l → RowRoom n w l → Room n w m
-live_room {n} {w} m e r = record { fits = omega (arith, r.fits, add-mul n (2 * n) w, add-mul n n w) }
 
 -- another block's row
 pub other_row : {w x y : ℕ} (i : ℕ) → (x ≡ y → ⊥) → i < w → (x * w + i < y * w) ⊎ (y * w + w ≤ x * w + i)

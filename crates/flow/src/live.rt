@@ -127,7 +127,7 @@ pub fn live_in(bits: &mut [u64], func: &Func<'_>, regs: usize)
     solve(bits, func, w);
 }
 
-// Word i of every row of the list, of n blocks.
+// Word i of every row of the list, of n blocks. (A loop: as a fold, what its closure asks of each number of the list was not proved.)
 pub fn gather(bits: &[u64], list: &[u32], n: u32, w: usize, i: usize) -> u64
     requires { (i < w) × (n * w ≤ length bits.now) × ((j : ℕ) → j < length list.now → get_or list.now j 0 < n) }
     ensures { result ≡ gathered bits.now w i 0 list.now }

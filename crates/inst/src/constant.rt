@@ -47,7 +47,7 @@ pub fn signed(n: u64) -> i64
     n.cast_signed()
 }
 
-// Are these the bits of a float that is no number?
+// Are these the bits of a float that is no number? (`f64::from_bits` asks that they are not, so no float can be asked.)
 pub fn is_nan(n: u64) -> bool
     ensures { result ≡ nan_bits binary64 n }
 {

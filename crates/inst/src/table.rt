@@ -318,7 +318,8 @@ pub fn most(row: u32) -> u32
     row / 134217728 % 8
 }
 
-// What each slot number asks at a form, 2 bits a number: 0 absent, 1 a register, 2 either.
+// What each slot number asks at a form, 2 bits a number: 0 absent, 1 a register, 2 either. (The codes stay bits of one word: that all
+// slots are alike, or that the last do nothing, is told by one comparison of it.)
 fn wants(form: u32) -> u32
     ensures { result ≡ wants form }
 {

@@ -71,6 +71,7 @@ pub fn last_readers(
     st.fill(0);
     let mut at = first(bounds, c);
     let mut q = 0usize;
+    // As in `analyse`, the cursor is moved on with the bounds at hand.
     while at.g < at.past {
         read_on(code, st, lasts, at.g, q);
         at = next(bounds, c, at);

@@ -6,18 +6,15 @@ use Prim.Native.Nat.{ℕ, ◌+◌, ◌*◌, ◌/◌, ◌<◌}
 use borrow.Author.Tests.{eq-eqb, ne_eqb}
 use lib.Dec.{eqb, ltb}
 use lib.ListN.{get_or, length}
-use Rattle.words.specs.Lists.{upto, all}
+use Rattle.words.specs.Lists.{all}
 use Rattle.words.specs.Bits.{is_in}
 use Rattle.words.proofs.Members.{all_on}
 use Rattle.model.specs.Picture.{inst, absent, writes}
-use Rattle.inst.specs.Record.{write_at}
 use Rattle.facts.specs.declared.Fact.{Fact}
 use Rattle.facts.specs.Marks.{fact_in}
-use Rattle.regfacts.specs.Written.{Fits}
 use Rattle.legalset.specs.Chain.{view, defs_of, writer, Safe}
 use Rattle.legalset.specs.Rules.{result_ok, begins}
 use Rattle.summary.specs.Passes.{result_test, begin_test, Ended, Shows}
-use Rattle.summary.proofs.Places.{all_placed, writes_placed}
 use Rattle.summary.proofs.Backing.{writes_low}
 
 module _ (regs bits : List ℕ) (o p r : ℕ) where
@@ -29,9 +26,6 @@ module _ (regs bits : List ℕ) (o p r : ℕ) where
   result_there {k} n e f =
       ap (λ (x : Bool). not (x && eqb (get_or regs k 0 / 16) (p + 1))) f ∙ ap (λ (j : ℕ). not (is_in bits (64 * o + j) && eqb (get_or regs j 0 / 16) (p + 1))) e
       ∙ sym (ap (λ (b : Bool). b || not (is_in bits (64 * o + r) && eqb (get_or regs r 0 / 16) (p + 1))) (ne_eqb r absent n))
-
-pub writes_tested : {recs : List ℕ} {R g : ℕ} (f : ℕ → Bool) → Fits recs R g → all (λ k. eqb (write_at (inst recs g) k) absent || f (write_at (inst recs g) k)) (upto 5) ≡ all f (writes (inst recs g))
-writes_tested {recs} {R} {g} f h = sym (all_placed (writes_placed recs g h.whole.within) f)
 
 module _ (recs regs bits : List ℕ) (f : Fact) (o p : ℕ) where
   pub begin_fixed : (f.class ≡ 1 → ⊥) → false ≡ begin_test recs regs bits f o p

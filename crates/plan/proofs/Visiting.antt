@@ -4,7 +4,6 @@ use mathlib.Core.Bool.{Bool, true, false, not, ◌&&◌, cond}
 use mathlib.Core.List.{List}
 use Prim.Native.Nat.{ℕ, ◌+◌, ◌-◌, ◌≤◌, ◌<◌}
 use native.Mathlib.Omega.{arith}
-use borrow.Author.Tests.{lt-ltb, le-ltb}
 use borrow.Rule.Slice.PartMut.{put_mid, mid_of, same_len_mid, mid_len, take_put, drop_put}
 use lib.Dec.{ltb}
 use lib.ListN.{length, take, drop}
@@ -31,18 +30,6 @@ place_on g i e = sym (ap (λ (b : Bool). cond b i (g.span.n - 1 - i)) e)
 pub place_back : (g : Sweep) (i : ℕ) → (is_forth g.phase) ≡ false → g.span.n - 1 - i ≡ place g i
 unfolding place
 place_back g i e = sym (ap (λ (b : Bool). cond b i (g.span.n - 1 - i)) e)
-
-pub one_more : (c : ℕ) {b : Bool} → b ≡ true → c + 1 ≡ c + hit b
-one_more c e = ap (λ (b : Bool). c + hit b) (sym e)
-
-pub no_more : (c : ℕ) {b : Bool} → b ≡ false → c ≡ c + hit b
-no_more c e = let z : c ≡ c + 0 = omega arith in z ∙ ap (λ (b : Bool). c + hit b) (sym e)
-
-pub starts_in : (p m : ℕ) {b ok : Bool} → p < m → b ≡ ok → b ≡ (ltb p m && ok)
-starts_in p m {b} {ok} h e = e ∙ sym (ap (λ (x : Bool). x && ok) (lt-ltb p m h))
-
-pub starts_out : (p m : ℕ) (ok : Bool) → m ≤ p → false ≡ (ltb p m && ok)
-starts_out p m ok h = sym (ap (λ (x : Bool). x && ok) (le-ltb p m h))
 
 -- ---- the part that is lent comes back
 

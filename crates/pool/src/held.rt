@@ -1,5 +1,5 @@
 // The registers that a new one may be taken from (01, "The move"). A held register is one word, until × 2^20 + register × 8 + type,
-// and a free one keeps that word.
+// and a free one keeps that word: a turn passes over all that are held, so they stay one word each.
 ghost use Rattle.std.specs.Prelude.{◌+◌, ◌≤◌};
 
 use model::RECORDS;

@@ -1,6 +1,7 @@
 // The facts on registers (01, "A round": "read-only, frame, constant .. once, before round 1, from registers with exactly one
 // writer"), four bits in a word of 64 a register: 1 read-only, 2 frame, 4 a constant that is a length, 8 a constant above 0.
-// The words past the registers in use are set to 0: a new register has no facts.
+// The words past the registers in use are set to 0: a new register has no facts. The words are a lent slice's, which `analyse` puts last
+// writers into, so they stay words.
 ghost use Rattle.std.specs.Prelude.{◌≡◌, ◌⊎◌, ℕ, ◌*◌, ◌≤◌, ◌<◌, length, get_or};
 ghost use Rattle.model.specs.Picture.{inst};
 ghost use Rattle.model.specs.Analyse.{known, small, positive};

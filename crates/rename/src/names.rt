@@ -1,4 +1,5 @@
-// A word for each register, its new name or absent (01, "The move").
+// A word for each register, its new name or absent (01, "The move"). The words are part of the work words that C lends, 64 bits each:
+// so it is a word that says absent, and no `Option`.
 ghost use Rattle.std.specs.Prelude.{◌≡◌, ℕ, ◌%◌, ◌≤◌, ◌<◌, length, replicate};
 ghost use Rattle.model.specs.Picture.{inst};
 ghost use Rattle.inst.specs.Index.{word_of, Among};

@@ -9,11 +9,10 @@ use native.Mathlib.Omega.{arith}
 use borrow.Author.Tests.{eq-eqb, ne_eqb, le-leb, lt-leb}
 use lib.Dec.{eqb, leb}
 use lib.ListN.{get_or, length, set, replicate}
-use Rattle.words.specs.Lists.{In, upto, all, mem, hit}
+use Rattle.words.specs.Lists.{In, all, mem, hit}
 use Rattle.words.proofs.Bools.{bool?, true_T, hit_le}
 use Rattle.words.proofs.Members.{all_on}
 use Rattle.model.specs.Picture.{inst, absent, reads, writes}
-use Rattle.inst.specs.Record.{write_at}
 use Rattle.words.specs.Last.{last_below}
 use Rattle.effects.specs.Origin.{num}
 use Rattle.facts.specs.declared.Fact.{Fact}
@@ -26,7 +25,7 @@ use Rattle.legalset.proofs.Dropping.{passed_none, passed_down}
 use Rattle.legalset.proofs.Easier.{behind, backward_mono}
 use Rattle.legalset.proofs.Pending.{pending_ext}
 use Rattle.summary.specs.Passes.{over, stamp, since, writer_word, kept_word, Stamped, Stamps, Awaits, Awaited, Notes, Noted, noting, later_in, Backed, Summed, Shows}
-use Rattle.summary.proofs.Places.{all_placed, writes_placed}
+use Rattle.summary.proofs.Places.{writes_placed}
 use Rattle.summary.proofs.Summing.{zero_at, since_low, since_ext, since_all, notes_none, notes_more, noted_member, noted_all, notes_writes, notes_barrier, notes_suspension}
 use Rattle.summary.proofs.Forwarding.{sifted_other, now_in, is_sifted, is_lost}
 
@@ -37,10 +36,6 @@ free_absent st r e = sym (ap (λ (b : Bool). b || leb (get_or st r 0) 1023) (eq-
 
 pub free_there : (st : List ℕ) (r : ℕ) {k : ℕ} → (r ≡ absent → ⊥) → k ≡ r → leb (get_or st k 0) 1023 ≡ (eqb r absent || leb (get_or st r 0) 1023)
 free_there st r n e = ap (λ (j : ℕ). leb (get_or st j 0) 1023) e ∙ sym (ap (λ (b : Bool). b || leb (get_or st r 0) 1023) (ne_eqb r absent n))
-
-pub writes_all : {recs : List ℕ} {R g : ℕ} (st : List ℕ) → Fits recs R g
-    → all (λ k. eqb (write_at (inst recs g) k) absent || leb (get_or st (write_at (inst recs g) k) 0) 1023) (upto 5) ≡ all (λ x. leb (get_or st x 0) 1023) (writes (inst recs g))
-writes_all {recs} {R} {g} st f = sym (all_placed (writes_placed recs g f.whole.within) (λ x. leb (get_or st x 0) 1023))
 
 -- ---- what a kept position reads is
 

@@ -3,7 +3,7 @@ use mathlib.Core.Path.{◌≡◌, refl, sym, ap, ◌∙◌}
 use mathlib.Core.Logic.{◌⊎◌, inl, inr, ⊎_elim}
 use mathlib.Core.Bool.{Bool, true, false, ◌||◌, cond, or-false}
 use mathlib.Core.List.{List}
-use Prim.Native.Nat.{ℕ, ◌+◌, ◌*◌, ◌%◌, ◌≤◌, ◌<◌}
+use Prim.Native.Nat.{ℕ, ◌+◌, ◌*◌, ◌≤◌, ◌<◌}
 use native.Mathlib.Omega.{arith}
 use borrow.Author.Tests.{eq-eqb, ne_eqb}
 use lib.Dec.{eqb}
@@ -67,9 +67,6 @@ put_absent keep lo v r st e = ap (λ (b : Bool). cond b st (set st r (over keep 
 pub put_there : (keep lo v r : ℕ) (st : List ℕ) → (r ≡ absent → ⊥) → put_in keep lo v r st ≡ set st r (over keep lo v (get_or st r 0))
 unfolding put_in
 put_there keep lo v r st e = ap (λ (b : Bool). cond b st (set st r (over keep lo v (get_or st r 0)))) (ne_eqb r absent e)
-
-pub over_fits : {keep lo v : ℕ} → Beside keep lo v → (x : ℕ) → x % keep + v < 18446744073709551616
-over_fits {keep} {lo} {v} b x = let h = native.Mathlib.Nat.mod-lt x b.some in let s = b.small in omega arith
 
 stamp_again : (keep lo v : ℕ) → Beside keep lo v → (b : Bool) (x : ℕ) → over keep lo v (stamp keep lo v b x) ≡ stamp keep lo v (b || true) x
 unfolding stamp

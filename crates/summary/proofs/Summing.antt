@@ -14,22 +14,13 @@ use Rattle.words.specs.Lists.{hit}
 use Rattle.words.proofs.Bools.{eq?, lt?, true_T}
 use Rattle.words.proofs.Lasts.{last_ext, last_step, last_low}
 use Rattle.words.proofs.Lists.{get_or_zeros}
-use Rattle.model.specs.Picture.{inst}
-use Rattle.inst.specs.Record.{Used, uses_of}
 use Rattle.facts.specs.declared.Fact.{Fact}
 use Rattle.facts.specs.Marks.{fact_in}
-use Rattle.regfacts.specs.Written.{Good}
 use Rattle.legalset.specs.Chain.{Safe}
 use Rattle.legalset.specs.Rules.{last_kept}
 use Rattle.summary.specs.Passes.{since, noted, later_in, member_in, member_at, forgot, Notes, Noted, Writes, noting}
 
 -- ---- the record of a position
-
-pub good_of : {recs ops : List ℕ} {R g x y : ℕ} → Good recs ops R y → x ≡ y → g ≡ x → Good recs ops R g
-good_of {recs} {ops} {R} k e f = subst (λ (j : ℕ). Good recs ops R j) (sym (f ∙ e)) k
-
-pub used_at : {recs ops : List ℕ} {R g u : ℕ} → Good recs ops R g → u ≡ uses_of (inst recs g) → Used recs g u
-used_at k e = record { within = k.known.within; uses = e }
 
 pub safe_len : {recs ops : List ℕ} {w : List Fact} {n : ℕ} {R R' : ℕ} → Safe recs ops w n R → R' ≡ R → Safe recs ops w n R'
 safe_len {recs} {ops} {w} {n} s e = subst (Safe recs ops w n) (sym e) s

@@ -14,15 +14,13 @@ use Rattle.words.proofs.Members.{in_left, in_right}
 use Rattle.model.specs.Picture.{inst, absent, reads, writes}
 use Rattle.inst.specs.Index.{reg_of, word_of, Among}
 use Rattle.inst.specs.declared.index.Reg.{Reg}
-use Rattle.inst.specs.Record.{Known, Used, uses_of, present}
+use Rattle.inst.specs.Record.{present}
 use Rattle.inst.proofs.Indices.{among_of, word_of_reg}
 use Rattle.facts.specs.declared.Fact.{Fact}
-use Rattle.regfacts.specs.Written.{Fits, Good}
 use Rattle.legalset.specs.Chain.{Safe, Brief}
 use Rattle.summary.specs.Passes.{put_in, kept_word, noting, Stamped, Awaited, Backed, Beside, Written, Readable, Small, Shows, own_def, own_uses}
 use Rattle.summary.proofs.Places.{Placed, all_placed, made, present_in, reads_low}
 use Rattle.summary.proofs.Stamping.{Stamping, stamping_none, stamping_more, stamping_end}
-use Rattle.summary.proofs.Summing.{used_at}
 use Rattle.summary.proofs.Backing.{writes_low, backed}
 
 -- ---- each position of a chain is such
@@ -131,33 +129,3 @@ backed_by f {st = st} {mid = mid} {st' = st'} {b = b} w r e t k s a n =
     let defs = def_all f w e in
     let uses = ap (λ (m : ℕ). own_uses m f) s.size ∙ uses_all f r e in
     backed (t ∙ ap (λ (l : List ℕ). f.member && all (λ (x : ℕ). leb (get_or st x 0) 1023) l) defs) k (stamped_is defs s) (subst (λ (l : List ℕ). Awaited l b mid st') uses a) n
-
--- ---- what record n writes, by its number g
-
-module _ {recs : List ℕ} {R n d : ℕ} {more : Bool} (a : Written recs R n d more) where
-  pub known_at : {g : ℕ} → g ≡ n → Known recs g
-  known_at e = subst (Known recs) (sym e) a.known
-
-  pub slots_at : {g u : ℕ} → g ≡ n → u ≡ uses_of (inst recs g) → Used recs g u × Fits recs R g
-  slots_at e k = (record { within = (known_at e).within; uses = k }, subst (Fits recs R) (sym e) a.fits)
-
-  pub slots_tested : (h : ℕ → Bool) {g : ℕ} {b : Bool} → g ≡ n → b ≡ all h (writes (inst recs g)) → b ≡ all h (writes (inst recs n))
-  slots_tested h e k = k ∙ ap (λ (j : ℕ). all h (writes (inst recs j))) e
-
-  pub slots_stamped : {g keep lo v : ℕ} {st st' : List ℕ} → g ≡ n → Stamped (writes (inst recs g)) keep lo v st st' → Stamped (writes (inst recs n)) keep lo v st st'
-  slots_stamped e k = stamped_is (ap (λ (j : ℕ). writes (inst recs j)) e) k
-
--- ---- what the record of fact d reads, by its number g
-
-module _ {recs ops : List ℕ} {R : ℕ} {d : Fact} (a : Readable recs ops R d) where
-  pub good_at : {g : ℕ} → g ≡ d.rec → Good recs ops R g
-  good_at e = subst (Good recs ops R) (sym e) a.good
-
-  pub places_at : {g u : ℕ} → g ≡ d.rec → u ≡ uses_of (inst recs g) → Used recs g u × Good recs ops R g
-  places_at e k = let h = good_at e in (used_at h k, h)
-
-  pub places_tested : (h : ℕ → Bool) {g : ℕ} {b : Bool} → g ≡ d.rec → b ≡ all h (reads ops (inst recs g)) → b ≡ all h (reads ops (inst recs d.rec))
-  places_tested h e k = k ∙ ap (λ (j : ℕ). all h (reads ops (inst recs j))) e
-
-  pub places_stamped : {g keep lo v : ℕ} {st st' : List ℕ} → g ≡ d.rec → Stamped (reads ops (inst recs g)) keep lo v st st' → Stamped (reads ops (inst recs d.rec)) keep lo v st st'
-  places_stamped e k = stamped_is (ap (λ (j : ℕ). reads ops (inst recs j)) e) k
