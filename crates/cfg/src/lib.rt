@@ -2,3 +2,4 @@
 #![tactic(auto)]
 
 pub mod graph; // graph.rt: successors and sole predecessors
+pub mod body; // body.rt: what a round looks at

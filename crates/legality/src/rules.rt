@@ -21,6 +21,15 @@ const NOT_AWAITED: u64 = AWAITED - 1;
 // As in regfacts.
 const FLAGS: u32 = flags::FLAGS as u32;
 
+// What rule 2 asks: a word for each register in use, with its last writer, and the row of the registers needed elsewhere, which begins
+// at word `at` of `bits`.
+#[derive(Clone, Copy)]
+pub struct Elsewhere<'a> {
+    pub regs: &'a [u32],
+    pub bits: &'a [u64],
+    pub at: usize,
+}
+
 // Is register r, if it is one, not awaited?
 fn free(st: &[u64], r: Option<Reg>) -> bool
     requires { Among (length st.now) r }
