@@ -1,5 +1,5 @@
 -- 01, "A round": the move from one block x of a picture, as a first round finds it, and what the search leaves. Assumes nothing.
-use Rattle.std.specs.Prelude.{◌≡◌, true, false, List, ℕ, zero, suc, ◌+◌, ◌-◌, ◌≤◌, ◌<◌, ltb, length, Option, Some, None}
+use Rattle.std.specs.Prelude.{◌≡◌, true, false, List, ℕ, zero, suc, ◌+◌, ◌-◌, ◌≤◌, ◌<◌, ltb, length, Option, Some, None, Result, Ok, Err}
 use Rattle.words.specs.Lists.{count}
 use Rattle.model.specs.Picture.{Picture, nblocks, size}
 use Rattle.model.specs.Refusal.{refusal}
@@ -15,8 +15,9 @@ use Rattle.apply.specs.declared.moves.Move.{Move}
 use Rattle.chainwords.specs.Work.{Shown, Held, chain_words}
 use Rattle.search.specs.declared.find.Look.{Look}
 use Rattle.search.specs.Search.{IsLooked}
-use Rattle.probe.specs.declared.attempt.Judged.{Judged}
-use Rattle.probe.specs.declared.attempt.Ready.{Ready}
+use Rattle.trial.specs.Trial.{IsTried}
+use Rattle.cfg.specs.declared.body.Body.{Body}
+use Rattle.probe.specs.declared.attempt.Asked.{Asked}
 use Rattle.probe.specs.Heads.{with_four}
 
 -- ---- the number and the words that are given
@@ -83,36 +84,34 @@ pub record Taken (P : Picture) (w64 w32 nf x : ℕ) (s : Sizes) (b : BlockId) : 
   pub block_is : b.0 ≡ x
   pub sizes_are : s ≡ sizes_of P
 
-abbrev pub IsJudged : Picture → Room → ℕ → Judged → Option BlockId → Type 0
-IsJudged P r x j (Some b) = Taken P r.w64 r.w32 r.records x j.sizes b
-IsJudged P r x j None = Stopped P r.w64 r.w32 r.records x j.number
+abbrev pub IsJudged : Picture → Room → ℕ → Result Asked ℕ → Type 0
+IsJudged P r x (Ok a) = Taken P r.w64 r.w32 r.records x a.sizes a.block
+IsJudged P r x (Err n) = Stopped P r.w64 r.w32 r.records x n
 
-pub record Judges (P : Picture) (r : Room) (x : ℕ) (j : Judged) : Type 0 where
-  pub is : IsJudged P r x j j.block
+pub record Judges (P : Picture) (r : Room) (x : ℕ) (j : Result Asked ℕ) : Type 0 where
+  pub is : IsJudged P r x j
 
--- there is an accepted picture whose lists and sizes these are, and x is one of its blocks
-pub record Asking (bounds recs ops pairs targets replay : List ℕ) (s : Sizes) (w64 w32 x : ℕ) : Type 0 where
+-- ---- the search
+
+-- P is a picture that this body shows
+abbrev pub ShownIn : Picture → Body → ℕ → ℕ → Type 0
+ShownIn P b w64 w32 = Shown P b.func.bounds.now b.func.recs.now b.ops.now b.func.pairs.now b.func.targets.now b.replay.now b.sizes w64 w32
+
+-- there is such a picture, an accepted one, and x is one of its blocks
+pub record Asking (b : Body) (w64 w32 x : ℕ) : Type 0 where
   pub P : Picture
-  pub shown : Shown P bounds recs ops pairs targets replay s w64 w32
+  pub shown : ShownIn P b w64 w32
   pub is_block : x < nblocks P
 
 -- of every such picture: the work slices hold what a round needs, and o is the chain from block x, or it has no move
-pub record Seen (bounds recs ops pairs targets replay : List ℕ) (s : Sizes) (work64 work32 work64' work32' : List ℕ) (x : ℕ) (o : Option Look) : Type 0 where
+pub record Seen (b : Body) (work64 work32 work64' work32' : List ℕ) (x : ℕ) (o : Option Look) : Type 0 where
   pub size64 : length work64' ≡ length work64
   pub size32 : length work32' ≡ length work32
-  pub held : (P : Picture) → Shown P bounds recs ops pairs targets replay s (length work64) (length work32) → Held P (facts P) work64' work32'
-  pub is : (P : Picture) → Shown P bounds recs ops pairs targets replay s (length work64) (length work32) → IsLooked P x o
+  pub held : (P : Picture) → ShownIn P b (length work64) (length work32) → Held P (facts P) work64' work32'
+  pub is : (P : Picture) → ShownIn P b (length work64) (length work32) → IsLooked P x o
 
--- the same of a block that there may be; where there is none, the answer stays and so do the work slices
-abbrev pub MaySeek : (bounds recs ops pairs targets replay : List ℕ) (s : Sizes) (w64 w32 : ℕ) → Option BlockId → Type 0
-MaySeek bounds recs ops pairs targets replay s w64 w32 (Some b) = Asking bounds recs ops pairs targets replay s w64 w32 b.0
-MaySeek bounds recs ops pairs targets replay s w64 w32 None = Unit {0}
-
-abbrev pub SetsTo : (bounds recs ops pairs targets replay : List ℕ) (j : Judged) (work64 work32 work64' work32' : List ℕ) (k : Ready) → Option BlockId → Type 0
-SetsTo bounds recs ops pairs targets replay j work64 work32 work64' work32' k (Some b) =
-    (k.number ≡ 0) × (k.sizes ≡ j.sizes) × Seen bounds recs ops pairs targets replay j.sizes work64 work32 work64' work32' b.0 k.next
-SetsTo bounds recs ops pairs targets replay j work64 work32 work64' work32' k None =
-    (k.next ≡ None) × (k.number ≡ j.number) × (work64' ≡ work64) × (work32' ≡ work32)
-
-pub record Sets (bounds recs ops pairs targets replay : List ℕ) (j : Judged) (work64 work32 work64' work32' : List ℕ) (k : Ready) : Type 0 where
-  pub is : SetsTo bounds recs ops pairs targets replay j work64 work32 work64' work32' k j.block
+-- r is the move from block x, and the chain's words stand for it
+pub record Tried (b : Body) (work64 work32 work64' work32' : List ℕ) (x : ℕ) (r : Option Move) : Type 0 where
+  pub size64 : length work64' ≡ length work64
+  pub size32 : length work32' ≡ length work32
+  pub is : (P : Picture) → ShownIn P b (length work64) (length work32) → IsTried P (facts P) x r (chain_words work32')

@@ -1,31 +1,31 @@
--- `attempt::virdzeba_try` meets its contract: the block is judged, the search set out from it, and its chain tried. Assumes nothing.
+-- `attempt::virdzeba_try` meets its contract: the block is judged, and its chain tried. Assumes nothing.
 use lib.ListN.{length}
 use Rattle.checks.specs.Causes.{picture_of}
-use Rattle.probe.proofs.Attempts.{may_set, out_set, ended_all, asked, many, settled}
+use Rattle.probe.proofs.Attempts.{stopped, shown, block_in, many, settled}
 use Rattle.probe.proofs.attempt.virdzeba_try.Goals as goal
 
-pub set_out-k-requires : goal.set_out-k-requires
-set_out-k-requires c =
+pub returns-in-Err : goal.returns-in-Err
+returns-in-Err c =
     let a = c.args in
     let P = picture_of a.bounds.now a.recs.now a.locs.now a.vias.now a.types.now a.registers a.ops.now a.operands a.pairs.now a.targets.now a.replay.now in
-    may_set P a.x (length a.facts.now) a.work64.now a.work32.now (c.judge-j.ensures a.replay.now)
+    stopped P a.x a.work64.now a.work32.now a.facts.now (c.judge.ensures a.replay.now) c.in-Err.is a.out.now
 
-pub returns-in_default : goal.returns-in_default
-returns-in_default c =
+pub try_block-r-requires : goal.try_block-r-requires
+try_block-r-requires c =
     let a = c.args in
     let P = picture_of a.bounds.now a.recs.now a.locs.now a.vias.now a.types.now a.registers a.ops.now a.operands a.pairs.now a.targets.now a.replay.now in
-    ended_all P a.x a.work64.now a.work32.now a.facts.now (out_set P a.x (length a.facts.now) a.work64.now a.work32.now (c.judge-j.ensures a.replay.now) c.set_out-k.ensures) c.in_default.is a.out.now
-
-pub try_chain-r-requires : goal.try_chain-r-requires
-try_chain-r-requires c =
-    let a = c.args in
-    let P = picture_of a.bounds.now a.recs.now a.locs.now a.vias.now a.types.now a.registers a.ops.now a.operands a.pairs.now a.targets.now a.replay.now in
-    let so = out_set P a.x (length a.facts.now) a.work64.now a.work32.now (c.judge-j.ensures a.replay.now) c.set_out-k.ensures in
-    (asked P a.x a.work64.now a.work32.now a.facts.now so c.in-Some.is, many P a.x a.work64.now a.work32.now a.facts.now so c.in-Some.is)
+    let j = c.judge.ensures a.replay.now in
+    let e = c.in-Ok.is in (
+      record { P = P; shown = shown P a.x a.work64.now a.work32.now a.facts.now j e; is_block = block_in P a.x a.work64.now a.work32.now a.facts.now j e },
+      many P a.x a.work64.now a.work32.now a.facts.now j e,
+    )
 
 pub returns : goal.returns
 returns c =
     let a = c.args in
     let P = picture_of a.bounds.now a.recs.now a.locs.now a.vias.now a.types.now a.registers a.ops.now a.operands a.pairs.now a.targets.now a.replay.now in
-    let so = out_set P a.x (length a.facts.now) a.work64.now a.work32.now (c.judge-j.ensures a.replay.now) c.set_out-k.ensures in
-    settled P a.x a.work64.now a.work32.now a.facts.now so c.in-Some.is a.out.now c.try_chain-r.result c.try_chain-r.ensures c.try_chain-r.auto.facts c.put_move.ensures
+    let j = c.judge.ensures a.replay.now in
+    let e = c.in-Ok.is in
+    let t = c.try_block-r.ensures in
+    settled P a.x a.work64.now a.work32.now a.facts.now j e a.out.now c.try_block-r.result t.size64 t.size32
+    (t.is P (shown P a.x a.work64.now a.work32.now a.facts.now j e)) c.try_block-r.auto.facts c.put_move.ensures
