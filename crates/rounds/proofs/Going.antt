@@ -10,7 +10,8 @@ use lib.Dec.{ltb}
 use lib.ListN.{length, take, replicate, take-append-drop}
 use borrow.Author.Tests.{ltb-true, ltb-false}
 use Rattle.words.specs.Lists.{concat}
-use Rattle.std.specs.Prelude.{Option, Some, None}
+use Rattle.std.specs.declared.ops.ControlFlow.{ControlFlow}
+use Rattle.std.specs.declared.ops.ControlFlow.TheVariants.{Continue, Break}
 use Rattle.model.specs.declared.Used.{Used}
 use Rattle.model.specs.declared.Answer.{Answer}
 use Rattle.model.specs.declared.Answer.TheVariants as answer
@@ -33,9 +34,10 @@ use Rattle.oneround.specs.Make.{IsNext}
 use Rattle.oneround.specs.Round.{Open, Stepped}
 use Rattle.oneround.proofs.Kept.{holds_is}
 use Rattle.rounds.specs.declared.state.At.{At}
+use Rattle.rounds.specs.declared.state.Ran.{Ran}
 use Rattle.rounds.specs.Ended.{Did}
-use Rattle.rounds.specs.State.{line_words, Advancing, gone, ended, advanced}
-use Rattle.rounds.specs.Going.{Leads, Between, Going, after, to_come}
+use Rattle.rounds.specs.State.{line_words, Advancing, next_at, last_ran, ended, advanced}
+use Rattle.rounds.specs.Going.{Leads, Between, to_come}
 use Rattle.rounds.proofs.Lines.{long_still, one_more, zero_still}
 
 -- each slice is as long as it was
@@ -58,30 +60,25 @@ done_of {o} {i} {lines} {Q} a l e = record {
       (record { bounds_are = refl; recs_are = refl; locs_are = refl; vias_are = refl; types_are = refl; ops_are = refl });
 }
 
--- ---- fewer rounds may come after a round
+-- ---- by what the call goes on, and by what it ends
 
-pub fewer : (m q : At) (r : Step) → m.answer ≡ None → m.rounds < most_rounds → q ≡ advanced m r → to_come q < to_come m
-fewer m q r on few e =
-    subst (λ (o : Option Answer). to_come q < after m.rounds o) (sym on)
-    (subst (λ (z : At). to_come z < most_rounds + 1 - m.rounds) (sym e) (go r))
-  where
-    more : (b : Bool) (a : Answer) → after (m.rounds + 1) (cond b None (Some a)) < most_rounds + 1 - m.rounds
-    more true a = omega arith
-    more false a = omega arith
+abbrev at_end : Ran → ControlFlow Ran At
+at_end r = Break r
 
-    go : (r : Step) → to_come (advanced m r) < most_rounds + 1 - m.rounds
-    go (Goes l) = more (ltb (m.rounds + 1) most_rounds) _
-    go Short = omega arith
-    go Ends = omega arith
+on_if : (b : Bool) (n : At) (r : Ran) {q : At} → cond b (Continue n) (Break r) ≡ Continue q → (b ≡ true) × (n ≡ q)
+on_if true n r e = (refl, cc)
+on_if false n r e = absurd (let z : ⊥ = cc in z)
 
--- an answer where b is false
-open_if : (b : Bool) (a : Answer) → cond b None (Some a) ≡ None → b ≡ true
-open_if true a e = refl
-open_if false a e = absurd (let z : ⊥ = cc in z)
+off_if : (b : Bool) (n : At) (r : Ran) {q : Ran} → cond b (Continue n) (Break r) ≡ Break q → (b ≡ false) × (r ≡ q)
+off_if true n r e = absurd (let z : ⊥ = cc in z)
+off_if false n r e = (refl, cc)
 
-ends_if : (b : Bool) (a : Answer) {c : Answer} → cond b None (Some a) ≡ Some c → (b ≡ false) × (a ≡ c)
-ends_if true a e = absurd (let z : ⊥ = cc in z)
-ends_if false a e = (refl, cc)
+-- fewer rounds may come after a round
+pub fewer : (m q : At) (r : Step) → m.rounds < most_rounds → advanced m r ≡ Continue q → to_come q < to_come m
+fewer m q (Goes l) few e =
+    subst (λ (z : At). to_come z < to_come m) (on_if (ltb (m.rounds + 1) most_rounds) (next_at m l) (last_ran m l) e).1 (omega arith)
+fewer m q Short few e = absurd (let z : ⊥ = cc in z)
+fewer m q Ends few e = absurd (let z : ⊥ = cc in z)
 
 -- ---- a round is to be tried
 
@@ -105,16 +102,21 @@ module _ {P : Picture} {w64 w32 nf : ℕ} {Q : Picture} {m : At} {work64 work32 
     abbrev at_next : At → Picture
     at_next q = picture_of bounds recs locs vias types q.sizes.regs ops q.sizes.opers Q.pairs Q.targets Q.replay
 
-    abbrev Then : At → Type 0
-    Then q = Going P w64 w32 nf (at_next q) q work64' work32'
+    -- on to q
+    abbrev On : At → Type 0
+    On q = Between P w64 w32 nf (at_next q) q work64' work32'
+
+    -- at the end
+    abbrev Over : Ran → Type 0
+    Over n = Did (sink P w64 w32 nf) n.answer n.lines bounds recs locs vias types ops
 
     abbrev Left : Picture → Type 0
     Left Z = Holds Z bounds recs locs vias types ops × Begun Z (facts P) work64' work32'
 
     -- with a move
-    module _ (n : At) (sized : Sized Q (at_next n)) (l : Line) (z : IsNext Q (Goes l) Left (facts P)) where
+    module _ (l : Line) (z : IsNext Q (Goes l) Left (facts P)) where
       abbrev q : At
-      q = gone m l
+      q = next_at m l
 
       here : at_next q ≡ apply Q z.0
       here = holds_is (apply Q z.0) z.4.0 z.3.registers_are z.3.operands_are
@@ -141,8 +143,8 @@ module _ {P : Picture} {w64 w32 nf : ℕ} {Q : Picture} {m : At} {work64 work32 
             rest_zero = zero_still m.rounds l m.lines b.few b.long o.rest_zero;
           }
 
-      sizes_next : q.sizes ≡ sizes_of (at_next q)
-      sizes_next =
+      sizes_next : Sized Q (at_next q) → q.sizes ≡ sizes_of (at_next q)
+      sizes_next sized =
           let e = b.sizes_are in
           λ i. record {
             blocks = (ap (λ (s : Sizes). s.blocks) e ∙ ap (λ (k : ℕ). k / 2) (sym sized.bounds)) i;
@@ -157,50 +159,60 @@ module _ {P : Picture} {w64 w32 nf : ℕ} {Q : Picture} {m : At} {work64 work32 
           subst (λ (Z : Picture). refusal Z (length work64') (length work32') records ≡ 0) (sym here)
           (ap₂ (λ (i j : ℕ). refusal (apply Q z.0) i j records) s.size64 s.size32 ∙ round-not_refused Q (facts P) z.0 (length work64) (length work32) records b.accepted z.1 z.2)
 
-      moved_on : Then q
-      moved_on = record {
-        opens = λ e. record {
-          lent = b.lent;
-          accepted = accepted_next;
-          begun = subst (λ (Z : Picture). Begun Z (facts P) work64' work32') (sym here) z.4.1;
-          few = ltb-true (m.rounds + 1) most_rounds (open_if (ltb (m.rounds + 1) most_rounds) _ e);
-          long = long_still m.rounds l m.lines b.few b.long;
-          sizes_are = sizes_next;
-          leads = lead;
-        };
-        ends = λ a e.
-            let f = ends_if (ltb (m.rounds + 1) most_rounds) (answer.Done (used (m.rounds + 1) (at_next q))) e in
-            let h = ltb-false (m.rounds + 1) most_rounds f.0 in
-            let y : most_rounds - (m.rounds + 1) ≡ 0 = omega arith in
-            subst (λ (c : Answer). Did (sink P w64 w32 nf) c q.lines bounds recs locs vias types ops) f.1
-            (done_of (answer.Done (used (m.rounds + 1) (at_next q)))
-            (subst (λ (k : ℕ). Leads (sink P w64 w32 nf) (m.rounds + 1) q.lines (sink_all k (m.rounds + 1) (facts P) (at_next q))) y lead) refl);
+      moved_on : Sized Q (at_next q) → ltb (m.rounds + 1) most_rounds ≡ true → On q
+      moved_on sized e = record {
+        lent = b.lent;
+        accepted = accepted_next;
+        begun = subst (λ (Z : Picture). Begun Z (facts P) work64' work32') (sym here) z.4.1;
+        few = ltb-true (m.rounds + 1) most_rounds e;
+        long = long_still m.rounds l m.lines b.few b.long;
+        sizes_are = sizes_next sized;
+        leads = lead;
       }
 
+      moved_last : ltb (m.rounds + 1) most_rounds ≡ false → Over (last_ran m l)
+      moved_last e =
+          let h = ltb-false (m.rounds + 1) most_rounds e in
+          let y : most_rounds - (m.rounds + 1) ≡ 0 = omega arith in
+          done_of (answer.Done (used (m.rounds + 1) (at_next q)))
+          (subst (λ (k : ℕ). Leads (sink P w64 w32 nf) (m.rounds + 1) q.lines (sink_all k (m.rounds + 1) (facts P) (at_next q))) y lead) refl
+
     -- without one
-    halts : (a : Answer) → Holds Q bounds recs locs vias types ops → sink_all (suc (most_rounds - (m.rounds + 1))) m.rounds (facts P) Q ≡ ends_in a Q → rounds a ≡ m.rounds → Then (ended m a)
+    halts : (a : Answer) → Holds Q bounds recs locs vias types ops → sink_all (suc (most_rounds - (m.rounds + 1))) m.rounds (facts P) Q ≡ ends_in a Q → rounds a ≡ m.rounds → Over (ended m a)
     halts a h e n =
-        let here : at_next (ended m a) ≡ Q = holds_is Q h (ap (λ (s : Sizes). s.regs) b.sizes_are) (ap (λ (s : Sizes). s.opers) b.sizes_are) in
-        let d = done_of a (subst (Leads (sink P w64 w32 nf) m.rounds m.lines) e leads_on) n in
-        record {
-          opens = λ y. absurd (let z : ⊥ = cc in z);
-          ends = λ c y.
-              let same : a ≡ c = cc in
-              subst (λ (c : Answer). Did (sink P w64 w32 nf) c m.lines bounds recs locs vias types ops) same
-              (subst (λ (Z : Picture). Did (sink P w64 w32 nf) a m.lines Z.bounds Z.recs Z.locs Z.vias Z.types Z.ops) (sym here) d);
-        }
+        let here : at_next m ≡ Q = holds_is Q h (ap (λ (s : Sizes). s.regs) b.sizes_are) (ap (λ (s : Sizes). s.opers) b.sizes_are) in
+        subst (λ (Z : Picture). Did (sink P w64 w32 nf) a m.lines Z.bounds Z.recs Z.locs Z.vias Z.types Z.ops) (sym here)
+        (done_of a (subst (Leads (sink P w64 w32 nf) m.rounds m.lines) e leads_on) n)
 
     used_is : used m.rounds Q ≡ record { rounds = m.rounds; registers = m.sizes.regs; operands = m.sizes.opers }
     used_is = λ i. record { rounds = m.rounds; registers = (sym b.sizes_are i).regs; operands = (sym b.sizes_are i).opers }
 
-    -- the law of the call's loop
-    pub onward : (q : At) → Sized Q (at_next q) → q ≡ advanced m r → Then q
-    onward q sized e = subst Then (sym e) (go r (s.is (facts P) b.begun))
+    next_is : IsNext Q r Left (facts P)
+    next_is = s.is (facts P) b.begun
+
+    -- the laws of the call's loop
+    pub onward : (q : At) → Sized Q (at_next q) → advanced m r ≡ Continue q → On q
+    onward q sized e = go r next_is e
+      where
+        go : (r : Step) → IsNext Q r Left (facts P) → advanced m r ≡ Continue q → On q
+        go (Goes l) z e =
+            let f = on_if (ltb (m.rounds + 1) most_rounds) (next_at m l) (last_ran m l) e in
+            subst On f.1 (moved_on l z (subst (λ (p : At). Sized Q (at_next p)) (sym f.1) sized) f.0)
+        go Short z e = absurd (let z : ⊥ = cc in z)
+        go Ends z e = absurd (let z : ⊥ = cc in z)
+
+    pub over : (n : Ran) → advanced m r ≡ Break n → Over n
+    over n e = go r next_is e
       where
         k : ℕ
         k = most_rounds - (m.rounds + 1)
 
-        go : (r : Step) → IsNext Q r Left (facts P) → Then (advanced m r)
-        go (Goes l) z = moved_on q sized l z
-        go Short z = halts (answer.Short _) z.3.0 (sink_short k m.rounds (facts P) Q z.0 z.1 z.2 ∙ ap (λ (u : Used). ends_in (answer.Short u) Q) used_is) refl
-        go Ends z = halts (answer.Done _) z.1.0 (sink_done k m.rounds (facts P) Q z.0 ∙ ap (λ (u : Used). ends_in (answer.Done u) Q) used_is) refl
+        same : {a : Ran} → Over a → at_end a ≡ Break n → Over n
+        same {a} o f = let g : a ≡ n = cc in subst Over g o
+
+        go : (r : Step) → IsNext Q r Left (facts P) → advanced m r ≡ Break n → Over n
+        go (Goes l) z e =
+            let f = off_if (ltb (m.rounds + 1) most_rounds) (next_at m l) (last_ran m l) e in
+            subst Over f.1 (moved_last l z f.0)
+        go Short z e = same (halts (answer.Short _) z.3.0 (sink_short k m.rounds (facts P) Q z.0 z.1 z.2 ∙ ap (λ (u : Used). ends_in (answer.Short u) Q) used_is) refl) e
+        go Ends z e = same (halts (answer.Done _) z.1.0 (sink_done k m.rounds (facts P) Q z.0 ∙ ap (λ (u : Used). ends_in (answer.Done u) Q) used_is) refl) e

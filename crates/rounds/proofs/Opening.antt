@@ -6,7 +6,9 @@ use Prim.Native.Nat.{ℕ, ◌-◌, ◌*◌, ◌≤◌}
 use native.Mathlib.Omega.{arith}
 use lib.ListN.{length, replicate}
 use Rattle.words.specs.Lists.{concat}
-use Rattle.std.specs.Prelude.{Option, Some, None, Result, Ok, Err}
+use Rattle.std.specs.Prelude.{Result, Ok, Err}
+use Rattle.std.specs.declared.ops.ControlFlow.{ControlFlow}
+use Rattle.std.specs.declared.ops.ControlFlow.TheVariants.{Continue, Break}
 use Rattle.model.specs.declared.Refusal.{Refusal}
 use Rattle.model.specs.Numbered.{verdict}
 use Rattle.model.proofs.Numbers.{verdict_none, verdict_some}
@@ -24,11 +26,10 @@ use Rattle.acceptance.specs.declared.lent.Lent.{Lent}
 use Rattle.acceptance.specs.Lent.{picture}
 use Rattle.acceptance.proofs.Chain.{whatever_replay}
 use Rattle.sizes.specs.declared.Room.{Room}
+use Rattle.sizes.specs.declared.Sizes.{Sizes}
 use Rattle.sizes.specs.Parts.{sizes_of}
 use Rattle.search.specs.Search.{Beginning, Began}
-use Rattle.rounds.specs.declared.state.At.{At}
 use Rattle.rounds.specs.Ended.{Did}
-use Rattle.rounds.specs.State.{first_at}
 use Rattle.rounds.specs.Going.{Started}
 use Rattle.rounds.specs.Judge.{IsJudged, Judged}
 
@@ -41,12 +42,12 @@ module _ (l : Lent) (room : Room) where
   abbrev cause : ℕ
   cause = refusal (lent []) room.w64 room.w32 room.records
 
-  abbrev Says : Option Answer → Type 0
+  abbrev Says : ControlFlow Answer (Unit {0}) → Type 0
   Says v = Judged l room v
 
   -- acceptance answers r
   module _ {r : Result Unit Refusal} (e : r ≡ verdict cause) where
-    pub judge_refused : {c : Refusal} → r ≡ Err c → Says (Some (answer.Refused c))
+    pub judge_refused : {c : Refusal} → r ≡ Err c → Says (Break (answer.Refused c))
     judge_refused {c} h =
         let z = verdict_some cause (sym e ∙ h) in
         record {
@@ -62,10 +63,10 @@ module _ (l : Lent) (room : Room) where
       none : cause ≡ 0
       none = verdict_none cause (sym e ∙ h)
 
-      pub judge_gated : g ≡ true → Says (Some (answer.Done (record { rounds = 0; registers = l.used.regs; operands = l.used.opers })))
+      pub judge_gated : g ≡ true → Says (Break (answer.Done (record { rounds = 0; registers = l.used.regs; operands = l.used.opers })))
       judge_gated t = record { is = λ replay. (sink_gated (lent replay) room.w64 room.w32 room.records none (sym f ∙ t), refl) }
 
-      pub judge_opens : g ≡ false → Says None
+      pub judge_opens : g ≡ false → Says (Continue tt)
       judge_opens t = record { is = λ replay. (none, sym f ∙ t) }
 
 -- ---- the start of the call on what is lent, with this replay
@@ -78,34 +79,28 @@ module _ (l : Lent) (replay work64 work32 : List ℕ) (nf : ℕ) where
   abbrev lent_room : Room
   lent_room = record { w64 = length work64; w32 = length work32; records = nf }
 
-  module _ {v : Option Answer} (j : Judged l lent_room v) where
-    abbrev CameBy : Option Answer → Type 0
+  module _ {v : ControlFlow Answer (Unit {0})} (j : Judged l lent_room v) where
+    abbrev CameBy : ControlFlow Answer (Unit {0}) → Type 0
     CameBy = IsJudged P (length work64) (length work32) nf
 
     -- no round is tried
-    pub started_ends : {a : Answer} {q : At} → v ≡ Some a → q ≡ first_at (Some a) (record { blocks = 0; insts = 0; regs = P.regs; lent = 0; opers = P.opers }) → Started P work64 work32 nf q work64 work32
-    started_ends {a} {q} e f =
-        let s : CameBy (Some a) = subst CameBy e (j.is replay) in
-        subst (λ (z : At). Started P work64 work32 nf z work64 work32) (sym f)
+    pub started_ends : {a : Answer} {r : ControlFlow Answer Sizes} → v ≡ Break a → r ≡ Break a → Started P work64 work32 nf r work64 work32
+    started_ends {a} {r} e f =
+        let s : CameBy (Break a) = subst CameBy e (j.is replay) in
+        subst (λ (z : ControlFlow Answer Sizes). Started P work64 work32 nf z work64 work32) (sym f)
         (record {
           work = record { size64 = refl; size32 = refl; kept = λ h. (refl, refl) };
-          regs_are = refl;
-          opers_are = refl;
-          going = record {
-            opens = λ y. absurd (let z : ⊥ = cc in z);
-            ends = λ c y. let same : a ≡ c = cc in subst (λ (c : Answer). Did (sink P (length work64) (length work32) nf) c (replicate 48 0) P.bounds P.recs P.locs P.vias P.types P.ops) same
-                (subst (λ (o : Outcome). Did o a (replicate 48 0) P.bounds P.recs P.locs P.vias P.types P.ops) (sym s.0)
-                (record {
-                  answer_is = refl;
-                  lines_are = ap (λ (n : ℕ). replicate (48 - 6 * n) 0) (sym s.1);
-                  holds = record { bounds_are = refl; recs_are = refl; locs_are = refl; vias_are = refl; types_are = refl; ops_are = refl };
-                }));
-          };
+          is = subst (λ (o : Outcome). Did o a (replicate 48 0) P.bounds P.recs P.locs P.vias P.types P.ops) (sym s.0)
+              (record {
+                answer_is = refl;
+                lines_are = ap (λ (n : ℕ). replicate (48 - 6 * n) 0) (sym s.1);
+                holds = record { bounds_are = refl; recs_are = refl; locs_are = refl; vias_are = refl; types_are = refl; ops_are = refl };
+              });
         })
 
     -- the rounds are run
-    module _ (e : v ≡ None) where
-      opens : CameBy None
+    module _ {u : Unit {0}} (e : v ≡ Continue u) where
+      opens : CameBy (Continue u)
       opens = subst CameBy e (j.is replay)
 
       -- with as many records as are needed
@@ -121,14 +116,13 @@ module _ (l : Lent) (replay work64 work32 : List ℕ) (nf : ℕ) where
       through : sink P (length work64) (length work32) nf ≡ sink_all most_rounds 0 (facts P) P
       through = sink_through P (length work64) (length work32) nf opens.0 opens.1
 
-      pub started_opens : {q : At} {work64' work32' : List ℕ} → Began P.bounds P.recs P.ops P.pairs P.targets work64 work32 (sizes_of P) work64' work32'
-          → q ≡ first_at None (sizes_of P) → Started P work64 work32 nf q work64' work32'
-      started_opens {q} {work64'} {work32'} b f = subst (λ (z : At). Started P work64 work32 nf z work64' work32') (sym f) (record {
+      pub started_opens : {work64' work32' : List ℕ} → Began P.bounds P.recs P.ops P.pairs P.targets work64 work32 (sizes_of P) work64' work32'
+          → Started P work64 work32 nf (Continue (sizes_of P)) work64' work32'
+      started_opens b = record {
         work = record { size64 = b.size64; size32 = b.size32; kept = λ h. absurd (h opens.0) };
-        regs_are = refl;
-        opers_are = refl;
-        going = record {
-          opens = λ y. record {
+        is = (
+          refl,
+          record {
             lent = opens.0;
             accepted = ap₂ (λ (i j : ℕ). refusal P i j records) b.size64 b.size32 ∙ enough;
             begun = b.begun P enough refl refl refl refl refl refl refl refl;
@@ -136,7 +130,6 @@ module _ (l : Lent) (replay work64 work32 : List ℕ) (nf : ℕ) where
             long = refl;
             sizes_are = refl;
             leads = record { answer_same = ap (λ (o : Outcome). o.answer) through; left_same = ap (λ (o : Outcome). o.left) through; lines_same = ap (λ (o : Outcome). concat o.lines) through; rest_zero = refl };
-          };
-          ends = λ a y. absurd (let z : ⊥ = cc in z);
-        };
-      })
+          },
+        );
+      }

@@ -1,5 +1,7 @@
 -- 01, "The call": refusals and gates, before anything is tried. Assumes nothing.
-use Rattle.std.specs.Prelude.{◌≡◌, false, List, ℕ, Option, Some, None}
+use Rattle.std.specs.Prelude.{◌≡◌, false, List, ℕ}
+use Rattle.std.specs.declared.ops.ControlFlow.{ControlFlow}
+use Rattle.std.specs.declared.ops.ControlFlow.TheVariants.{Continue, Break}
 use Rattle.model.specs.declared.Answer.{Answer}
 use Rattle.model.specs.Picture.{Picture}
 use Rattle.model.specs.Refusal.{refusal}
@@ -8,11 +10,11 @@ use Rattle.acceptance.specs.declared.lent.Lent.{Lent}
 use Rattle.acceptance.specs.Lent.{picture}
 use Rattle.sizes.specs.declared.Room.{Room}
 
--- the answer where no round is tried, and else none
-abbrev pub IsJudged : Picture → ℕ → ℕ → ℕ → Option Answer → Type 0
-IsJudged P w64 w32 nf (Some a) = (sink P w64 w32 nf ≡ ends_in a P) × (rounds a ≡ 0)
-IsJudged P w64 w32 nf None = (refusal P w64 w32 nf ≡ 0) × (gated P ≡ false)
+-- the answer where no round is tried
+abbrev pub IsJudged : Picture → ℕ → ℕ → ℕ → ControlFlow Answer (Unit {0}) → Type 0
+IsJudged P w64 w32 nf (Break a) = (sink P w64 w32 nf ≡ ends_in a P) × (rounds a ≡ 0)
+IsJudged P w64 w32 nf (Continue u) = (refusal P w64 w32 nf ≡ 0) × (gated P ≡ false)
 
 -- replay does not matter
-pub record Judged (lent : Lent) (room : Room) (r : Option Answer) : Type 0 where
+pub record Judged (lent : Lent) (room : Room) (r : ControlFlow Answer (Unit {0})) : Type 0 where
   pub is : (replay : List ℕ) → IsJudged (picture lent replay) room.w64 room.w32 room.records r

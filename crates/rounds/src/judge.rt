@@ -8,22 +8,23 @@ use acceptance::lent::Lent;
 use inst::table::Table;
 use model::{Answer, Used};
 use sizes::Room;
+use std::ops::ControlFlow;
 
-// The answer, where no round is tried.
+// Breaks with the answer, where no round is tried.
 #[tactic(auto, using(crate::proofs::Opening::judge_refused))]
-pub fn judge(t: &Table, lent: Lent, room: Room) -> Option<Answer>
+pub fn judge(t: &Table, lent: Lent, room: Room) -> ControlFlow<Answer, ()>
     ensures { Judged lent.entry room result }
 {
     if let Err(cause) = accept(lent, room, t) {
-        return Some(Answer::Refused(cause));
+        return ControlFlow::Break(Answer::Refused(cause));
     }
     let used = lent.used;
     if gated(lent.bounds, lent.recs, lent.locs, used.regs) {
-        return Some(Answer::Done(Used {
+        return ControlFlow::Break(Answer::Done(Used {
             rounds: 0,
             registers: used.regs,
             operands: used.opers,
         }));
     }
-    None
+    ControlFlow::Continue(())
 }

@@ -1,49 +1,34 @@
 // Before the first round (01, "The call"): refusals and gates; then facts on registers, predecessors and rows.
 ghost use Rattle.std.specs.Prelude.{◌≡◌, List, ℕ};
 ghost use Rattle.acceptance.specs.Lent.{picture};
-ghost use Rattle.rounds.specs.State.{first_at};
 ghost use Rattle.rounds.specs.Going.{Started};
 
 use crate::judge::judge;
-use crate::state::At;
 use acceptance::lent::Lent;
 use cfg::graph::Func;
 use inst::table::Table;
 use model::Answer;
 use search::begin::begin;
 use sizes::{Room, Sizes};
+use std::ops::ControlFlow;
 
-fn at_first(answer: Option<Answer>, sizes: Sizes) -> At
-    ensures { result ≡ first_at answer sizes }
-{
-    At {
-        answer,
-        rounds: 0,
-        sizes,
-        lines: [0u32; 48],
-    }
-}
-
-// Where the call stands at its start.
-pub fn start(t: &Table, lent: Lent, work64: &mut [u64], work32: &mut [u32], records: usize) -> At
+// Breaks with the answer, where no round is tried; else the sizes of what is lent.
+pub fn start(
+    t: &Table,
+    lent: Lent,
+    work64: &mut [u64],
+    work32: &mut [u32],
+    records: usize,
+) -> ControlFlow<Answer, Sizes>
     ensures { (replay : List ℕ) → Started (picture lent.entry replay) work64.old work32.old records result work64.new work32.new }
 {
     let used = lent.used;
     let room = Room {
         w64: work64.len(),
         w32: work32.len(),
-        records: records,
+        records,
     };
-    if let Some(answer) = judge(t, lent, room) {
-        let none = Sizes {
-            blocks: 0,
-            insts: 0,
-            regs: used.regs,
-            lent: 0,
-            opers: used.opers,
-        };
-        return at_first(Some(answer), none);
-    }
+    judge(t, lent, room)?;
     let s = Sizes {
         blocks: (lent.bounds.len() / 2) as u32,
         insts: lent.locs.len(),
@@ -59,5 +44,5 @@ pub fn start(t: &Table, lent: Lent, work64: &mut [u64], work32: &mut [u32], reco
         targets: lent.targets,
     };
     begin(&func, lent.ops, work64, work32, s);
-    at_first(None, s)
+    ControlFlow::Continue(s)
 }

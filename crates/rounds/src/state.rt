@@ -1,12 +1,13 @@
 // Where the call stands (01, "A round", "At most 8 rounds"), and what a round makes of that.
 ghost use Rattle.std.specs.Prelude.{◌≡◌, ◌<◌, length};
 ghost use Rattle.model.specs.Pass.{most_rounds};
-ghost use Rattle.rounds.specs.State.{with_line, Advancing, gone, ended, advanced};
+ghost use Rattle.rounds.specs.State.{first_at, with_line, Advancing, gone, advanced};
 
 use chains::pass::Sink;
 use model::{Answer, Used};
 use oneround::weigh::{Line, Step};
 use sizes::Sizes;
+use std::ops::ControlFlow;
 
 // The answer, and a line of six words for each round: its number, from, into, moved, then registers and operands in use. Zeros behind.
 // They are words and no eight structs of six: `model`'s lines are lists of words of any length, which the contract sets end to end.
@@ -16,13 +17,25 @@ pub struct Ran {
     pub lines: [u32; 48],
 }
 
-// The answer, where no more round is to be tried; rounds done; sizes, with the registers and operands in use; the lines so far.
+// Where a round is to be tried: rounds done; sizes, with the registers and operands in use; the lines so far.
 #[derive(Clone, Copy)]
 pub struct At {
-    pub answer: Option<Answer>,
     pub rounds: u32,
     pub sizes: Sizes,
     pub lines: [u32; 48],
+}
+
+impl At {
+    // Before the first round.
+    pub fn first(sizes: Sizes) -> Self
+        ensures { result ≡ first_at sizes }
+    {
+        At {
+            rounds: 0,
+            sizes,
+            lines: [0u32; 48],
+        }
+    }
 }
 
 // The lines with that of round i + 1.
@@ -44,52 +57,35 @@ fn put_line(lines: [u32; 48], i: u32, l: Line) -> [u32; 48]
     r
 }
 
-// After a round's move l.
-fn gone(m: At, l: Line) -> At
+// After a round's move l: on, or at the end after the last round.
+fn gone(m: At, l: Line) -> ControlFlow<Ran, At>
     requires { Advancing m }
     ensures { result ≡ gone m l }
 {
-    let done = m.rounds + 1;
+    let rounds = m.rounds + 1;
+    let lines = put_line(m.lines, m.rounds, l);
+    if rounds < Sink::ROUNDS {
+        let sizes = Sizes {
+            regs: l.registers,
+            opers: l.operands,
+            ..m.sizes
+        };
+        return ControlFlow::Continue(At {
+            rounds,
+            sizes,
+            lines,
+        });
+    }
     let answer = Answer::Done(Used {
-        rounds: done,
+        rounds,
         registers: l.registers,
         operands: l.operands,
     });
-    let was = m.sizes;
-    let sizes = Sizes {
-        blocks: was.blocks,
-        insts: was.insts,
-        regs: l.registers,
-        lent: was.lent,
-        opers: l.operands,
-    };
-    At {
-        answer: if done < Sink::ROUNDS {
-            None
-        } else {
-            Some(answer)
-        },
-        rounds: done,
-        sizes,
-        lines: put_line(m.lines, m.rounds, l),
-    }
+    ControlFlow::Break(Ran { answer, lines })
 }
 
-// At the end, with this answer.
-fn ended(m: At, answer: Answer) -> At
-    ensures { result ≡ ended m answer }
-{
-    let lines = m.lines;
-    At {
-        answer: Some(answer),
-        rounds: m.rounds,
-        sizes: m.sizes,
-        lines,
-    }
-}
-
-// After a round that came to r.
-pub fn advance(m: At, r: Step) -> At
+// After a round that came to r: where the next one is to be tried, or what the call comes to.
+pub fn advance(m: At, r: Step) -> ControlFlow<Ran, At>
     requires { Advancing m }
     ensures { result ≡ advanced m r }
 {
@@ -98,9 +94,11 @@ pub fn advance(m: At, r: Step) -> At
         registers: m.sizes.regs,
         operands: m.sizes.opers,
     };
-    match r {
-        Step::Goes(l) => gone(m, l),
-        Step::Short => ended(m, Answer::Short(used)),
-        Step::Ends => ended(m, Answer::Done(used)),
-    }
+    let answer = match r {
+        Step::Goes(l) => return gone(m, l),
+        Step::Short => Answer::Short(used),
+        Step::Ends => Answer::Done(used),
+    };
+    let lines = m.lines;
+    ControlFlow::Break(Ran { answer, lines })
 }

@@ -6,6 +6,8 @@ use Prim.Native.Nat.{ℕ, zero, suc, ◌*◌, ◌-◌}
 use lib.ListN.{length, replicate}
 use Rattle.words.specs.Lists.{concat}
 use Rattle.words.proofs.Bools.{bool?}
+use Rattle.std.specs.declared.ops.ControlFlow.{ControlFlow}
+use Rattle.std.specs.declared.ops.ControlFlow.TheVariants.{Continue, Break}
 use Rattle.model.specs.declared.Answer.{Answer}
 use Rattle.model.specs.declared.Answer.TheVariants as answer
 use Rattle.model.specs.Picture.{Picture}
@@ -19,11 +21,14 @@ use Rattle.checks.specs.Causes.{picture_of}
 use Rattle.kept.specs.Walk as Walk
 use Rattle.kept.proofs.Answer.{left_after}
 use Rattle.facts.specs.declared.Fact.{Fact}
+use Rattle.sizes.specs.declared.Sizes.{Sizes}
+use Rattle.sizes.specs.Parts.{sizes_of}
 use Rattle.rounds.specs.declared.state.At.{At}
 use Rattle.rounds.specs.declared.state.Ran.{Ran}
 use Rattle.sink.specs.Sink.{Lent, Coming, Finished, registers, operands}
 use Rattle.rounds.specs.Ended.{Did, Work}
-use Rattle.rounds.specs.Going.{Going, Started}
+use Rattle.rounds.specs.State.{first_at}
+use Rattle.rounds.specs.Going.{Between, IsStarted, Started}
 use Rattle.oneround.specs.Kept.{Kept}
 use Rattle.oneround.proofs.Kept.{holds_is, kept_of}
 
@@ -113,37 +118,61 @@ module _ (P : Picture) (work64 work32 : List ℕ) (fs : List Fact) where
       λ i. picture_of bounds recs locs vias types (registers a) ops (operands a) (sym f.same_pairs i) (sym f.same_targets i) (sym f.same_replay i) in
       kept_of P _ (rounds a) (length work64) (length work32) (length fs) ok (q ∙ e ∙ left_after P (length work64) (length work32) (length fs) ok ∙ ap (λ (b : Answer). (Walk.after P (rounds b)).now) (sym d.answer_is))
 
-  -- what the start gives to the loop, and what the call then gives
-  module _ {q : At} {bits words : List ℕ} (s : Started P work64 work32 (length fs) q bits words) where
-    abbrev Q : Picture
-    Q = picture_of P.bounds P.recs P.locs P.vias P.types q.sizes.regs P.ops q.sizes.opers P.pairs P.targets P.replay
+  -- what the call gives at its end
+  given : {r : Ran} {bounds recs locs vias types ops work64' work32' : List ℕ} {fs' : List Fact} → Did o r.answer r.lines bounds recs locs vias types ops
+      → Work (refusal P (length work64) (length work32) (length fs)) work64 work32 work64' work32' → Lent (refusal P (length work64) (length work32) (length fs)) fs fs'
+      → Promised P work64 work32 fs r bounds recs locs vias types ops work64' work32' fs'
+  given d w l = (
+    d.answer_is,
+    ap number d.answer_is,
+    ap values d.answer_is,
+    d.lines_are,
+    d.holds.bounds_are,
+    d.holds.recs_are,
+    d.holds.locs_are,
+    d.holds.vias_are,
+    d.holds.types_are,
+    d.holds.ops_are,
+    w,
+    l,
+    call_kept d,
+  )
 
-    where_it_is : P ≡ Q
-    where_it_is = λ i. picture_of P.bounds P.recs P.locs P.vias P.types (sym s.regs_are i) P.ops (sym s.opers_are i) P.pairs P.targets P.replay
+  module _ {v : ControlFlow Answer Sizes} {bits words : List ℕ} (s : Started P work64 work32 (length fs) v bits words) where
+    abbrev Starts : ControlFlow Answer Sizes → Type 0
+    Starts u = IsStarted P (length work64) (length work32) (length fs) u bits words
 
-    goes : Going P (length work64) (length work32) (length fs) Q q bits words
-    goes = subst (λ (Z : Picture). Going P (length work64) (length work32) (length fs) Z q bits words) where_it_is s.going
+    -- no round was tried
+    pub stopped : {a : Answer} → v ≡ Break a → Promised P work64 work32 fs (record { answer = a; lines = replicate 48 0 }) P.bounds P.recs P.locs P.vias P.types P.ops bits words fs
+    stopped e = given (subst Starts e s.is) s.work (record { size = refl; kept = λ h. refl })
 
-    pub coming : Coming Q q bits words (length fs)
-    coming = record { P = P; w64 = length work64; w32 = length work32; going = goes }
+    -- what the start gives to the loop, and what the call then gives
+    module _ {z : Sizes} (e : v ≡ Continue z) {q : At} (f : q ≡ first_at z) where
+      starts : Starts (Continue z)
+      starts = subst Starts e s.is
 
-    pub promised : {r : Ran} {bounds recs locs vias types ops work64' work32' : List ℕ} {fs' : List Fact}
-        → Finished Q q bits words fs r.answer r.lines bounds recs locs vias types ops work64' work32' fs' → Promised P work64 work32 fs r bounds recs locs vias types ops work64' work32' fs'
-    promised f =
-        let d = f.did P (length work64) (length work32) goes in
-        let w = f.work P (length work64) (length work32) goes in
-        let v = s.work in (
-          d.answer_is,
-          ap number d.answer_is,
-          ap values d.answer_is,
-          d.lines_are,
-          d.holds.bounds_are,
-          d.holds.recs_are,
-          d.holds.locs_are,
-          d.holds.vias_are,
-          d.holds.types_are,
-          d.holds.ops_are,
-          record { size64 = w.size64 ∙ v.size64; size32 = w.size32 ∙ v.size32; kept = λ h. ((w.kept h).0 ∙ (v.kept h).0, (w.kept h).1 ∙ (v.kept h).1) },
-          f.lent P (length work64) (length work32) goes,
-          call_kept d,
-        )
+      abbrev Q : Picture
+      Q = picture_of P.bounds P.recs P.locs P.vias P.types q.sizes.regs P.ops q.sizes.opers P.pairs P.targets P.replay
+
+      same_sizes : q.sizes ≡ sizes_of P
+      same_sizes = ap (λ (m : At). m.sizes) f ∙ starts.0
+
+      where_it_is : P ≡ Q
+      where_it_is =
+          let e = sym same_sizes in
+          λ i. picture_of P.bounds P.recs P.locs P.vias P.types (e i).regs P.ops (e i).opers P.pairs P.targets P.replay
+
+      between : Between P (length work64) (length work32) (length fs) Q q bits words
+      between = subst (λ (Z : Picture). Between P (length work64) (length work32) (length fs) Z q bits words) where_it_is
+          (subst (λ (m : At). Between P (length work64) (length work32) (length fs) P m bits words) (sym f) starts.1)
+
+      pub coming : Coming Q q bits words (length fs)
+      coming = record { P = P; w64 = length work64; w32 = length work32; between = between }
+
+      pub promised : {r : Ran} {bounds recs locs vias types ops work64' work32' : List ℕ} {fs' : List Fact}
+          → Finished Q q bits words fs r.answer r.lines bounds recs locs vias types ops work64' work32' fs' → Promised P work64 work32 fs r bounds recs locs vias types ops work64' work32' fs'
+      promised g =
+          let ok = between.lent in
+          given (g.did P (length work64) (length work32) between)
+          (record { size64 = g.size64 ∙ s.work.size64; size32 = g.size32 ∙ s.work.size32; kept = λ h. absurd (h ok) })
+          (record { size = g.size; kept = λ h. absurd (h ok) })

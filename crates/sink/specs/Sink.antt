@@ -4,11 +4,10 @@ use Rattle.facts.specs.declared.Fact.{Fact}
 use Rattle.model.specs.declared.Answer.{Answer}
 use Rattle.model.specs.declared.Answer.TheVariants.{Done, Short, Refused}
 use Rattle.model.specs.Picture.{Picture}
-use Rattle.model.specs.Refusal.{refusal}
 use Rattle.model.specs.Pass.{sink}
 use Rattle.rounds.specs.declared.state.At.{At}
-use Rattle.rounds.specs.Ended.{Did, Work}
-use Rattle.rounds.specs.Going.{Going}
+use Rattle.rounds.specs.Ended.{Did}
+use Rattle.rounds.specs.Going.{Between}
 
 -- the registers and operands in use that the answer gives
 abbrev pub registers : Answer → ℕ
@@ -32,9 +31,10 @@ pub record Coming (Q : Picture) (m : At) (work64 work32 : List ℕ) (nf : ℕ) :
   pub P : Picture
   pub w64 : ℕ
   pub w32 : ℕ
-  pub going : Going P w64 w32 nf Q m work64 work32
+  pub between : Between P w64 w32 nf Q m work64 work32
 
 pub record Finished (Q : Picture) (m : At) (work64 work32 : List ℕ) (fs : List Fact) (answer : Answer) (lines bounds recs locs vias types ops work64' work32' : List ℕ) (fs' : List Fact) : Type 0 where
-  pub did : (P : Picture) (w64 w32 : ℕ) → Going P w64 w32 (length fs) Q m work64 work32 → Did (sink P w64 w32 (length fs)) answer lines bounds recs locs vias types ops
-  pub work : (P : Picture) (w64 w32 : ℕ) → Going P w64 w32 (length fs) Q m work64 work32 → Work (refusal P w64 w32 (length fs)) work64 work32 work64' work32'
-  pub lent : (P : Picture) (w64 w32 : ℕ) → Going P w64 w32 (length fs) Q m work64 work32 → Lent (refusal P w64 w32 (length fs)) fs fs'
+  pub did : (P : Picture) (w64 w32 : ℕ) → Between P w64 w32 (length fs) Q m work64 work32 → Did (sink P w64 w32 (length fs)) answer lines bounds recs locs vias types ops
+  pub size64 : length work64' ≡ length work64
+  pub size32 : length work32' ≡ length work32
+  pub size : length fs' ≡ length fs

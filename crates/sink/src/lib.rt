@@ -19,6 +19,7 @@ use oneround::round::round;
 use rounds::start::start;
 use rounds::state::{At, Ran, advance};
 use sizes::InUse;
+use std::ops::ControlFlow;
 
 // Round after round, until none is to be tried.
 fn run(
@@ -43,17 +44,16 @@ fn run(
         Finished P m work64.old work32.old facts.old result.answer result.lines bounds.new recs.new locs.new vias.new types.new ops.new work64.new work32.new facts.new }
 {
     let mut m = m;
+    // It ends by what a round comes to, and not by a count.
     loop {
-        if let Some(answer) = m.answer {
-            let lines = m.lines;
-            return Ran { answer, lines };
-        }
         let r = round(
             t, bounds, recs, locs, vias, types, ops, pairs, targets, replay, work64, work32, facts,
             m.sizes,
         );
-        let next = advance(m, r);
-        m = next;
+        match advance(m, r) {
+            ControlFlow::Continue(next) => m = next,
+            ControlFlow::Break(ran) => return ran,
+        }
     }
 }
 
@@ -106,8 +106,26 @@ pub fn sink_all(
         targets,
         used: InUse { regs, opers },
     };
-    let m = start(&t, lent, work64, work32, facts.len());
-    run(
-        &t, bounds, recs, locs, vias, types, ops, pairs, targets, replay, work64, work32, facts, m,
-    )
+    match start(&t, lent, work64, work32, facts.len()) {
+        ControlFlow::Continue(sizes) => run(
+            &t,
+            bounds,
+            recs,
+            locs,
+            vias,
+            types,
+            ops,
+            pairs,
+            targets,
+            replay,
+            work64,
+            work32,
+            facts,
+            At::first(sizes),
+        ),
+        ControlFlow::Break(answer) => Ran {
+            answer,
+            lines: [0u32; 48],
+        },
+    }
 }
