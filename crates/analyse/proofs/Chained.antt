@@ -14,6 +14,7 @@ use Rattle.model.specs.Analyse.{Facts, analyse}
 use Rattle.model.specs.Move.{chain_places}
 use Rattle.chains.specs.declared.chain.Chain.{Chain}
 use Rattle.chains.specs.Chain.{blocks_of}
+use Rattle.chains.specs.Positions.{bounded}
 use Rattle.chains.proofs.Laid.{place_in}
 use Rattle.facts.specs.declared.Fact as F
 use Rattle.facts.specs.Marks.{fact_in, bare}
@@ -75,10 +76,6 @@ module _ {recs ops regs bounds : List ℕ} {facts : List F.Fact} {c : Chain} {R 
     all = all;
   }
 
-  -- a picture with these bounds, to count with
-  blank : Picture
-  blank = record { bounds = bounds; recs = []; locs = []; vias = []; types = []; regs = 0; ops = []; opers = 0; pairs = []; targets = []; replay = [] }
-
   safe_at : {regs₀ regs₁ left : List ℕ} {w₁ : List F.Fact} {p : ℕ} → Chained recs ops bounds c R regs₀ w regs₁ w₁ left p → Safe R p regs₁ w₁
   safe_at {regs₀} {regs₁} {left} {w₁} h = subst (λ (m : ℕ). Safe R m regs₁ w₁) (zero-add (length h.places) ∙ sym h.at) h.ran.safe
 
@@ -87,16 +84,14 @@ module _ {recs ops regs bounds : List ℕ} {facts : List F.Fact} {c : Chain} {R 
     there P e = ap (λ (m : List ℕ). h.places ++ m) (sym l) ∙ h.all P e
 
     pub few_yet : p < 800
-    unfolding blank
     few_yet =
-        let short = y.short blank refl in
-        let a = ap length (there blank refl) in
+        let short = y.short (bounded bounds) refl in
+        let a = ap length (there (bounded bounds) refl) in
         let b = length-append h.places (g ∷ next) in
         omega (arith, short, a, b, h.at)
 
     good_at : Learnable recs ops R g
-    unfolding blank
-    good_at = let z = place_in y.laid blank refl g (subst (In g) (there blank refl) (in_mid h.places g next)) in y.good z.0 g z.1 z.2
+    good_at = let z = place_in y.laid (bounded bounds) refl g (subst (In g) (there (bounded bounds) refl) (in_mid h.places g next)) in y.good z.0 g z.1 z.2
 
     pub learn_ready : Ranged R p regs₁ × Learnable recs ops R g × (p + 1 < 1000)
     learn_ready = ((safe_at h).ranged, good_at, omega (arith, few_yet))
@@ -118,13 +113,12 @@ module _ {recs ops regs bounds : List ℕ} {facts : List F.Fact} {c : Chain} {R 
       (goes_on h l (ran_one (safe_at h) (omega (arith, few, size, y.room, length_bare gs)) does (good_at h l)))
 
   pub chained_end : {regs₀ regs₁ left : List ℕ} {w₁ : List F.Fact} {p : ℕ} → Forgot R regs regs₀ → Chained recs ops bounds c R regs₀ w regs₁ w₁ left p → left ≡ [] → Analysed recs ops regs w bounds c R p regs₁ w₁
-  unfolding blank
   chained_end {regs₀} {regs₁} {left} {w₁} {p} f h l = record {
     regs_size = h.ran.regs_size ∙ f.size;
     size = h.ran.size;
     kept = λ r. h.ran.kept r ∙ forgot_flags f r;
     safe = safe_at h;
-    short = let s = y.short blank refl in omega (arith, s, h.at, ap length (all blank refl));
+    short = let s = y.short (bounded bounds) refl in omega (arith, s, h.at, ap length (all (bounded bounds) refl));
     holds = λ j q. subst (λ (m : ℕ). Holds recs ops R (fact_in w₁ m)) (zero-add j) (h.ran.holds j (omega (arith, q, h.at)));
     positions = λ P e. h.at ∙ ap length (all P e);
     numbers = λ P e j q. ap (λ (m : ℕ). (fact_in w₁ m).rec) (sym (zero-add j)) ∙ h.ran.numbers j (omega (arith, q, h.at)) ∙ ap (λ (m : List ℕ). get_or m j 0) (all P e);
