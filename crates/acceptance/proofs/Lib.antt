@@ -1,3 +1,4 @@
 pub mod Writes
 pub mod Chain
 pub mod Gaps
+pub mod Ranges

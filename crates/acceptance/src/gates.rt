@@ -1,11 +1,11 @@
 // The three gates of an accepted picture (01, "The call"): no blocks; registers × blocks above 2,097,152; no Cat with
 // `logic` false.
-ghost use Rattle.std.specs.Prelude.{◌≡◌, [], ◌*◌, ◌/◌, ◌≤◌, length};
-ghost use Rattle.words.specs.Lists.{any};
+ghost use Rattle.std.specs.Prelude.{◌≡◌, [], map, ◌-◌, ◌*◌, ◌/◌, ◌≤◌, length};
+ghost use Rattle.words.specs.Lists.{range, any};
 ghost use Rattle.model.specs.Picture.{inst};
 ghost use Rattle.model.specs.Pass.{gated};
 ghost use Rattle.inst.specs.Record.{Within};
-ghost use Rattle.checks.specs.Causes.{code, plain_cat, picture_of};
+ghost use Rattle.checks.specs.Causes.{plain_cat, picture_of};
 
 use inst::kinds::CAT;
 use inst::record::{form, kind};
@@ -14,25 +14,19 @@ use inst::record::{form, kind};
 const BUDGET: usize = 2097152;
 
 // A Cat of form 0.
-pub fn plain_cat(recs: &[u32], p: usize) -> bool
+fn plain_cat(recs: &[u32], p: usize) -> bool
     requires { Within recs.now p }
     ensures { result ≡ plain_cat (inst recs.now p) }
 {
     (kind(recs, p) == CAT) & (form(recs, p) == 0)
 }
 
-// One of the n records is such a Cat.
-#[tactic(auto, using(checks::proofs::Insts::code_none, checks::proofs::Insts::code_yes, checks::proofs::Insts::code_on, checks::proofs::Insts::code_no, checks::proofs::Given::within))]
-fn has_plain_cat(recs: &[u32], n: usize) -> bool
-    requires { 16 * n ≤ length recs.now }
-    ensures { result ≡ any plain_cat (code recs.now n) }
+// Is one of the records from a up to e such a Cat?
+pub fn plain_cat_in(recs: &[u32], a: usize, e: usize) -> bool
+    requires { (a ≤ e) × (16 * e ≤ length recs.now) }
+    ensures { result ≡ any plain_cat (map (inst recs.now) (range a (e - a))) }
 {
-    for p in 0..n {
-        if plain_cat(recs, p) {
-            return true;
-        }
-    }
-    false
+    (a..e).any(|p| plain_cat(recs, p))
 }
 
 // Is nothing tried? The gates look at bounds, records, locs and the registers in use alone, so they ask for no more.
@@ -42,5 +36,5 @@ pub fn gated(bounds: &[u32], recs: &[u32], locs: &[u32], regs: u32) -> bool
     ensures { result ≡ gated (picture_of bounds.now recs.now locs.now [] [] regs [] 0 [] [] []) }
 {
     let blocks = bounds.len() / 2;
-    (blocks == 0) | (BUDGET < regs as usize * blocks) | !has_plain_cat(recs, locs.len())
+    (blocks == 0) | (BUDGET < regs as usize * blocks) | !plain_cat_in(recs, 0, locs.len())
 }

@@ -6,21 +6,22 @@ use Prim.Native.Nat.{ℕ, ◌+◌, ◌/◌, ◌%◌, ◌≤◌, ◌<◌}
 use native.Mathlib.Nat.{zero-add, not-suc-le-zero}
 use native.Mathlib.Omega.{arith}
 use lib.ListN.{get_or, length, set, length-append}
+use Rattle.words.specs.Lists.{In}
 use Rattle.words.proofs.Bools.{lt?}
+use Rattle.words.proofs.Members.{in_mid}
 use Rattle.model.specs.Picture.{Picture, inst}
 use Rattle.model.specs.Analyse.{Facts, analyse}
 use Rattle.model.specs.Move.{chain_places}
 use Rattle.chains.specs.declared.chain.Chain.{Chain}
-use Rattle.chains.specs.declared.cursor.Cursor.{Cursor}
 use Rattle.chains.specs.Chain.{blocks_of}
-use Rattle.chains.specs.Cursor.{left_of, Standing}
-use Rattle.chains.proofs.Seeking.{next_left, nothing_left}
+use Rattle.chains.specs.Positions.{bounded}
+use Rattle.chains.proofs.Laid.{place_in}
 use Rattle.facts.specs.declared.Fact as F
 use Rattle.facts.specs.Marks.{fact_in, bare}
 use Rattle.facts.proofs.Bare.{bare_put, length_bare}
 use Rattle.regfacts.specs.Flags.{Seen}
 use Rattle.analyse.specs.State.{place_at, State, Ranged, Safe}
-use Rattle.analyse.specs.Step.{Forgot, Learnable, Learned, Holds, Ran, Begun, Ready, Analysed}
+use Rattle.analyse.specs.Step.{Forgot, Learnable, Learned, Holds, Ran, Ready, Analysed}
 use Rattle.analyse.proofs.Puts.{ran_one}
 use Rattle.analyse.proofs.Learned.{seen_kept}
 use Rattle.analyse.proofs.Marking.{ranges_none}
@@ -44,14 +45,13 @@ fresh_state w f s = record {
   each = λ p h. absurd (not-suc-le-zero h);
 }
 
--- ---- so many positions; x stands where the next is
+-- ---- so many positions, and those that are left
 
-pub record Chained (recs ops bounds : List ℕ) (c : Chain) (R : ℕ) (regs₀ : List ℕ) (w₀ : List F.Fact) (regs : List ℕ) (w : List F.Fact) (x : Cursor) (p : ℕ) : Type 0 where
-  pub standing : Standing bounds c x
+pub record Chained (recs ops bounds : List ℕ) (c : Chain) (R : ℕ) (regs₀ : List ℕ) (w₀ : List F.Fact) (regs : List ℕ) (w : List F.Fact) (left : List ℕ) (p : ℕ) : Type 0 where
   pub places : List ℕ
   pub at : p ≡ length places
   pub ran : Ran recs ops regs₀ w₀ regs w 0 R places
-  pub rest : (P : Picture) → P.bounds ≡ bounds → places ++ left_of P (blocks_of c) x.k x.g x.past ≡ chain_places P (blocks_of c)
+  pub all : (P : Picture) → P.bounds ≡ bounds → places ++ left ≡ chain_places P (blocks_of c)
 
 module _ {recs ops regs bounds : List ℕ} {facts : List F.Fact} {c : Chain} {R : ℕ} (y : Ready recs ops regs facts bounds c R) where
   abbrev bs : List ℕ
@@ -60,9 +60,8 @@ module _ {recs ops regs bounds : List ℕ} {facts : List F.Fact} {c : Chain} {R 
   abbrev w : List F.Fact
   w = bare facts
 
-  pub chained_none : {regs₀ : List ℕ} {x : Cursor} → Begun bounds c R regs regs₀ x → Chained recs ops bounds c R regs₀ w regs₀ w x 0
-  chained_none {regs₀} b = let f = b.forgot in record {
-    standing = b.standing;
+  pub chained_none : {regs₀ left : List ℕ} → Forgot R regs regs₀ → ((P : Picture) → P.bounds ≡ bounds → left ≡ chain_places P bs) → Chained recs ops bounds c R regs₀ w regs₀ w left 0
+  chained_none {regs₀} f all = record {
     places = [];
     at = refl;
     ran = ran_none recs ops (record {
@@ -74,58 +73,52 @@ module _ {recs ops regs bounds : List ℕ} {facts : List F.Fact} {c : Chain} {R 
       };
       near = λ p h. absurd (not-suc-le-zero h);
     });
-    rest = λ P e. sym (b.all P e);
+    all = all;
   }
 
-  -- a picture with these bounds, to count with
-  blank : Picture
-  blank = record { bounds = bounds; recs = []; locs = []; vias = []; types = []; regs = 0; ops = []; opers = 0; pairs = []; targets = []; replay = [] }
+  safe_at : {regs₀ regs₁ left : List ℕ} {w₁ : List F.Fact} {p : ℕ} → Chained recs ops bounds c R regs₀ w regs₁ w₁ left p → Safe R p regs₁ w₁
+  safe_at {regs₀} {regs₁} {left} {w₁} h = subst (λ (m : ℕ). Safe R m regs₁ w₁) (zero-add (length h.places) ∙ sym h.at) h.ran.safe
 
-  safe_at : {regs₀ regs₁ : List ℕ} {w₁ : List F.Fact} {x : Cursor} {p : ℕ} → Chained recs ops bounds c R regs₀ w regs₁ w₁ x p → Safe R p regs₁ w₁
-  safe_at {regs₀} {regs₁} {w₁} h = subst (λ (m : ℕ). Safe R m regs₁ w₁) (zero-add (length h.places) ∙ sym h.at) h.ran.safe
+  module _ {regs₀ regs₁ left : List ℕ} {w₁ : List F.Fact} {p g : ℕ} {next : List ℕ} (h : Chained recs ops bounds c R regs₀ w regs₁ w₁ left p) (l : left ≡ g ∷ next) where
+    there : (P : Picture) → P.bounds ≡ bounds → h.places ++ g ∷ next ≡ chain_places P bs
+    there P e = ap (λ (m : List ℕ). h.places ++ m) (sym l) ∙ h.all P e
 
-  module _ {regs₀ regs₁ : List ℕ} {w₁ : List F.Fact} {x : Cursor} {p : ℕ} (h : Chained recs ops bounds c R regs₀ w regs₁ w₁ x p) (l : x.g < x.past) where
     pub few_yet : p < 800
-    unfolding blank
     few_yet =
-        let short = y.short blank refl in
-        let a = ap length (h.rest blank refl) in
-        let b = length-append h.places (left_of blank bs x.k x.g x.past) in
-        let d = ap length (next_left blank bs x l) in
-        omega (arith, short, a, b, d, h.at)
+        let short = y.short (bounded bounds) refl in
+        let a = ap length (there (bounded bounds) refl) in
+        let b = length-append h.places (g ∷ next) in
+        omega (arith, short, a, b, h.at)
 
-    good_at : Learnable recs ops R x.g
-    good_at = let i = h.standing.inside in y.good x.k x.g i.block (omega (arith, l, i.fits))
+    good_at : Learnable recs ops R g
+    good_at = let z = place_in y.laid (bounded bounds) refl g (subst (In g) (there (bounded bounds) refl) (in_mid h.places g next)) in y.good z.0 g z.1 z.2
 
-    pub learn_ready : Ranged R p regs₁ × Learnable recs ops R x.g × (p + 1 < 1000)
+    pub learn_ready : Ranged R p regs₁ × Learnable recs ops R g × (p + 1 < 1000)
     learn_ready = ((safe_at h).ranged, good_at, omega (arith, few_yet))
 
-    goes_on : {regs₂ : List ℕ} {w₂ : List F.Fact} {z : Cursor} → Ran recs ops regs₁ w₁ regs₂ w₂ p R (x.g ∷ []) → Standing bounds c z → ((P : Picture) → P.bounds ≡ bounds → left_of P bs x.k x.g x.past ≡ x.g ∷ left_of P bs z.k z.g z.past)
-        → Chained recs ops bounds c R regs₀ w regs₂ w₂ z (p + 1)
-    goes_on {regs₂} {w₂} {z} b s e = record {
-      standing = s;
-      places = h.places ++ (x.g ∷ []);
-      at = let a = length-append h.places (x.g ∷ []) in omega (arith, a, h.at);
+    goes_on : {regs₂ : List ℕ} {w₂ : List F.Fact} → Ran recs ops regs₁ w₁ regs₂ w₂ p R (g ∷ []) → Chained recs ops bounds c R regs₀ w regs₂ w₂ next (p + 1)
+    goes_on b = record {
+      places = h.places ++ (g ∷ []);
+      at = let a = length-append h.places (g ∷ []) in omega (arith, a, h.at);
       ran = ran_append h.ran (h.at ∙ sym (zero-add (length h.places))) b;
-      rest = λ P q. append_assoc h.places (x.g ∷ []) (left_of P bs z.k z.g z.past) ∙ ap (λ (m : List ℕ). h.places ++ m) (sym (e P q)) ∙ h.rest P q;
+      all = λ P e. append_assoc h.places (g ∷ []) next ∙ there P e;
     }
 
-  -- one more position: its fact is put where it belongs, and z stands where the next is
-  pub chained_more : {regs₀ regs₁ regs₂ : List ℕ} (gs : List F.Fact) {x z : Cursor} {p : ℕ} (h : Chained recs ops bounds c R regs₀ w regs₁ (bare gs) x p) (l : x.g < x.past) (f : F.Fact) → length gs ≡ length facts → Learned recs ops regs₁ regs₂ p R x.g f
-      → Standing bounds c z → ((P : Picture) → P.bounds ≡ bounds → left_of P bs x.k x.g x.past ≡ x.g ∷ left_of P bs z.k z.g z.past) → Chained recs ops bounds c R regs₀ w regs₂ (bare (set gs p f)) z (p + 1)
-  chained_more {regs₀} {regs₁} {regs₂} gs {x} {z} {p} h l f size does s e =
+  -- one more position: its fact is put where it belongs
+  pub chained_more : {regs₀ regs₁ regs₂ left next : List ℕ} (gs : List F.Fact) {p g : ℕ} (h : Chained recs ops bounds c R regs₀ w regs₁ (bare gs) left p) (l : left ≡ g ∷ next) (f : F.Fact) → length gs ≡ length facts
+      → Learned recs ops regs₁ regs₂ p R g f → Chained recs ops bounds c R regs₀ w regs₂ (bare (set gs p f)) next (p + 1)
+  chained_more {regs₀} {regs₁} {regs₂} {left} {next} gs {p} {g} h l f size does =
       let few = few_yet h l in
-      subst (λ (ws : List F.Fact). Chained recs ops bounds c R regs₀ w regs₂ ws z (p + 1)) (sym (bare_put gs p f does.sized.member))
-      (goes_on h l (ran_one (safe_at h) (omega (arith, few, size, y.room, length_bare gs)) does (good_at h l)) s e)
+      subst (λ (ws : List F.Fact). Chained recs ops bounds c R regs₀ w regs₂ ws next (p + 1)) (sym (bare_put gs p f does.sized.member))
+      (goes_on h l (ran_one (safe_at h) (omega (arith, few, size, y.room, length_bare gs)) does (good_at h l)))
 
-  pub chained_end : {regs₀ regs₁ : List ℕ} {w₁ : List F.Fact} {x₀ x : Cursor} {p : ℕ} → Begun bounds c R regs regs₀ x₀ → Chained recs ops bounds c R regs₀ w regs₁ w₁ x p → x.past ≤ x.g → Analysed recs ops regs w bounds c R p regs₁ w₁
-  unfolding blank
-  chained_end {regs₀} {regs₁} {w₁} {x₀} {x} {p} b h l = let f = b.forgot in record {
+  pub chained_end : {regs₀ regs₁ left : List ℕ} {w₁ : List F.Fact} {p : ℕ} → Forgot R regs regs₀ → Chained recs ops bounds c R regs₀ w regs₁ w₁ left p → left ≡ [] → Analysed recs ops regs w bounds c R p regs₁ w₁
+  chained_end {regs₀} {regs₁} {left} {w₁} {p} f h l = record {
     regs_size = h.ran.regs_size ∙ f.size;
     size = h.ran.size;
     kept = λ r. h.ran.kept r ∙ forgot_flags f r;
     safe = safe_at h;
-    short = let s = y.short blank refl in omega (arith, s, h.at, ap length (all blank refl));
+    short = let s = y.short (bounded bounds) refl in omega (arith, s, h.at, ap length (all (bounded bounds) refl));
     holds = λ j q. subst (λ (m : ℕ). Holds recs ops R (fact_in w₁ m)) (zero-add j) (h.ran.holds j (omega (arith, q, h.at)));
     positions = λ P e. h.at ∙ ap length (all P e);
     numbers = λ P e j q. ap (λ (m : ℕ). (fact_in w₁ m).rec) (sym (zero-add j)) ∙ h.ran.numbers j (omega (arith, q, h.at)) ∙ ap (λ (m : List ℕ). get_or m j 0) (all P e);
@@ -133,4 +126,4 @@ module _ {recs ops regs bounds : List ℕ} {facts : List F.Fact} {c : Chain} {R 
   }
     where
       all : (P : Picture) → P.bounds ≡ bounds → h.places ≡ chain_places P bs
-      all P e = sym (append-nil h.places) ∙ ap (λ (m : List ℕ). h.places ++ m) (sym (nothing_left P y.laid h.standing l)) ∙ h.rest P e
+      all P e = sym (append-nil h.places) ∙ ap (λ (m : List ℕ). h.places ++ m) (sym l) ∙ h.all P e

@@ -11,9 +11,7 @@ use Rattle.facts.specs.declared.Fact as F
 use Rattle.facts.specs.Marks.{fact_in}
 use Rattle.effects.specs.declared.arms.Effect.{Effect}
 use Rattle.chains.specs.declared.chain.Chain.{Chain}
-use Rattle.chains.specs.declared.cursor.Cursor.{Cursor}
 use Rattle.chains.specs.Chain.{blocks_of}
-use Rattle.chains.specs.Cursor.{left_of, Standing}
 use Rattle.chains.specs.Places.{Laid, end_past}
 use Rattle.regfacts.specs.Written.{Good}
 use Rattle.regfacts.specs.Flags.{Seen}
@@ -106,12 +104,6 @@ pub record Ran (recs ops regs : List ℕ) (w : List F.Fact) (regs' : List ℕ) (
   pub holds : (k : ℕ) → k < length places → Holds recs ops R (fact_in w' (p + k))
   pub others : (q : ℕ) → q < p → fact_in w' q ≡ fact_in w q
   pub state : (G : Facts) (past : List Fact) → length past ≡ p → State G past R regs w → State G (analyse G ops past (map (inst recs) places)) R regs' w'
-
--- before the first position: no register has a writer, and x stands at the start of chain c
-pub record Begun (bounds : List ℕ) (c : Chain) (R : ℕ) (regs regs' : List ℕ) (x : Cursor) : Type 0 where
-  pub forgot : Forgot R regs regs'
-  pub standing : Standing bounds c x
-  pub all : (P : Picture) → P.bounds ≡ bounds → chain_places P (blocks_of c) ≡ left_of P (blocks_of c) x.k x.g x.past
 
 -- chain c can be analysed, and so can each record up to the end of one of its blocks
 pub record Ready (recs ops regs : List ℕ) (facts : List F.Fact) (bounds : List ℕ) (c : Chain) (R : ℕ) : Type 0 where

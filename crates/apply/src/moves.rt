@@ -21,7 +21,7 @@ impl Move {
         requires { 2 * self.from.0 + 1 < length bounds.now }
         ensures { result ≡ get_or bounds.now (2 * self.from.0) 0 }
     {
-        bounds[2 * self.from.at()] as usize
+        self.from.start(bounds)
     }
 
     // The records of the block that it moves into.
@@ -30,7 +30,6 @@ impl Move {
         ensures start { result.start ≡ get_or bounds.now (2 * self.into.0) 0 }
         ensures end { result.end ≡ get_or bounds.now (2 * self.into.0 + 1) 0 }
     {
-        let k = 2 * self.into.at();
-        bounds[k] as usize..bounds[k + 1] as usize
+        self.into.start(bounds)..self.into.past(bounds)
     }
 }

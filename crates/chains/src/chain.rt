@@ -116,16 +116,16 @@ impl Chain {
 }
 
 // How block b ends.
-pub fn end_of(bounds: &[u32], recs: &[u32], b: usize) -> Ending
-    requires { Block bounds.now recs.now b }
-    ensures { result ≡ ending_of (end_in bounds.now recs.now b) }
+pub fn end_of(bounds: &[u32], recs: &[u32], b: BlockId) -> Ending
+    requires { Block bounds.now recs.now b.0 }
+    ensures { result ≡ ending_of (end_in bounds.now recs.now b.0) }
 {
-    let s = bounds[2 * b];
-    let e = bounds[2 * b + 1];
+    let s = b.start(bounds);
+    let e = b.past(bounds);
     if e <= s {
         return Ending::Stops;
     }
-    let p = (e - 1) as usize;
+    let p = e - 1;
     // A `match` on the number of a kind would prove nothing in its last arm.
     let k = kind(recs, p);
     if k == BR {
@@ -150,7 +150,7 @@ pub fn find_chain(
 {
     let mut c = Chain::start(x);
     for _i in 0..6u32 {
-        match end_of(bounds, recs, c.last().at()) {
+        match end_of(bounds, recs, c.last()) {
             Ending::Goes(to) => c = c.next(preds, to, blocks)?,
             Ending::Parts(t, f) => return c.ends(t, f, blocks),
             Ending::Stops => return None,

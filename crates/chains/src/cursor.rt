@@ -28,29 +28,29 @@ fn seek(bounds: &[u32], c: Chain, from: Cursor) -> Cursor
         let part = part_of(bounds, c, k);
         at = Cursor {
             k,
-            g: part.from,
-            past: part.past,
+            g: part.start,
+            past: part.end,
         };
     }
     at
 }
 
 // At the first position.
-pub fn first(bounds: &[u32], c: Chain) -> Cursor
+pub(crate) fn first(bounds: &[u32], c: Chain) -> Cursor
     requires { Laid bounds.now c }
     ensures { Standing bounds.now c result × ((P : Picture) → P.bounds ≡ bounds.now → chain_places P (blocks_of c) ≡ left_of P (blocks_of c) result.k result.g result.past) }
 {
     let part = part_of(bounds, c, 0);
     let from = Cursor {
         k: 0,
-        g: part.from,
-        past: part.past,
+        g: part.start,
+        past: part.end,
     };
     seek(bounds, c, from)
 }
 
 // From a position to the next.
-pub fn next(bounds: &[u32], c: Chain, at: Cursor) -> Cursor
+pub(crate) fn next(bounds: &[u32], c: Chain, at: Cursor) -> Cursor
     requires { Laid bounds.now c × Standing bounds.now c at × (at.g < at.past) }
     ensures { Standing bounds.now c result × ((P : Picture) → P.bounds ≡ bounds.now → left_of P (blocks_of c) at.k at.g at.past ≡ at.g ∷ left_of P (blocks_of c) result.k result.g result.past) }
 {

@@ -6,29 +6,20 @@ ghost use Rattle.chains.specs.Chain.{blocks_of};
 ghost use Rattle.chains.specs.Places.{Laid, IsPart};
 
 use crate::chain::Chain;
-
-// The records from one number up to another.
-#[derive(Clone, Copy)]
-pub struct Part {
-    pub from: usize,
-    pub past: usize,
-}
+use std::ops::Range;
 
 // The positions in the k-th block: all, or all but the Br where another block follows.
-pub fn part_of(bounds: &[u32], c: Chain, k: u32) -> Part
+pub fn part_of(bounds: &[u32], c: Chain, k: u32) -> Range<usize>
     requires { Laid bounds.now c × (k < c.count) }
     ensures { IsPart bounds.now (blocks_of c) k result }
 {
-    let b = c.nth(k).at();
-    let s = bounds[2 * b] as usize;
-    let e = bounds[2 * b + 1] as usize;
+    let b = c.nth(k);
+    let s = b.start(bounds);
+    let e = b.past(bounds);
     if (k + 1 < c.count) & (s < e) {
-        return Part {
-            from: s,
-            past: e - 1,
-        };
+        return s..e - 1;
     }
-    Part { from: s, past: e }
+    s..e
 }
 
 // How many positions the chain has.
@@ -39,7 +30,7 @@ pub fn chain_len(bounds: &[u32], c: Chain) -> usize
     let mut n = 0;
     for k in 0..c.count {
         let part = part_of(bounds, c, k);
-        n += part.past - part.from;
+        n += part.end - part.start;
     }
     n
 }

@@ -22,7 +22,7 @@ use Rattle.inst.proofs.Firsts.{three_reads}
 use Rattle.inst.proofs.Rest.{reads_step, writes_step, reads_all, reads_by_place, writes_by_place}
 use Rattle.defuse.specs.Sets.{one, put, wrote, before, run, Low, Code}
 use Rattle.words.specs.Steps.{steps}
-use Rattle.words.proofs.Steps.{steps_append}
+use Rattle.words.proofs.Steps.{steps_append, steps_on}
 
 -- ---- one register
 
@@ -81,11 +81,20 @@ module _ (recs : List ℕ) (p : ℕ) {c s : ℕ} (w : Within recs p) (h : s < 5)
   pub slot_written : Low c (writes (inst recs p)) → r ≡ reg_of (write_at (inst recs p) s) c → one r ≡ present (write_at (inst recs p) s)
   slot_written l = one_of (write_at (inst recs p) s) c (omega (arith, l.few)) (λ n. l.each _ (by_place (write_at (inst recs p)) s h _ (writes_by_place recs p w) n))
 
-  pub read_next : Low c (rest_reads (inst recs p) 0) → r ≡ reg_of (read_at (inst recs p) s) c → rest_reads (inst recs p) s ≡ one r ++ rest_reads (inst recs p) (s + 1)
+  read_next : Low c (rest_reads (inst recs p) 0) → r ≡ reg_of (read_at (inst recs p) s) c → rest_reads (inst recs p) s ≡ one r ++ rest_reads (inst recs p) (s + 1)
   read_next l e = reads_step recs p w s h ∙ ap (λ (xs : List ℕ). xs ++ rest_reads (inst recs p) (s + 1)) (sym (slot_read l e))
 
-  pub write_next : Low c (writes (inst recs p)) → r ≡ reg_of (write_at (inst recs p) s) c → rest_writes (inst recs p) s ≡ one r ++ rest_writes (inst recs p) (s + 1)
+  write_next : Low c (writes (inst recs p)) → r ≡ reg_of (write_at (inst recs p) s) c → rest_writes (inst recs p) s ≡ one r ++ rest_writes (inst recs p) (s + 1)
   write_next l e = writes_step recs p w s h ∙ ap (λ (xs : List ℕ). xs ++ rest_writes (inst recs p) (s + 1)) (sym (slot_written l e))
+
+-- one slot done, the others left
+pub read_on : {recs : List ℕ} {p c s : ℕ} (u : ℕ) → Within recs p → Low c (rest_reads (inst recs p) 0) → s < 5 → (r : Option Reg) (l m : List ℕ) → r ≡ reg_of (read_at (inst recs p) s) c → m ≡ steps (put u) l (one r)
+    → steps (put u) m (rest_reads (inst recs p) (s + 1)) ≡ steps (put u) l (rest_reads (inst recs p) s)
+read_on {recs} {p} {c} {s} u w low h r l m e q = steps_on (put u) (one r) (rest_reads (inst recs p) (s + 1)) (rest_reads (inst recs p) s) l (read_next recs p w h low e) q refl
+
+pub write_on : {recs : List ℕ} {p c s : ℕ} (u d : ℕ) → Within recs p → Low c (writes (inst recs p)) → s < 5 → (r : Option Reg) (l m : List ℕ) → r ≡ reg_of (write_at (inst recs p) s) c → m ≡ steps (wrote u d) l (one r)
+    → steps (wrote u d) m (rest_writes (inst recs p) (s + 1)) ≡ steps (wrote u d) l (rest_writes (inst recs p) s)
+write_on {recs} {p} {c} {s} u d w low h r l m e q = steps_on (wrote u d) (one r) (rest_writes (inst recs p) (s + 1)) (rest_writes (inst recs p) s) l (write_next recs p w h low e) q refl
 
 -- the first three slots, where no later one is used
 pub three_read : {recs : List ℕ} {p u c : ℕ} {a b d : Option Reg} → Used recs p u → u < 64 → Low c (rest_reads (inst recs p) 0)

@@ -1,11 +1,11 @@
 // What a run of instructions reads before it writes it, and what it writes (01, "A round": "read before written"; in the Rust
 // the first part of `liveness`), in two rows of bits. The instructions are taken from the last to the first: what one writes
 // goes out of the row of reads, and what it reads goes in.
-ghost use Rattle.std.specs.Prelude.{◌≡◌, map, ◌-◌, ◌*◌, ◌≤◌, length};
+ghost use Rattle.std.specs.Prelude.{◌≡◌, ℕ, List, map, ◌-◌, ◌*◌, ◌≤◌, length};
 ghost use Rattle.words.specs.Lists.{range};
 ghost use Rattle.model.specs.Picture.{inst, reads, writes};
 ghost use Rattle.inst.specs.Record.{Known, Listed, rest_reads};
-ghost use Rattle.defuse.specs.Sets.{one, put, wrote, before, run, Low};
+ghost use Rattle.defuse.specs.Sets.{one, put, wrote, before, run, Low, AtSlots, Keeps};
 ghost use Rattle.defuse.specs.Coded.{Coded};
 ghost use Rattle.words.specs.Steps.{steps};
 
@@ -44,14 +44,13 @@ fn read_one(bits: &mut [u64], at: Pair, r: Option<Reg>)
     set_in(bits, at.u, k.at());
 }
 
-// What the slots of a record write, one by one. (What they read is done by a loop of its own below: each is one line, and says which
-// registers and what is done with one.)
-fn write_all(bits: &mut [u64], slots: &Slots<'_>, at: Pair)
-    requires { (at.u ≤ length bits.old) × (at.d ≤ length bits.old) × Low at.regs (writes (inst slots.now.recs.now slots.now.p)) }
-    ensures { bits.new ≡ steps (wrote at.u at.d) bits.old (writes (inst slots.now.recs.now slots.now.p)) }
+// f at each slot, one by one. Where `left s` says what the bits become by the slots from s on, and f keeps that, it says so of the end.
+fn each_slot<F: Fn(&mut [u64], usize)>(bits: &mut [u64], f: F)
+    requires can { AtSlots (length bits.old) (F.pre f) }
+    ensures { (left : ℕ → List ℕ → List ℕ) → Keeps (F.post f) left → left 5 bits.new ≡ left 0 bits.old }
 {
     for s in 0..5 {
-        write_one(bits, at, slots.write(s, at.regs));
+        f(bits, s);
     }
 }
 
@@ -61,20 +60,10 @@ fn write_slots(bits: &mut [u64], slots: &Slots<'_>, at: Pair)
     ensures { bits.new ≡ steps (wrote at.u at.d) bits.old (writes (inst slots.now.recs.now slots.now.p)) }
 {
     if slots.writes_later() {
-        write_all(bits, slots, at);
+        each_slot(bits, |bits, s| write_one(bits, at, slots.write(s, at.regs)));
         return;
     }
     write_one(bits, at, slots.write(0, at.regs));
-}
-
-// What the slots of a record read, one by one.
-fn read_all(bits: &mut [u64], slots: &Slots<'_>, at: Pair)
-    requires { (at.u ≤ length bits.old) × Low at.regs (rest_reads (inst slots.now.recs.now slots.now.p) 0) }
-    ensures { bits.new ≡ steps (put at.u) bits.old (rest_reads (inst slots.now.recs.now slots.now.p) 0) }
-{
-    for s in 0..5 {
-        read_one(bits, at, slots.read(s, at.regs));
-    }
 }
 
 // What the slots of a record read, mostly the first three alone.
@@ -83,7 +72,7 @@ fn read_slots(bits: &mut [u64], slots: &Slots<'_>, at: Pair)
     ensures { bits.new ≡ steps (put at.u) bits.old (rest_reads (inst slots.now.recs.now slots.now.p) 0) }
 {
     if 64 <= slots.does {
-        read_all(bits, slots, at);
+        each_slot(bits, |bits, s| read_one(bits, at, slots.read(s, at.regs)));
         return;
     }
     read_one(bits, at, slots.read(0, at.regs));

@@ -10,10 +10,10 @@ ghost use Rattle.regfacts.specs.Written.{Fits, Good};
 ghost use Rattle.lastuse.specs.Uses.{note_in, Noticed, ReadOn, Legible, ReadersAlong};
 
 use chains::chain::Chain;
-use chains::cursor::{first, next};
+use chains::positions::Positions;
 use inst::code::Code;
 use inst::index::Reg;
-use legality::rules::unneeded_slots;
+use legality::rules::{Elsewhere, unneeded_slots};
 use model::RECORDS;
 use summary::reads::{SLOTS, read_place};
 use summary::stamps::{Stamp, put_slots};
@@ -69,32 +69,25 @@ pub fn last_readers(
     ensures { ReadersAlong code.now.recs.now code.now.ops.now bounds.now c lasts.new × (length st.new ≡ length st.old) }
 {
     st.fill(0);
-    let mut at = first(bounds, c);
-    let mut q = 0usize;
-    // As in `analyse`, the cursor is moved on with the bounds at hand.
-    while at.g < at.past {
-        read_on(code, st, lasts, at.g, q);
-        at = next(bounds, c, at);
-        q += 1;
+    for (q, g) in Positions::new(bounds, c).enumerate() {
+        read_on(code, st, lasts, g, q);
     }
 }
 
-// The last use of position p, record g, by its last reader: past the end if the target reads its value; the row of what is
-// live there begins at word `o` of `bits`.
+// The last use of position p, record g, by its last reader: past the end, n, if the target reads its value. What is asked elsewhere
+// is the row of what is live at the target.
 pub fn last_use(
     code: &Code,
-    regs: &[u32],
-    bits: &[u64],
-    o: usize,
+    asked: &Elsewhere<'_>,
     lasts: &[u32; RECORDS],
     g: usize,
     p: usize,
     n: usize,
 ) -> u32
-    requires { Known code.now.recs.now g × Fits code.now.recs.now (length regs.now) g × (p < n) × (n ≤ 800) × (o ≤ length bits.now) }
-    ensures { result ≡ cond (all (result_test regs.now bits.now o p) (writes (inst code.now.recs.now g))) (get_or lasts.now p 0) n }
+    requires { Known code.now.recs.now g × Fits code.now.recs.now (length asked.now.regs.now) g × (p < n) × (n ≤ 800) × (asked.now.at ≤ length asked.now.bits.now) }
+    ensures { result ≡ cond (all (result_test asked.now.regs.now asked.now.bits.now asked.now.at p) (writes (inst code.now.recs.now g))) (get_or lasts.now p 0) n }
 {
-    if unneeded_slots(&code.slots(g), regs, bits, o, p) {
+    if unneeded_slots(&code.slots(g), asked, p) {
         return lasts[p];
     }
     n as u32

@@ -73,11 +73,12 @@ fn unneeded(regs: &[u32], bits: &[u64], o: usize, r: Option<Reg>, p: usize) -> b
 }
 
 // Rule 2 for what a record, at p, writes, slot by slot.
-pub fn unneeded_slots(slots: &Slots, regs: &[u32], bits: &[u64], o: usize, p: usize) -> bool
-    requires { Fits slots.now.recs.now (length regs.now) slots.now.p × (p < 800) × (o ≤ length bits.now) }
-    ensures { result ≡ all (result_test regs.now bits.now o p) (writes (inst slots.now.recs.now slots.now.p)) }
+pub fn unneeded_slots(slots: &Slots, asked: &Elsewhere<'_>, p: usize) -> bool
+    requires { Fits slots.now.recs.now (length asked.now.regs.now) slots.now.p × (p < 800) × (asked.now.at ≤ length asked.now.bits.now) }
+    ensures { result ≡ all (result_test asked.now.regs.now asked.now.bits.now asked.now.at p) (writes (inst slots.now.recs.now slots.now.p)) }
 {
-    all_written(slots, regs.len(), |r| unneeded(regs, bits, o, r, p))
+    let Elsewhere { regs, bits, at } = *asked;
+    all_written(slots, regs.len(), |r| unneeded(regs, bits, at, r, p))
 }
 
 // Rule 2: no register of the row that begins at word `o` of `bits` is written at p and by none after it.
@@ -88,5 +89,6 @@ pub fn rule2(code: &Code, f: Fact, regs: &[u32], bits: &[u64], o: usize, p: usiz
     if !f.more {
         return unneeded(regs, bits, o, Reg::new(f.def, regs.len()), p);
     }
-    unneeded_slots(&code.slots(f.rec as usize), regs, bits, o, p)
+    let asked = Elsewhere { regs, bits, at: o };
+    unneeded_slots(&code.slots(f.rec as usize), &asked, p)
 }

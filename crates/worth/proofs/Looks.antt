@@ -3,57 +3,21 @@ use mathlib.Core.Path.{◌≡◌, refl, sym, ap, ◌∙◌}
 use mathlib.Core.Bool.{Bool, true, false, ◌&&◌, ◌||◌}
 use mathlib.Core.List.{List, map}
 use Prim.Native.Nat.{ℕ, ◌+◌, ◌-◌, ◌*◌, ◌≤◌, ◌<◌}
-use native.Mathlib.Nat.{le_antisymm, add-zero}
 use native.Mathlib.Omega.{arith}
 use lib.Dec.{leb}
 use lib.ListN.{get_or, length, take}
 use borrow.Author.Tests.{le-leb, lt-leb, leb-true}
-use Rattle.words.specs.Lists.{range, upto, any, mem}
-use Rattle.words.proofs.Lists.{map_map, shift_range, take_made}
-use Rattle.words.proofs.Alls.{any_map, find_yes, find_on}
+use Rattle.words.specs.Lists.{range, any, mem}
+use Rattle.words.proofs.Lists.{take_made}
 use Rattle.words.proofs.Bools.{left_true, right_true}
 use Rattle.model.specs.Picture.{Picture, inst, size}
 use Rattle.model.specs.Move as M
 use Rattle.model.specs.Move.{chain_places, minimum, replays, worth_a_look}
 use Rattle.laws.proofs.Planned.{minimum_some}
-use Rattle.inst.specs.Record.{Within}
 use Rattle.checks.specs.Causes.{plain_cat}
 use Rattle.chains.specs.declared.chain.Chain.{Chain}
 use Rattle.chains.specs.Chain.{blocks_of}
 use Rattle.worth.specs.Worth.{Worth}
-
--- ---- a run of records, counted from its start
-
-cats_from : (recs : List ℕ) (a n : ℕ) → any plain_cat (map (inst recs) (range a n)) ≡ any (λ k. plain_cat (inst recs (a + k))) (upto n)
-cats_from recs a n =
-    ap (λ (l : List ℕ). any plain_cat (map (inst recs) l)) (ap (λ (k : ℕ). range k n) (sym (add-zero a)) ∙ sym (shift_range a 0 n))
-    ∙ ap (any plain_cat) (map_map (inst recs) (λ p. a + p) (upto n)) ∙ any_map plain_cat (λ k. inst recs (a + k)) (upto n)
-
--- The three places of the loop: the records from a up to p are no such Cats.
-module _ (recs : List ℕ) (a : ℕ) where
-  abbrev pub cats : ℕ → Bool
-  cats p = any plain_cat (map (inst recs) (range a (p - a)))
-
-  at : {p : ℕ} {r : Bool} → a ≤ p → r ≡ plain_cat (inst recs p) → r ≡ plain_cat (inst recs (a + (p - a)))
-  at {p} h e = let d : p ≡ a + (p - a) = omega arith in e ∙ ap (λ (k : ℕ). plain_cat (inst recs k)) d
-
-  pub cat_yes : {p e : ℕ} {r : Bool} → a ≤ p → p < e → r ≡ plain_cat (inst recs p) → r ≡ true → true ≡ cats e
-  cat_yes {p} {e} h l k t = find_yes (λ k. plain_cat (inst recs (a + k))) {n = e - a} {i = p - a} (omega arith) (at h k) t ∙ sym (cats_from recs a (e - a))
-
-  pub cat_on : {p : ℕ} {r : Bool} → a ≤ p → cats p ≡ false → r ≡ plain_cat (inst recs p) → r ≡ false → cats (p + 1) ≡ false
-  cat_on {p} h f k t =
-      let d : p + 1 - a ≡ p - a + 1 = omega arith in
-      ap (λ (n : ℕ). any plain_cat (map (inst recs) (range a n))) d ∙ cats_from recs a (p - a + 1)
-      ∙ find_on (λ k. plain_cat (inst recs (a + k))) {i = p - a} (sym (cats_from recs a (p - a)) ∙ f) (at h k) t
-
-  pub cat_none : cats a ≡ false
-  cat_none = let d : a - a ≡ 0 = omega arith in ap (λ (n : ℕ). any plain_cat (map (inst recs) (range a n))) d
-
-  pub cat_no : {p e : ℕ} → p ≤ e → e ≤ p → cats p ≡ false → false ≡ cats e
-  cat_no h g f = sym (ap cats (le_antisymm g h) ∙ f)
-
-pub record_there : (recs : List ℕ) {p e : ℕ} → p < e → 16 * e ≤ length recs → Within recs p
-record_there recs h l = record { whole = omega arith }
 
 -- ---- the tests in order
 

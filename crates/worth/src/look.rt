@@ -1,13 +1,11 @@
 // What a chain must have to be looked at (01, "A round": "x without its terminator needs 8 instructions (3 if t or f is in replay);
 // the chain, inner Brs dropped, may have 800; without replay x needs a Cat of form 0").
-ghost use Rattle.std.specs.Prelude.{◌≡◌, ◌||◌, map, ◌-◌, ◌*◌, ◌≤◌, length};
-ghost use Rattle.words.specs.Lists.{range, any, mem};
-ghost use Rattle.model.specs.Picture.{inst};
-ghost use Rattle.checks.specs.Causes.{plain_cat};
+ghost use Rattle.std.specs.Prelude.{◌≡◌, ◌||◌, ◌*◌, ◌≤◌, length};
+ghost use Rattle.words.specs.Lists.{mem};
 ghost use Rattle.chains.specs.Places.{Pair, Laid, end_past};
 ghost use Rattle.worth.specs.Worth.{Worth};
 
-use acceptance::gates::plain_cat;
+use acceptance::gates::plain_cat_in;
 use chains::chain::Chain;
 use chains::pass::Sink;
 use chains::places::chain_len;
@@ -20,29 +18,14 @@ pub fn replays(replay: &[u32], t: BlockId, f: BlockId) -> bool
     replay.contains(&t.number()) | replay.contains(&f.number())
 }
 
-// Is one of the records from a up to e a Cat of form 0?
-pub fn plain_cat_in(recs: &[u32], a: usize, e: usize) -> bool
-    requires { (a ≤ e) × (16 * e ≤ length recs.now) }
-    ensures { result ≡ any plain_cat (map (inst recs.now) (range a (e - a))) }
-{
-    // `(a..e).any(..)` would say so in a line, but what it answers over a range is not proved.
-    for p in a..e {
-        if plain_cat(recs, p) {
-            return true;
-        }
-    }
-    false
-}
-
 // Is the chain c from block x to be looked at?
 pub fn worth_a_look(bounds: &[u32], recs: &[u32], replay: &[u32], c: Chain, x: BlockId) -> bool
     requires { Laid bounds.now c × Pair bounds.now x.0 × (16 * end_past bounds.now x.0 ≤ length recs.now) }
     ensures { Worth bounds.now recs.now replay.now c x.0 result }
 {
     let again = replays(replay, c.t, c.f);
-    let k = x.at();
-    let a = bounds[2 * k] as usize;
-    let e = bounds[2 * k + 1] as usize;
+    let a = x.start(bounds);
+    let e = x.past(bounds);
     if e - a <= Sink::minimum(again) as usize {
         return false;
     }

@@ -1,41 +1,40 @@
 -- `lastuse::uses::last_readers` meets its contract. Assumes nothing.
 use borrow.Author.Rules.{rules}
-use mathlib.Core.Path.{refl, ◌∙◌}
+use mathlib.Core.Logic.{inl}
+use mathlib.Core.Path.{refl, ap, ◌∙◌}
 use native.Mathlib.Omega.{arith}
-use Rattle.lastuse.proofs.Going.{cleared, going_none, legible_on, going_size, few_yet, read_ready, going_more, going_end}
+use Rattle.std.specs.Iterator.Adapters.{enumerate_source, enumerate_count}
+use Rattle.chains.specs.Positions.{left}
+use Rattle.lastuse.proofs.Going.{cleared, going_none, few_places, legible_on, going_size, read_ready, going_more, going_end}
 use Rattle.lastuse.proofs.uses.last_readers.Goals as goal
 
-pub first-at-requires : goal.first-at-requires
-first-at-requires c = c.requires.0.laid
+pub loop-q-init : goal.loop-q-init
+loop-q-init c =
+    let i = c.into_iter-q-iterator.ensures.into_iter_gives in
+    let n = ap enumerate_count i ∙ c.enumerate-q-items.ensures.count in
+    rw n (going_none _ _ _ refl (cleared c.args.st.now (search rules)).1 c.requires.1 c.requires.2
+    (λ P e. ap (λ s. left (enumerate_source s)) i ∙ ap left c.enumerate-q-items.ensures.source ∙ c.new.ensures P e))
 
-pub loop-at-init : goal.loop-at-init
-loop-at-init c =
-    going_none _ _ _ refl (cleared c.args.st.now (search rules)).1 c.requires.1 c.requires.2 c.first-at.ensures.0 c.first-at.ensures.1
+pub loop-q-init-derived : goal.loop-q-init-derived
+loop-q-init-derived c =
+    let i = c.into_iter-q-iterator.ensures.into_iter_gives in
+    let n = ap enumerate_count i ∙ c.enumerate-q-items.ensures.count in
+    let few = few_places c.requires.0 (λ P e. ap (λ s. left (enumerate_source s)) i ∙ ap left c.enumerate-q-items.ensures.source ∙ c.new.ensures P e) in
+    ((tt, tt, inl (omega (arith, n, few))), tt)
 
 pub read_on-requires : goal.read_on-requires
 read_on-requires c =
     let y = legible_on c.requires.0 c.fill.ensures.len in
-    let r = read_ready _ y c.loop-at.invariant c.loop-at-test.true in
-    (r.0, r.1, r.2, r.3)
+    let r = read_ready _ y c.loop-q.invariant c.in-Some.ensures.steps.0 in
+    (r.0, r.1, r.2, rw c.in-Some.ensures.steps.1 r.3)
 
-pub next-at-requires : goal.next-at-requires
-next-at-requires c = (c.requires.0.laid, c.loop-at.invariant.standing, c.loop-at-test.true)
-
-pub overflow_add-q : goal.overflow_add-q
-overflow_add-q c =
-    let l = few_yet _ (legible_on c.requires.0 c.fill.ensures.len) c.loop-at.invariant c.loop-at-test.true in
-    omega (arith, l)
-
-pub loop-at-smaller : goal.loop-at-smaller
-loop-at-smaller c =
-    let l = few_yet _ (legible_on c.requires.0 c.fill.ensures.len) c.loop-at.invariant c.loop-at-test.true in
-    omega (arith, l)
-
-pub loop-at-preserved : goal.loop-at-preserved
-loop-at-preserved c =
-    going_more _ (legible_on c.requires.0 c.fill.ensures.len) c.loop-at.invariant c.loop-at-test.true c.read_on.ensures c.next-at.ensures.0 c.next-at.ensures.1
+pub loop-q-preserved : goal.loop-q-preserved
+loop-q-preserved c =
+    let y = legible_on c.requires.0 c.fill.ensures.len in
+    let s = c.in-Some.ensures.steps in
+    rw s.2 (going_more _ y c.loop-q.invariant s.0 (rw s.1 at c.read_on.ensures))
 
 pub returns : goal.returns
 returns c =
     let y = legible_on c.requires.0 c.fill.ensures.len in
-    (going_end _ y c.loop-at.invariant c.loop-at-test.false, going_size _ y c.loop-at.invariant ∙ c.fill.ensures.len)
+    (going_end _ y c.loop-q.invariant c.in-None.ensures.steps.0.0, going_size _ y c.loop-q.invariant ∙ c.fill.ensures.len)
