@@ -8,12 +8,12 @@ use native.Mathlib.Omega.{arith}
 use lib.Dec.{eqb, leb}
 use lib.ListN.{length, get_or, drop, drop_of_length-le}
 use Rattle.words.proofs.Bools.{or_left, or_right}
-use Rattle.model.specs.Kinds.{Role, kind_of, off, wr, rd, wr?, rd?}
-use Rattle.model.specs.Picture.{Inst, inst, absent, form, roles, slots}
+use Rattle.model.specs.Kinds.{Role, off, wr, rd, wr?, rd?}
+use Rattle.model.specs.Picture.{Inst, inst, absent, roles, slots}
 use Rattle.model.specs.Refusal.{bad_slot, bad_slots}
-use Rattle.inst.specs.Table.{packed, wants, spread, two_bits, does}
+use Rattle.inst.specs.Table.{two_bits, does}
 use Rattle.inst.specs.Record.{Within, uses_of, asks_of, bad_at}
-use Rattle.inst.proofs.Resolved.{asks_resolved, does_slot, asks_slot, bad_is}
+use Rattle.inst.proofs.Resolved.{does_slot, asks_slot, bad_is}
 use Rattle.inst.proofs.Words.{slots_long, slot_is}
 use Rattle.checks.specs.Plain.{odd_at, odd_slot}
 
@@ -34,10 +34,6 @@ module _ (R : ℕ) where
   over : (os : List Role) → bad_slots R os [] ≡ false
   over [] = refl
   over (o ∷ os) = refl
-
--- what the slots ask, by the row of the kind
-pub asks_by : (i : Inst) (k f x a : ℕ) → k ≡ get_or i 0 0 → f ≡ form i → x ≡ packed (kind_of k) → a ≡ spread (wants f) x → a ≡ asks_of i
-asks_by i k f x a e ef ex ea = ea ∙ rw (ex, ef, e) (asks_resolved i)
 
 -- slot s by what it asks
 pub asked : (i : Inst) (R s : ℕ) → s < 5 → (a r : ℕ) → a ≡ two_bits (asks_of i) s → r ≡ get_or i (2 + s) 0 → bad_at R a r ≡ bad_slot R (get_or (roles i) s off) (get_or i (2 + s) 0)

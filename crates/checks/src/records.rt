@@ -80,7 +80,7 @@ fn half_part(recs: &[u32], p: usize) -> bool
 }
 
 // 5: a slot is no register below R, or wrongly absent or present.
-#[tactic(auto, using(crate::proofs::Slots::asks_by), unfolding(crate::specs::Causes::bad_regs))]
+#[tactic(auto, using(inst::proofs::Resolved::asks_by), unfolding(crate::specs::Causes::bad_regs))]
 pub fn bad_regs_at(t: &Table, recs: &[u32], p: usize, regs: u32) -> bool
     requires { Known recs.now p }
     ensures { result ≡ bad_regs regs (inst recs.now p) }
