@@ -10,8 +10,9 @@ ghost use Rattle.rename.specs.Runs.{Run, Pass, Passed, AskX, PassedX, AskRest, P
 use crate::names::{forget, put};
 use crate::parts::{Head, Part, part_at};
 use crate::remake::remake;
-use inst::access::uses;
+use crate::slots::Anew;
 use inst::code::{Code, Slots};
+use inst::record::{form, kind};
 use inst::table::Table;
 use model::ABSENT;
 use position::PLACE;
@@ -31,13 +32,14 @@ fn pass(
     requires { Exists (λ u. Pass q u o names.old k.mark (word_of k.def) k.new recs.old ops.old) × Among (length names.old) k.def }
     ensures { Passed q o k.mark (word_of k.def) k.new names.old names.new recs.old recs.new ops.old ops.new result }
 {
-    let does = uses(t, recs, q);
+    let does = t.used(kind(recs, q), form(recs, q));
     if k.mark == 0 {
         let slots = Slots { recs, p: q, does };
         forget(&slots, names);
         return o;
     }
-    let r = remake(recs, q, does, ops, o, names, k.new);
+    let anew = Anew { names, new: k.new };
+    let r = remake(recs, q, does, ops, o, anew);
     put(names, k.def, k.new);
     r
 }
@@ -78,8 +80,9 @@ fn own(t: &Table, recs: &mut [u32], q: usize, ops: &mut [u32], o: usize, names: 
     requires { Exists (λ u. Pass q u o names.old 1 absent absent recs.old ops.old) }
     ensures { Owned q o names.old names.new recs.old recs.new ops.old ops.new result }
 {
-    let does = uses(t, recs, q);
-    let r = remake(recs, q, does, ops, o, names, ABSENT);
+    let does = t.used(kind(recs, q), form(recs, q));
+    let anew = Anew { names, new: ABSENT };
+    let r = remake(recs, q, does, ops, o, anew);
     let slots = Slots { recs, p: q, does };
     forget(&slots, names);
     r
