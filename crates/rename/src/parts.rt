@@ -17,6 +17,7 @@ pub struct Part {
 
 // What is walked: x's first `inside` records from `from` on; then the chain's other positions, of `places` in all, whose words are w; and
 // the target's records. (No range of records for x: it is the count that the positions go by.)
+#[derive(Drop)]
 pub struct Walk<'a> {
     pub from: usize,
     pub inside: usize,
