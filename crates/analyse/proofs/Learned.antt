@@ -17,7 +17,7 @@ use Rattle.model.specs.Picture.{Inst, inst, absent, kind, reads, writes}
 use Rattle.model.specs.Analyse.{Facts, Fact, fact, no_fact, last_writer, may_suspend}
 use Rattle.inst.specs.Table.{packed, arm_at}
 use Rattle.inst.specs.Table as T
-use Rattle.inst.specs.declared.access.Firsts.{Firsts}
+use Rattle.inst.specs.declared.scanned.Firsts.{Firsts}
 use Rattle.inst.specs.Firsts.{Heads}
 use Rattle.inst.proofs.Firsts.{Present, all_written, all_read}
 use Rattle.effects.specs.Arms.{arm_of, leads}

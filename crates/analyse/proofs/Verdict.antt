@@ -18,7 +18,7 @@ use Rattle.model.specs.Analyse as M
 use Rattle.model.specs.Analyse.{Facts, Fact, Org, Unknown, Read, unread, last_writer, org_of, len_of, is_layout, when_some, known_of, positive, arm, pieces, placed, movable, sized, small, whole, fact}
 use Rattle.inst.specs.Table.{packed, arm_code, arm_at}
 use Rattle.inst.specs.Table as T
-use Rattle.inst.specs.declared.access.Firsts.{Firsts}
+use Rattle.inst.specs.declared.scanned.Firsts.{Firsts}
 use Rattle.inst.specs.Firsts.{Heads}
 use Rattle.inst.specs.Constant.{constant_of}
 use Rattle.inst.proofs.Rows.{arm_is, arm_back, quiet_is, first_arm}

@@ -5,7 +5,7 @@ use Rattle.model.specs.Kinds.{row, cat}
 use Rattle.model.specs.Picture.{Inst, absent, kind, reads}
 use Rattle.model.specs.Analyse.{Facts, Fact, Org, Unknown, no_fact, last_writer, org_of, len_of, is_layout, when_some, known_of, positive, sized}
 use Rattle.inst.specs.Constant.{constant_of}
-use Rattle.inst.specs.declared.access.Firsts.{Firsts}
+use Rattle.inst.specs.declared.scanned.Firsts.{Firsts}
 use Rattle.effects.specs.Origin.{org_at, class_at, class_of, wrote_at, from_at}
 unfoldable pub use Rattle.effects.specs.Origin.{place_at}
 use Rattle.facts.specs.declared.Fact as F

@@ -5,7 +5,7 @@ use Rattle.model.specs.Picture.{Picture, inst, kind, absent, reads, writes, list
 use Rattle.model.specs.Analyse.{Facts, Fact, fact, analyse}
 use Rattle.model.specs.Move.{chain_places}
 use Rattle.inst.specs.Record.{present}
-use Rattle.inst.specs.declared.access.Firsts.{Firsts}
+use Rattle.inst.specs.declared.scanned.Firsts.{Firsts}
 use Rattle.effects.specs.Origin.{num, class_code}
 use Rattle.facts.specs.declared.Fact as F
 use Rattle.facts.specs.Marks.{fact_in}

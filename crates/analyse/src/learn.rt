@@ -11,10 +11,10 @@ use crate::judge::{ask, judge};
 use crate::marks::{mark_record, stamp};
 use effects::arms::{Arm, Effect};
 use facts::Fact;
-use inst::access::{Firsts, scan};
 use inst::code::Code;
 use inst::kinds::{CALL, CALL_INDIRECT, CALL_PROT, SUSPEND};
 use inst::record::{form, kind};
+use inst::scanned::Firsts;
 use model::ABSENT;
 
 // May record g suspend?
@@ -64,7 +64,7 @@ pub fn learn_one(code: &Code, regs: &mut [u64], g: usize, p: u32, count: usize) 
     ensures { Learned code.now.recs.now code.now.ops.now regs.old regs.new p count g result }
 {
     let slots = code.slots(g);
-    let x = scan(code.ops, code.recs, g, slots.does);
+    let x = code.scan(&slots);
     let m = code.row(g);
     let y = ask(code.recs, regs, x, g, p, count);
     let e = judge(code.recs, g, m, y);

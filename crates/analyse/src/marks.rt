@@ -8,7 +8,7 @@ ghost use Rattle.regfacts.specs.Written.{put_in, Fits, Written};
 ghost use Rattle.analyse.specs.Step.{stamp, marked, Forgot};
 
 use crate::look;
-use inst::access::Firsts;
+use inst::scanned::Firsts;
 use inst::code::Slots;
 use inst::index::Reg;
 use model::ABSENT;

@@ -17,7 +17,7 @@ use mover::bounds::{count, move_bounds};
 use mover::moving::move_all;
 use pool::types::add_types;
 use rename::all::rename_all;
-use rename::parts::Head;
+use rename::parts::Walk;
 
 // Move m, where c registers and operands are in use. (The slices that are written stay apart: a struct of `&mut` slices cannot be lent
 // on twice.)
@@ -38,14 +38,15 @@ pub fn apply(
     requires fits { Fits m.from.0 m.into.0 m.inside m.places c.regs c.opers bounds.old recs.old types.old ops.old w.now × Vias locs.old vias.old }
     ensures { (rest : Rest) (run : List Fact) (set : List Bool) → let P = picture bounds.old recs.old locs.old vias.old types.old c.regs ops.old c.opers rest in let a = plan m.from.0 m.into.0 run set in Stands P a m.inside m.places w.now → Given P a m.inside w.now → Holds (apply P a) bounds.new recs.new locs.new vias.new types.new ops.new }
 {
-    let x = Head {
+    let walk = Walk {
         from: m.start(bounds),
-        count: m.inside,
+        inside: m.inside,
+        places: m.places,
+        target: m.target(bounds),
+        w,
     };
-    let s = m.target(bounds);
-    let into = s.start;
     add_types(types, c.regs, w, m.inside);
-    rename_all(t, recs, x, m.places, s, ops, c.opers, names, w);
-    move_all(recs, locs, vias, w, x.from, m.inside, into);
+    rename_all(t, recs, &walk, ops, c.opers, names);
+    move_all(recs, locs, vias, w, walk.from, m.inside, walk.target.start);
     move_bounds(bounds, m.from, m.into, count(w, m.inside));
 }

@@ -8,7 +8,7 @@ use crate::moves::Move;
 use inst::code::Code;
 use pool::allot::allot;
 use rename::all::count_all;
-use rename::parts::Head;
+use rename::parts::Walk;
 
 // Registers and operands in use. (It is no `sizes::InUse`: what is counted may be more operands than a word says, until it is weighed.)
 #[derive(Clone, Copy)]
@@ -31,11 +31,14 @@ pub fn needs(
     ensures { Counted m.from.0 m.into.0 m.inside m.places c.regs c.opers bounds.now code.now.recs.now types.now code.now.ops.now w.old w.new result.regs result.opers }
 {
     let regs = allot(w, m.inside, c.regs, types);
-    let x = Head {
+    let walk = Walk {
         from: m.start(bounds),
-        count: m.inside,
+        inside: m.inside,
+        places: m.places,
+        target: m.target(bounds),
+        w,
     };
-    let more = count_all(code, x, m.places, m.target(bounds), names, w);
+    let more = count_all(code, &walk, names);
     Counts {
         regs,
         opers: c.opers + more,

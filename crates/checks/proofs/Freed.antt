@@ -13,9 +13,10 @@ use Rattle.words.proofs.Bools.{left_true, right_true, or_left, or_right, clash, 
 use Rattle.model.specs.Kinds.{row, kind_of, at_form, off, Br, CondBr, Cat, SigGather}
 use Rattle.model.specs.Picture.{Inst, inst, absent, kind, form, is_kind, roles}
 use Rattle.model.specs.Refusal.{bad_kind, bad_list, bad_branch, half_part}
-use Rattle.inst.specs.Table.{does, shape_code, packed, has_list, shape, least, most, two_bits}
+use Rattle.inst.specs.Table.{does, shape_code, packed, has_list, shape, least, most, acts, two_bits, spread}
 use Rattle.inst.specs.Record.{Within, uses_of}
 use Rattle.inst.proofs.Rows.{list_is, shape_is, least_is, most_is}
+use Rattle.inst.proofs.Resolved.{uses_by}
 use Rattle.checks.specs.Causes.{bad_regs, long_cat}
 use Rattle.checks.specs.Plain.{simple, bare, odd_slot, usual, plain, Skipped}
 use Rattle.checks.proofs.Slots.{none_odd, read_stands}
@@ -40,16 +41,16 @@ module _ (R : ℕ) (i : Inst) where
     unfolding plain
     not_known h = sym (ap (λ (b : Bool). cond b false rest) (lt-ltb 100 (get_or i 0 0) (rw e at h)))
 
-    module _ (h : k ≤ 100) (x f : ℕ) (s b : Bool) (ex : x ≡ packed (kind i)) (ef : f ≡ form i) (es : s ≡ simple x f) (eb : b ≡ bare i) where
+    module _ (h : k ≤ 100) (x f : ℕ) (s b : Bool) (ex : x ≡ packed (kind_of k)) (ef : f ≡ form i) (es : s ≡ simple x f) (eb : b ≡ bare i) where
       tested : (s && b) ≡ first_test
-      tested = rw (es, eb, ex, ef)
+      tested = rw (es, eb, ex, ef, e)
 
       known_kind : rest ≡ plain R i
       unfolding plain
       known_kind = sym (ap (λ (c : Bool). cond c false rest) (le-ltb 100 (get_or i 0 0) (rw e at h)))
 
-      pub plain_by : (s && b) ≡ true → (u : ℕ) (r : Bool) → u ≡ uses_of i → r ≡ usual R u i → r ≡ plain R i
-      plain_by t u r eu er = er ∙ ap (λ (m : ℕ). usual R m i) eu ∙ sym (ap (λ (c : Bool). cond c (usual R (uses_of i) i) false) (sym tested ∙ t)) ∙ known_kind
+      pub plain_by : (s && b) ≡ true → (u : ℕ) (r : Bool) → u ≡ spread (acts f) (packed (kind_of k)) → r ≡ usual R u i → r ≡ plain R i
+      plain_by t u r eu er = er ∙ ap (λ (m : ℕ). usual R m i) (uses_by i e ef eu) ∙ sym (ap (λ (c : Bool). cond c (usual R (uses_of i) i) false) (sym tested ∙ t)) ∙ known_kind
 
       pub not_simple : (s && b) ≡ false → false ≡ plain R i
       not_simple t = sym (ap (λ (c : Bool). cond c (usual R (uses_of i) i) false) (sym tested ∙ t)) ∙ known_kind

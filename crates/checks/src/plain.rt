@@ -5,7 +5,6 @@ ghost use Rattle.model.specs.Picture.{inst};
 ghost use Rattle.inst.specs.Record.{Within};
 ghost use Rattle.checks.specs.Plain.{simple, bare, odd_slot, usual, plain, Skipped};
 
-use inst::access::{row_at, uses};
 use inst::kinds::LAST;
 use inst::record::{form, kind, list_len, list_start, slot};
 use inst::table::{Table, has_list, least, most, stops, two_bits};
@@ -58,11 +57,13 @@ pub fn plain(t: &Table, recs: &[u32], p: usize, regs: u32) -> bool
     requires { Within recs.now p }
     ensures { result ≡ plain regs (inst recs.now p) }
 {
-    if LAST < kind(recs, p) {
+    let k = kind(recs, p);
+    if LAST < k {
         return false;
     }
-    if simple(row_at(t, recs, p), form(recs, p)) & bare(recs, p) {
-        return usual(recs, p, regs, uses(t, recs, p));
+    let f = form(recs, p);
+    if simple(t.row(k), f) & bare(recs, p) {
+        return usual(recs, p, regs, t.used(k, f));
     }
     false
 }

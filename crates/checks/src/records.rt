@@ -7,10 +7,9 @@ ghost use Rattle.model.specs.Refusal.{bad_kind, bad_slot, bad_slots, half_part};
 ghost use Rattle.inst.specs.Record.{Within, Known, asks_of, bad_at};
 ghost use Rattle.checks.specs.Causes.{bad_regs, long_cat};
 
-use inst::access::wanted;
 use inst::kinds::{CAT, LAST, SIG_GATHER};
 use inst::record::{form, kind, list_len, slot, word};
-use inst::table::{Table, least, most, two_bits};
+use inst::table::{Table, asks, least, most, two_bits};
 use model::ABSENT;
 
 // The greatest word of a Cat's scalars, a bit a piece.
@@ -81,12 +80,13 @@ fn half_part(recs: &[u32], p: usize) -> bool
 }
 
 // 5: a slot is no register below R, or wrongly absent or present.
-#[tactic(auto, unfolding(crate::specs::Causes::bad_regs))]
+#[tactic(auto, using(inst::proofs::Resolved::asks_by), unfolding(crate::specs::Causes::bad_regs))]
 pub fn bad_regs_at(t: &Table, recs: &[u32], p: usize, regs: u32) -> bool
     requires { Known recs.now p }
     ensures { result ≡ bad_regs regs (inst recs.now p) }
 {
-    bad_slots(recs, p, regs, wanted(t, recs, p)) | half_part(recs, p)
+    let wanted = asks(t.row(kind(recs, p)), form(recs, p));
+    bad_slots(recs, p, regs, wanted) | half_part(recs, p)
 }
 
 // 8: a Cat's list is over 33.

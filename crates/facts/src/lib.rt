@@ -1,9 +1,6 @@
 // The facts of a chain (01, "What changes shape": "`Run`'s facts become one record per position, in a lent list marked in place").
 #![tactic(auto)]
 
-ghost use Rattle.std.specs.Prelude.{◌≡◌, ◌<◌, length, get_or, set};
-ghost use Rattle.facts.specs.Marks.{no_fact, marked, cleared};
-
 // What is known of one position: its record's number; class 0 No, 1 Movable, 2 Free; where its value points, as an origin's number;
 // the memory it writes, and reads, as 0 for none or an origin and 1 (the pieces of a Cat are 4294967295, to be looked up again); the
 // first register it writes and the first two it reads, or absent; whether it reads or writes more; whether its value is a length, and
@@ -27,36 +24,4 @@ pub struct Fact {
     pub barrier: bool,
     pub suspends: bool,
     pub member: bool,
-}
-
-// The fact of position p.
-pub fn fact_at(facts: &[Fact], p: usize) -> Fact
-    requires { p < length facts.now }
-    ensures { result ≡ get_or facts.now p no_fact }
-{
-    facts[p]
-}
-
-// Position p has the fact f.
-pub fn put(facts: &mut [Fact], p: usize, f: Fact)
-    requires { p < length facts.old }
-    ensures { facts.new ≡ set facts.old p f }
-{
-    facts[p] = f;
-}
-
-// Position p is no longer in the set.
-pub fn clear_member(facts: &mut [Fact], p: usize)
-    requires { p < length facts.old }
-    ensures { facts.new ≡ set facts.old p (cleared (get_or facts.old p no_fact)) }
-{
-    facts[p].member = false;
-}
-
-// Position p is in the set if b says so, and else no longer.
-pub fn set_member(facts: &mut [Fact], p: usize, b: bool)
-    requires { p < length facts.old }
-    ensures { facts.new ≡ set facts.old p (marked (get_or facts.old p no_fact) b) }
-{
-    facts[p].member = b;
 }

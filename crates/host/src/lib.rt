@@ -5,26 +5,12 @@
 pub mod run; // run.rt: the call on a picture in bytes
 
 ghost use Rattle.std.specs.Prelude.{◌≡◌, ◌≤◌, length};
-ghost use Rattle.model.specs.Pass.{number};
 ghost use Rattle.host.specs.Host.{returned, written};
 
 use crate::run::sink_bytes;
-use model::Answer;
 
 // The number for anything unread or past the bounds.
 const UNREAD: u32 = 300;
-
-// The number that an answer is for the host.
-fn number(answer: Answer) -> u32
-    requires { number answer ≤ 300 }
-    ensures { result ≡ number answer }
-{
-    match answer {
-        Answer::Done(u) => u.rounds,
-        Answer::Short(u) => 100 + u.rounds,
-        Answer::Refused(r) => 200 + r.number(),
-    }
-}
 
 // The rounds for done, 100 more for short, 200 plus the number for a refusal, 300 for anything unread or past the bounds. Done and
 // short write the new picture at the head of `res`; nothing else is written.
@@ -35,5 +21,5 @@ pub fn virdzeba_sink(picture: &[u8], res: &mut [u8], registers: u32, operands: u
     let Some(ran) = sink_bytes(picture, res, registers as usize, operands as usize) else {
         return UNREAD;
     };
-    number(ran.answer)
+    ran.answer.number()
 }

@@ -11,7 +11,7 @@ use lib.ListN.{get_or, length}
 use Rattle.words.proofs.Bools.{or_left, or_right}
 use Rattle.model.specs.Kinds.{Role, writing}
 use Rattle.model.specs.Picture.{Inst, inst, absent, roles, slots, chosen, list_of, reads, writes}
-use Rattle.inst.specs.declared.access.Firsts.{Firsts}
+use Rattle.inst.specs.declared.scanned.Firsts.{Firsts}
 use Rattle.inst.specs.Table.{two_bits}
 use Rattle.inst.specs.Record.{Used, read_at, write_at, later, present, rest_reads, rest_writes}
 use Rattle.inst.specs.Firsts.{Heads}

@@ -1,6 +1,6 @@
 -- A row resolved at a form says what `model`'s roles do and ask, slot by slot. Assumes nothing.
 use mathlib.Core.Bool.{true, false}
-use mathlib.Core.Path.{◌≡◌, refl}
+use mathlib.Core.Path.{◌≡◌, refl, ◌∙◌}
 use mathlib.Core.List.{List, [], ◌∷◌, map}
 use Prim.Native.Nat.{ℕ, zero, suc, ◌<◌, ◌≤◌}
 use native.Mathlib.Omega.{arith}
@@ -115,6 +115,14 @@ uses_resolved i = spread_is does (form i) (acts (form i)) (record { none = acts_
 pub asks_resolved : (i : Inst) → spread (wants (form i)) (packed (kind i)) ≡ asks_of i
 unfolding asks_of
 asks_resolved i = spread_is asks (form i) (wants (form i)) (record { none = wants_none (form i); slot = wants_slot (form i) }) (get_or i 0 0)
+
+-- both where the kind k and the form f were read first
+module _ (i : Inst) {k f : ℕ} (ek : k ≡ get_or i 0 0) (ef : f ≡ form i) {u : ℕ} where
+  pub uses_by : u ≡ spread (acts f) (packed (kind_of k)) → u ≡ uses_of i
+  uses_by e = e ∙ rw (ek, ef) (uses_resolved i)
+
+  pub asks_by : {x : ℕ} → x ≡ packed (kind_of k) → u ≡ spread (wants f) x → u ≡ asks_of i
+  asks_by ex e = e ∙ rw (ex, ek, ef) (asks_resolved i)
 
 -- ---- what a resolved row says of slot s
 

@@ -1,7 +1,7 @@
 -- The first registers of those that a record reads and of those that it writes, as the struct `Firsts` holds them. Assumes nothing.
 use Rattle.std.specs.Prelude.{◌≡◌, List, ℕ, get_or}
 use Rattle.model.specs.Picture.{absent}
-use Rattle.inst.specs.declared.access.Firsts.{Firsts}
+use Rattle.inst.specs.declared.scanned.Firsts.{Firsts}
 
 -- x has the first three of rs and the first two of ds, absent where there is none
 pub record Heads (rs ds : List ℕ) (x : Firsts) : Type 0 where

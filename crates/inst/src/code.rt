@@ -7,7 +7,7 @@ ghost use Rattle.inst.specs.Record.{Known, Used, Listed, uses_of, asks_of, read_
 ghost use Rattle.inst.specs.Firsts.{Heads};
 ghost use Rattle.inst.specs.Index.{reg_of};
 
-use crate::access::Firsts;
+use crate::scanned::Firsts;
 use crate::index::Reg;
 use crate::record::{form, kind, list_len, list_start, slot};
 use crate::table::{Table, asks, two_bits};
@@ -51,14 +51,6 @@ impl<'a> Code<'a> {
             p,
             does: self.table.used(kind(self.recs, p), form(self.recs, p)),
         }
-    }
-
-    // What the slots of record p ask, 2 bits a slot.
-    pub fn wanted(&self, p: usize) -> u32
-        requires { Known self.now.recs.now p }
-        ensures { result ≡ asks_of (inst self.now.recs.now p) }
-    {
-        asks(self.row(p), form(self.recs, p))
     }
 
     // The operands in the list of record p.

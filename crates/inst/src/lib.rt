@@ -5,7 +5,7 @@
 pub mod table; // table.rt: the table of roles, and a row of it
 pub mod kinds; // kinds.rt: the kinds that code names
 pub mod record; // record.rt: a record's words
-pub mod access; // access.rt: which registers a record reads and writes
+pub mod scanned; // scanned.rt: the first registers that a record reads and writes
 pub mod code; // code.rt: the records with the table and the operands, and the slots of one
 pub mod constant; // constant.rt: the constant that a record holds
 pub mod index; // index.rt: register numbers and block numbers

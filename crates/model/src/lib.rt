@@ -6,7 +6,8 @@ ghost use Rattle.std.specs.Prelude.{◌≡◌, ◌≤◌};
 ghost use Rattle.model.specs.Numbered.{number_of};
 ghost use Rattle.model.specs.Pass.{number, rounds};
 
-// What a slot holds that names no register (document 01, "The call": "absent").
+// What a slot holds that names no register (document 01, "The call": "absent"). A word of the picture, and of the lists and work words
+// that C lends, so it is no `Option`; code that only passes a register on says `Option<Reg>`.
 pub const ABSENT: u32 = 4294967295;
 
 // How many positions a chain may have, and so how many facts are lent at least (document 01, "A round", "What changes shape").

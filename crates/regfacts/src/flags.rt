@@ -11,7 +11,6 @@ ghost use Rattle.regfacts.specs.Written.{put_in, Fits, Written};
 ghost use Rattle.regfacts.specs.Flags.{noted, many, Soles, flags_of, flags_in, is_length, sole_of, Found};
 
 use crate::written::{change, change_written};
-use inst::access::later;
 use inst::code::Code;
 use inst::constant::{Constant, decode};
 use inst::kinds::ADDR_OF;
@@ -20,7 +19,7 @@ use inst::record::{form, kind};
 // A register's word counts what stands over its flags by this.
 pub const FLAGS: u64 = 16;
 
-// The word of a register that more than one record writes.
+// The word of a register that more than one record writes: one of the words that are lent for the registers, so it is no `Option`.
 const SEVERAL: u64 = 4294967295;
 
 // The least and the greatest length, -2^40 and 2^40.
@@ -49,7 +48,7 @@ fn note_record(code: &Code, regs: &mut [u64], p: usize)
 {
     let slots = code.slots(p);
     let n = p as u64;
-    if later(slots.does) {
+    if slots.writes_later() {
         change_written(&slots, regs, |v| next(v, n));
         return;
     }

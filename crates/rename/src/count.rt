@@ -11,7 +11,7 @@ ghost use Rattle.rename.specs.Counts.{CountAsk, Counted, CountedOwn, CountX, Cou
 
 use crate::lists::changes;
 use crate::names::{forget, put};
-use crate::parts::{Head, Part, part_at};
+use crate::parts::{Part, Walk, part_at};
 use inst::code::Code;
 use std::ops::Range;
 
@@ -42,14 +42,14 @@ fn count_pass(code: &Code, q: usize, names: &mut [u64], k: Part) -> usize
 }
 
 // The positions of x.
-pub fn count_x(code: &Code, x: Head, names: &mut [u64], w: &[u32]) -> usize
-    requires { Exists (λ u. CountX u x.from x.count names.old code.now.recs.now code.now.ops.now w.now) }
-    ensures { CountedX x.from x.count names.old names.new code.now.recs.now code.now.ops.now w.now result }
+pub fn count_x(code: &Code, walk: &Walk, names: &mut [u64]) -> usize
+    requires { Exists (λ u. CountX u walk.now.from walk.now.inside names.old code.now.recs.now code.now.ops.now walk.now.w.now) }
+    ensures { CountedX walk.now.from walk.now.inside names.old names.new code.now.recs.now code.now.ops.now walk.now.w.now result }
 {
     let mut n = 0;
-    for p in 0..x.count {
-        let k = part_at(w, p, names.len());
-        n += count_pass(code, x.from + p, names, k);
+    for p in 0..walk.inside {
+        let k = part_at(walk.w, p, names.len());
+        n += count_pass(code, walk.from + p, names, k);
     }
     n
 }
@@ -65,9 +65,9 @@ fn count_own(code: &Code, q: usize, names: &mut [u64]) -> usize
 }
 
 // The target's records s, behind n operands that were counted before.
-pub fn count_target(code: &Code, s: Range<usize>, names: &mut [u64], n: usize) -> usize
-    requires { Exists (λ u. CountOwn u s.start s.end names.old code.now.recs.now code.now.ops.now) × (n ≤ 4294967295 * 65536) }
-    ensures { (result ≡ n + length (appended code.now.ops.now (target_jobs (named names.old) code.now.recs.now s.start s.end))) × (result ≤ 4294967295 * 131072) }
+pub fn count_target(code: &Code, s: &Range<usize>, names: &mut [u64], n: usize) -> usize
+    requires { Exists (λ u. CountOwn u s.now.start s.now.end names.old code.now.recs.now code.now.ops.now) × (n ≤ 4294967295 * 65536) }
+    ensures { (result ≡ n + length (appended code.now.ops.now (target_jobs (named names.old) code.now.recs.now s.now.start s.now.end))) × (result ≤ 4294967295 * 131072) }
 {
     let mut k = n;
     for q in s.start..s.end {

@@ -13,7 +13,7 @@ use model::ABSENT;
 // How many words of 32 bits there are.
 const WORDS: u64 = 4294967296;
 
-// No new name.
+// No new name, as a word of those lent.
 const NONE: u64 = ABSENT as u64;
 
 fn low(x: u64) -> u32

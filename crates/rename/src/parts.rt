@@ -1,9 +1,10 @@
-// What the walk goes by, as values: the words of a position, and where the two blocks lie.
+// What the walk goes by, as values: the words of a position, and where the two blocks and the chain lie.
 ghost use Rattle.std.specs.Prelude.{◌+◌, ◌*◌, ◌≤◌, length};
 ghost use Rattle.rename.specs.Runs.{Parted};
 
 use inst::index::Reg;
 use position::{DEF, MARK, NEW, PLACE};
+use std::ops::Range;
 
 // A position of x: its mark, the register that it writes, and the word of the one that it gets in its place. That one is no `Reg`:
 // it is written, and nothing goes by it.
@@ -14,11 +15,15 @@ pub struct Part {
     pub new: u32,
 }
 
-// The positions of x: `count` records from `from` on. (No range of records: it is the count that the positions go by.)
-#[derive(Clone, Copy)]
-pub struct Head {
+// What is walked: x's first `inside` records from `from` on; then the chain's other positions, of `places` in all, whose words are w; and
+// the target's records. (No range of records for x: it is the count that the positions go by.)
+#[derive(Drop)]
+pub struct Walk<'a> {
     pub from: usize,
-    pub count: usize,
+    pub inside: usize,
+    pub places: usize,
+    pub target: Range<usize>,
+    pub w: &'a [u32],
 }
 
 // Position p, where names has `count` words.

@@ -4,28 +4,20 @@ ghost use Rattle.std.specs.Prelude.{◌≡◌, ◌<◌};
 ghost use Rattle.rename.specs.Names.{Exists, Fit, Remade};
 
 use crate::lists::{append, changes};
-use crate::slots::rename_slots;
+use crate::slots::{Anew, rename_slots};
 use inst::record::{list_len, list_start};
 
 // Record p, where o operands are in use. Returns how many are in use then.
-pub fn remake(
-    recs: &mut [u32],
-    p: usize,
-    uses: u32,
-    ops: &mut [u32],
-    o: usize,
-    names: &[u64],
-    nw: u32,
-) -> usize
-    requires { Exists (λ u. Fit p uses u o names.now nw recs.old ops.old) }
-    ensures { Remade p o names.now nw recs.old recs.new ops.old ops.new result }
+pub fn remake(recs: &mut [u32], p: usize, uses: u32, ops: &mut [u32], o: usize, anew: Anew) -> usize
+    requires { Exists (λ u. Fit p uses u o anew.names.now anew.new recs.old ops.old) }
+    ensures { Remade p o anew.entry.names.now anew.entry.new recs.old recs.new ops.old ops.new result }
 {
     let s = list_start(recs, p);
     let n = list_len(recs, p);
-    rename_slots(recs, p, uses, names, nw);
-    let c = changes(&ops[s..s + n], names);
+    rename_slots(recs, p, uses, anew);
+    let c = changes(&ops[s..s + n], anew.names);
     if c {
-        append(ops, s, n, o, names);
+        append(ops, s, n, o, anew.names);
         recs[16 * p + 7] = o as u32;
         return o + n;
     }

@@ -8,17 +8,19 @@ ghost use Rattle.rename.specs.Names.{Exists, named};
 ghost use Rattle.rename.specs.Runs.{Run, Pass, Passed, AskX, PassedX, AskRest, PassedRest, Owned, AskOwn, target_jobs};
 
 use crate::names::{forget, put};
-use crate::parts::{Head, Part, part_at};
+use crate::parts::{Part, Walk, part_at};
 use crate::remake::remake;
-use inst::access::uses;
+use crate::slots::Anew;
 use inst::code::{Code, Slots};
+use inst::record::{form, kind};
 use inst::table::Table;
 use model::ABSENT;
 use position::PLACE;
 use std::ops::Range;
 
 // Record q of x, which is position k: a kept one's writes keep their names; a member is made anew, and the register that it wrote has
-// a new name.
+// a new name. (Seven parameters: of the three slices that are written no struct is made, since one that is lent on in each turn gets no
+// proof.)
 fn pass(
     t: &Table,
     recs: &mut [u32],
@@ -31,13 +33,14 @@ fn pass(
     requires { Exists (λ u. Pass q u o names.old k.mark (word_of k.def) k.new recs.old ops.old) × Among (length names.old) k.def }
     ensures { Passed q o k.mark (word_of k.def) k.new names.old names.new recs.old recs.new ops.old ops.new result }
 {
-    let does = uses(t, recs, q);
+    let does = t.used(kind(recs, q), form(recs, q));
     if k.mark == 0 {
         let slots = Slots { recs, p: q, does };
         forget(&slots, names);
         return o;
     }
-    let r = remake(recs, q, does, ops, o, names, k.new);
+    let anew = Anew { names, new: k.new };
+    let r = remake(recs, q, does, ops, o, anew);
     put(names, k.def, k.new);
     r
 }
@@ -46,30 +49,29 @@ fn pass(
 pub fn pass_all(
     t: &Table,
     recs: &mut [u32],
-    x: Head,
+    walk: &Walk,
     ops: &mut [u32],
     u: usize,
     names: &mut [u64],
-    w: &[u32],
 ) -> usize
-    requires { AskX u x.from x.count names.old recs.old ops.old w.now }
-    ensures { PassedX u x.from x.count names.old names.new recs.old recs.new ops.old ops.new w.now result }
+    requires { AskX u walk.now.from walk.now.inside names.old recs.old ops.old walk.now.w.now }
+    ensures { PassedX u walk.now.from walk.now.inside names.old names.new recs.old recs.new ops.old ops.new walk.now.w.now result }
 {
     let mut n = u;
-    for p in 0..x.count {
-        let k = part_at(w, p, names.len());
-        n = pass(t, recs, x.from + p, ops, n, names, k);
+    for p in 0..walk.inside {
+        let k = part_at(walk.w, p, names.len());
+        n = pass(t, recs, walk.from + p, ops, n, names, k);
     }
     n
 }
 
-// The positions s of the chain, all kept.
-pub fn skip_all(code: &Code, w: &[u32], s: Range<usize>, names: &mut [u64])
-    requires { Exists (λ u. AskRest u s.start s.end names.old code.now.recs.now w.now) }
-    ensures { PassedRest s.start (s.end - s.start) names.old names.new code.now.recs.now w.now }
+// The chain's other positions, all kept.
+pub fn skip_all(code: &Code, walk: &Walk, names: &mut [u64])
+    requires { Exists (λ u. AskRest u walk.now.inside walk.now.places names.old code.now.recs.now walk.now.w.now) }
+    ensures { PassedRest walk.now.inside (walk.now.places - walk.now.inside) names.old names.new code.now.recs.now walk.now.w.now }
 {
-    for p in s.start..s.end {
-        forget(&code.slots(w[PLACE * p] as usize), names);
+    for p in walk.inside..walk.places {
+        forget(&code.slots(walk.w[PLACE * p] as usize), names);
     }
 }
 
@@ -78,8 +80,9 @@ fn own(t: &Table, recs: &mut [u32], q: usize, ops: &mut [u32], o: usize, names: 
     requires { Exists (λ u. Pass q u o names.old 1 absent absent recs.old ops.old) }
     ensures { Owned q o names.old names.new recs.old recs.new ops.old ops.new result }
 {
-    let does = uses(t, recs, q);
-    let r = remake(recs, q, does, ops, o, names, ABSENT);
+    let does = t.used(kind(recs, q), form(recs, q));
+    let anew = Anew { names, new: ABSENT };
+    let r = remake(recs, q, does, ops, o, anew);
     let slots = Slots { recs, p: q, does };
     forget(&slots, names);
     r
@@ -89,13 +92,13 @@ fn own(t: &Table, recs: &mut [u32], q: usize, ops: &mut [u32], o: usize, names: 
 pub fn own_all(
     t: &Table,
     recs: &mut [u32],
-    s: Range<usize>,
+    s: &Range<usize>,
     ops: &mut [u32],
     o: usize,
     names: &mut [u64],
 ) -> usize
-    requires { Exists (λ u. AskOwn u o s.start s.end names.old recs.old ops.old) }
-    ensures { Run o (range s.start (s.end - s.start)) (target_jobs (named names.old) recs.old s.start s.end) recs.old recs.new ops.old ops.new result }
+    requires { Exists (λ u. AskOwn u o s.now.start s.now.end names.old recs.old ops.old) }
+    ensures { Run o (range s.now.start (s.now.end - s.now.start)) (target_jobs (named names.old) recs.old s.now.start s.now.end) recs.old recs.new ops.old ops.new result }
 {
     let mut n = o;
     for q in s.start..s.end {

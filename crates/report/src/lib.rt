@@ -12,7 +12,6 @@ use crate::text::{put_answer, put_lines};
 use arrayvec::ArrayString;
 use host::run::sink_bytes;
 use layout::{OPERANDS, PICTURE_BYTES, REGISTERS};
-use model::Answer;
 use rounds::state::Ran;
 
 // Room for a text: two headings, at most eight lines, and the answer take 602 bytes.
@@ -21,22 +20,12 @@ pub const TEXT_BYTES: usize = 640;
 // What is printed.
 pub type Text = ArrayString<TEXT_BYTES>;
 
-// The rounds done.
-fn rounds(answer: Answer) -> usize
-    ensures { result ≡ rounds answer }
-{
-    match answer {
-        Answer::Done(u) | Answer::Short(u) => u.rounds as usize,
-        Answer::Refused(_) => 0,
-    }
-}
-
 // What comes behind the heading of a call that was run.
 fn put_ran(out: &mut Text, ran: &Ran)
     requires { (rounds ran.now.answer ≤ 8) × (array_string_len out.old ≤ 41) }
     ensures { out.new.bytes ≡ out.old.bytes ++ ran_text ran.now.answer ran.now.lines }
 {
-    put_lines(out, &ran.lines[..6 * rounds(ran.answer)]);
+    put_lines(out, &ran.lines[..6 * ran.answer.rounds() as usize]);
     out.push_str("answer rounds\n");
     put_answer(out, ran.answer);
 }

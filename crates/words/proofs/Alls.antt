@@ -14,7 +14,7 @@ use borrow.Author.Tests.{not-true, not-false}
 use Rattle.words.specs.Lists.{range, upto, all, any, mem}
 use Rattle.words.proofs.Bools.{T_true, true_T, clash, or_mono, and_mono, bool_ext, not_true_is_false}
 use Rattle.words.proofs.Lists.{range_snoc}
-use Rattle.words.proofs.Members.{all_in, all_of, any_in, any_of, any_no, no_any, in_range, range_in, in_get_or, in_index}
+use Rattle.words.proofs.Members.{all_in, all_of, any_in, any_no, no_any, in_range, range_in, in_get_or, in_index}
 
 -- ---- a range
 
@@ -44,13 +44,6 @@ module _ {A : Type 0} (f : A → Bool) where
       (λ t. all_range (λ i. f (get_or xs i d)) 0 (length xs) (λ q a b. all_in f (get_or xs q d) xs t (in_get_or d xs q (omega arith))))
       (λ t. all_of f xs (λ a i. let z = in_index d a xs i in
       subst (λ (y : A). T (f y)) z.2 (all_in (λ i. f (get_or xs i d)) z.0 (upto (length xs)) t (in_range z.0 0 (length xs) (omega arith) (let h = z.1 in omega arith)))))
-
-  pub any_places : (d : A) (xs : List A) → any f xs ≡ any (λ i. f (get_or xs i d)) (upto (length xs))
-  any_places d xs = bool_ext (any f xs) (any (λ i. f (get_or xs i d)) (upto (length xs)))
-      (λ t. let z = any_of f xs t in let y = in_index d z.0 xs z.1 in
-      any_in (λ i. f (get_or xs i d)) y.0 (upto (length xs)) (in_range y.0 0 (length xs) (omega arith) (let h = y.1 in omega arith)) (subst (λ (a : A). T (f a)) (sym y.2) z.2))
-      (λ t. let z = any_of (λ i. f (get_or xs i d)) (upto (length xs)) t in let y = range_in z.0 0 (length xs) z.1 in
-      any_in f (get_or xs z.0 d) xs (in_get_or d xs z.0 (let h = y.1 in omega arith)) z.2)
 
 pub any_more : (f : ℕ → Bool) (k : ℕ) → any f (upto (k + 1)) ≡ (any f (upto k) || f k)
 any_more f k =

@@ -3,12 +3,12 @@ use mathlib.Core.Path.{◌≡◌, refl, sym, ap, ◌∙◌}
 use mathlib.Core.Logic.{◌⊎◌, inl, inr, ⊎_elim}
 use mathlib.Core.List.{List, [], ◌∷◌, ◌++◌}
 use Prim.Native.Nat.{ℕ, zero, suc, ◌+◌, ◌-◌, ◌*◌, ◌/◌, ◌%◌, ◌≤◌, ◌<◌}
-use native.Mathlib.Nat.{le_trans, le_of_eq, suc-mul, mul-le-mul, mul-le-mul_right, eq-or-lt_of_le, le_of_suc-le-suc}
+use native.Mathlib.Nat.{le_trans, le_of_eq, suc-mul, mul-le-mul_right, eq-or-lt_of_le, le_of_suc-le-suc}
 use native.Mathlib.Numerals.{add-one}
 use native.Mathlib.Omega.{arith}
 use lib.Arith.{digits_div, digits_mod}
 use lib.ListN.{length, take, drop, get_or, set, length-drop}
-use lib.Seq.{take-suc, take-suc-set, drop-set-lt, drop-set-add, take-set-le, get_or-drop, get_or-take, take_all, take-take, take_at, drop_at, length-take-le}
+use lib.Seq.{take-suc, take-suc-set, drop-set-add, get_or-drop, get_or-take, take_all, take-take, take_at, drop_at, length-take-le}
 use borrow.Rule.Slice.PartMut.{mid_of, post_of, put_mid}
 
 module _ {A : Type 0} where
@@ -25,14 +25,6 @@ module _ {A : Type 0} where
   part_first (suc s) n (suc m) (x ∷ xs) h = part_first s n m xs (omega arith)
 
   -- ---- a part after a store
-
-  pub part_below : (a n : ℕ) (xs : List A) (i : ℕ) (v : A) → i < a → take n (drop a (set xs i v)) ≡ take n (drop a xs)
-  part_below a n xs i v h = ap (take n) (drop-set-lt a xs i v h)
-
-  pub part_above : (a n : ℕ) (xs : List A) (i : ℕ) (v : A) → a + n ≤ i → take n (drop a (set xs i v)) ≡ take n (drop a xs)
-  part_above a n xs i v h =
-      let e : i ≡ a + (i - a) = omega arith in
-      ap (λ (j : ℕ). take n (drop a (set xs j v))) e ∙ ap (take n) (drop-set-add a xs (i - a) v) ∙ take-set-le n (drop a xs) (i - a) v (omega arith)
 
   -- one more element: stored, or as it was
   pub part_push : (a n : ℕ) (xs : List A) (v : A) → a + n < length xs → take (n + 1) (drop a (set xs (a + n) v)) ≡ take n (drop a xs) ++ (v ∷ [])
@@ -56,10 +48,6 @@ module _ {A : Type 0} where
 
 pub row_fits : {t n : ℕ} (w : ℕ) → t < n → t * w + w ≤ n * w
 row_fits {t} w h = le_trans (le_of_eq (sym (suc-mul t w))) (mul-le-mul_right w h)
-
--- four rows a block are few words (01, "The call", cause 10)
-pub rows_small : {b w : ℕ} → b ≤ 4096 → w ≤ 1024 → 4 * b * w ≤ 16777216
-rows_small {b} h k = let z : 4 * b ≤ 16384 = omega arith in mul-le-mul z k
 
 -- a cell is in one row, at one place
 pub cell_inj : {w b i b' i' : ℕ} → i < w → i' < w → b' * w + i' ≡ b * w + i → (b' ≡ b) × (i' ≡ i)

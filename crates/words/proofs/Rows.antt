@@ -7,18 +7,16 @@ use native.Mathlib.Nat.{le_of_suc-le-suc, not-suc-le-zero, mul_assoc, mul_comm}
 use native.Mathlib.Decide.{ℕ_discrete}
 use native.Mathlib.Omega.{arith}
 use lib.Bits.{bit_and, bit_or}
-use lib.Count.{ones}
 use lib.Dec.{eqb, eqb→eq}
 use lib.ListN.{length, get_or, set, take, replicate, length-set, get_or-eq_default}
 use lib.Seq.{get_or-set_same, get_or-set_other, set_out}
 use borrow.Author.Tests.{eq-eqb, ne_eqb}
-use Rattle.std.proofs.lemmas.List.Sums.{sum_by-set}
-use Rattle.words.specs.Bits.{digit, digit_in, is_in, set_bit, unset_bit, ones_in, room}
+use Rattle.words.specs.Bits.{digit, digit_in, is_in, set_bit, unset_bit, room}
 use Rattle.words.specs.Lists.{hit}
 use Rattle.words.proofs.Bools.{true_T, both, left, right, bool_ext, hit_or, hit_and, hit_not, hit_inj}
 use Rattle.words.proofs.Lists.{get_or_zeros, front_same}
 use Rattle.words.proofs.Parts.{cell_inj}
-use Rattle.words.proofs.Digits.{digit_le, digit_zero, digit_put, digit_take, ones_put, shl_one}
+use Rattle.words.proofs.Digits.{digit_le, digit_zero, digit_put, digit_take, shl_one}
 
 pub digit_in_le : (ws : List ℕ) (r : ℕ) → digit_in ws r ≤ 1
 unfolding digit_in
@@ -145,13 +143,6 @@ unfolding unset_bit
 unset_past ws at r h = set_out ws ((64 * at + r) / 64) _ (omega arith)
 
 -- ---- measures
-
--- a number that is put in is one more, if it was not there
-pub ones_set : (ws : List ℕ) (r : ℕ) → r < 64 * length ws → ones_in (set_bit ws r) ≡ ones_in ws + (1 - digit_in ws r)
-unfolding set_bit digit_in
-ones_set ws r h =
-    let w : ℕ = get_or ws (r / 64) 0 in
-    omega (arith, sum_by-set ones ws (r / 64) (bit_or w (2 ^ (r % 64))) 0 (omega arith), ones_put w (r % 64))
 
 pub room_set : (l : List ℕ) (p v : ℕ) → p < length l → room (set l p v) + (2 ^ 64 - get_or l p 0) ≡ room l + (2 ^ 64 - v)
 unfolding room

@@ -1,8 +1,6 @@
-// The lowest crate: numbers of other widths, parts of words, rows of bits in lent words, words in lent bytes. Its proofs/
-// are also the one home for laws on lists, tests, bits, loops and parts that the toolchain lacks.
+// The lowest crate: rows of bits in lent words, and words in lent bytes. Its proofs/ are also the one home for laws on lists, tests,
+// bits, loops and parts that the toolchain lacks.
 #![tactic(auto)]
 
 pub mod bits;
 pub mod bytes;
-pub mod numbers;
-pub mod slices;

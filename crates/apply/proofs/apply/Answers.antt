@@ -8,8 +8,8 @@ use Rattle.apply.proofs.apply.Goals as goal
 pub start-requires : goal.start-requires
 start-requires c = x_words c.requires.t_value
 
-pub target-s-requires : goal.target-s-requires
-target-s-requires c = t_words c.requires.t_value
+pub target-requires : goal.target-requires
+target-requires c = t_words c.requires.t_value
 
 pub add_types-requires : goal.add_types-requires
 add_types-requires c = types_fit c.requires.t_value c.requires.fits.0
@@ -20,8 +20,8 @@ rename_all-requires c =
     let m = g.m in
     let k = c.requires.t_value in
     let el = c.start.ensures in
-    let ea = c.target-s.ensures.start in
-    let ee = c.target-s.ensures.end in
+    let ea = c.target.ensures.start in
+    let ee = c.target.ensures.end in
     let room = room_at m.from.0 m.into.0 m.inside m.places g.c.opers g.bounds.now g.recs.now g.ops.now g.w.now el ea ee c.requires.fits.0.opers in
     record {
       t_value = (ask_at k el ea ee);
@@ -30,7 +30,7 @@ rename_all-requires c =
 
 pub move_all-requires : goal.move_all-requires
 move_all-requires c =
-    move_at c.requires.t_value _ _ _ refl c.requires.fits.1 c.rename_all.ensures.size c.start.ensures c.target-s.ensures.start
+    move_at c.requires.t_value _ _ _ refl c.requires.fits.1 c.rename_all.ensures.size c.start.ensures c.target.ensures.start
 
 pub count-requires : goal.count-requires
 count-requires c =
@@ -42,5 +42,5 @@ move_bounds-requires c = bounds_at c.requires.t_value c.count.ensures
 
 pub returns : goal.returns
 returns c =
-    apply_law c.requires.t_value c.start.ensures c.target-s.ensures.start c.target-s.ensures.end c.count.ensures c.add_types.ensures.0
+    apply_law c.requires.t_value c.start.ensures c.target.ensures.start c.target.ensures.end c.count.ensures c.add_types.ensures.0
     c.rename_all.ensures c.move_all.ensures c.requires.fits.1.each_or_none c.move_bounds.ensures

@@ -8,8 +8,8 @@ use Rattle.regfacts.proofs.Soles.{noted_twice}
 use Rattle.regfacts.proofs.Writing.{slot_made, writing_one}
 use Rattle.regfacts.proofs.flags.note_record.Goals as goal
 
-pub returns-then-later : goal.returns-then-later
-returns-then-later c =
+pub returns-then-writes_later : goal.returns-then-writes_later
+returns-then-writes_later c =
     rw (c.slots-slots.ensures.recs, c.slots-slots.ensures.place) at
     (c.change_written.ensures (noted c.args.p) (record { made = λ x y h. search rules }) (λ v. noted_twice _ v c.requires.0))
 
@@ -22,7 +22,7 @@ returns c =
     let made = slot_made fits (omega arith) refl (rw (c.slots-slots.ensures.recs, c.slots-slots.ensures.place) at c.write.ensures) in
     let used = rw (c.slots-slots.ensures.recs, c.slots-slots.ensures.place) at c.slots-slots.result.used in
     writing_one _ (λ v. noted_twice _ v c.requires.0) _ _
-    (one_write _ _ _ used (sym c.later.ensures ∙ c.if-later.false) _ made.1)
+    (one_write _ _ _ used (sym c.writes_later.ensures ∙ c.if-writes_later.false) _ made.1)
     (rw made.1 (fits.slot 0 (omega arith)))
     fits.room
     (c.change.ensures (noted c.args.p) (record { made = λ x y h. search rules }))

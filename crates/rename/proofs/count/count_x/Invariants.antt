@@ -3,4 +3,4 @@ use Rattle.rename.proofs.Counting.{CountingX}
 use Rattle.rename.proofs.count.count_x.Given as goal
 
 abbrev pub invariant-loop-p : goal.invariant-loop-p
-invariant-loop-p l = CountingX l.x.from l.x.count l.initial.names l.names l.code.recs.now l.code.ops.now l.w l.n l.p
+invariant-loop-p l = CountingX l.walk.from l.walk.inside l.initial.names l.names l.code.recs.now l.code.ops.now l.walk.w.now l.n l.p

@@ -20,9 +20,9 @@ loop-s-preserved c =
     let i = c.loop-s in
     let taken = c.loop-s-test.true in
     let here = sym (i.invariant.later (16 * a.p + 2 + i.s) (omega arith)) in
-    let ok = subst (λ (k : ℕ). (k ≡ 4294967295 → ⊥) → k < length a.names.now) here (c.requires.by_index i.s taken) in
+    let ok = subst (λ (k : ℕ). (k ≡ 4294967295 → ⊥) → k < length a.anew.names.now) here (c.requires.by_index i.s taken) in
     let word = word_made _ _ c.new-r.ensures refl ok in
-    let v = c.slot_word.ensures ∙ ap (λ (k : ℕ). slotted c.two_bits-does.result a.names.now a.nw k) word in
+    let v = c.slot_word.ensures ∙ ap (λ (k : ℕ). slotted c.two_bits-does.result a.anew.names.now a.anew.new k) word in
     slotted_more i.invariant taken c.requires.used.0.within.whole c.two_bits-does.ensures v
 
 pub returns : goal.returns

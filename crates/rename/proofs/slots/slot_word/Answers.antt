@@ -16,13 +16,13 @@ pub returns-then-does-eq1 : goal.returns-then-does-eq1
 returns-then-does-eq1 c =
     let is = c.in-Some.is in
     let f = (a_reg is c.requires).1 in
-    c.name.ensures ∙ ap (named c.args.names.now) (sym (ap word_of is)) ∙ sym (slot_read _ _ _ _ f c.if-does-eq1.true)
+    c.name.ensures ∙ ap (named c.args.anew.names.now) (sym (ap word_of is)) ∙ sym (slot_read _ _ _ _ f c.if-does-eq1.true)
 
 pub returns-then-does-eq2 : goal.returns-then-does-eq2
 returns-then-does-eq2 c =
     let is = c.in-Some.is in
     let f = (a_reg is c.requires).1 in
-    let same = ap (reg_or c.args.nw) (c.number.ensures ∙ sym (ap word_of is)) in
+    let same = ap (reg_or c.args.anew.new) (c.number.ensures ∙ sym (ap word_of is)) in
     c.or.ensures ∙ same ∙ sym (slot_write _ _ _ _ f c.if-does-eq1.false c.if-does-eq2.true)
 
 pub returns : goal.returns

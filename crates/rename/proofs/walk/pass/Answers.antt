@@ -1,10 +1,11 @@
 -- `rename::walk::pass` meets its contract. Assumes nothing.
 use native.Mathlib.Omega.{arith}
+use Rattle.inst.proofs.Resolved.{uses_by}
 use Rattle.rename.proofs.Lines.{used_is, line_fit, written_ok, pass_kept, pass_moved}
 use Rattle.rename.proofs.walk.pass.Goals as goal
 
 pub invariant_of-slots : goal.invariant_of-slots
-invariant_of-slots c = record { used = used_is c.requires.0.is.line c.uses-does.ensures }
+invariant_of-slots c = record { used = used_is c.requires.0.is.line (uses_by _ c.kind.ensures c.form.ensures c.used-does.ensures) }
 
 pub forget-requires : goal.forget-requires
 forget-requires c = let l = c.requires.0.is.line in
@@ -14,7 +15,7 @@ pub returns-then-k-eq0 : goal.returns-then-k-eq0
 returns-then-k-eq0 c = pass_kept c.requires.0.is.line c.if-k-eq0.true c.forget.ensures
 
 pub remake-r-requires : goal.remake-r-requires
-remake-r-requires c = let p = c.requires.0 in record { u = p.u; is = line_fit p.is c.if-k-eq0.false c.uses-does.ensures }
+remake-r-requires c = let p = c.requires.0 in record { u = p.u; is = line_fit p.is c.if-k-eq0.false (uses_by _ c.kind.ensures c.form.ensures c.used-does.ensures) }
 
 pub returns : goal.returns
 returns c = pass_moved c.if-k-eq0.false c.remake-r.ensures c.requires.0.is.wrote_ok (omega arith) c.put.ensures

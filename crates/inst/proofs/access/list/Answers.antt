@@ -1,6 +1,0 @@
--- `inst::access::list` meets its contract. Assumes nothing.
-use Rattle.inst.proofs.Lists.{part_is}
-use Rattle.inst.proofs.access.list.Goals as goal
-
-pub returns : goal.returns
-returns c = part_is _ c.list_start-a.ensures c.list_len.ensures
