@@ -6,4 +6,4 @@ use Rattle.legality.proofs.rules.unneeded_slots.Goals as goal
 pub returns : goal.returns
 returns c =
     let a = c.args in
-    c.all_written.ensures (result_test a.regs.now a.bits.now a.o a.p) (record { each = λ m b h e. search rules })
+    c.all_written.ensures (result_test a.asked.now.regs.now a.asked.now.bits.now a.asked.now.at a.p) (record { each = λ m b h e. search rules })
