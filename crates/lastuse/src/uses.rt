@@ -13,7 +13,7 @@ use chains::chain::Chain;
 use chains::cursor::{first, next};
 use inst::code::Code;
 use inst::index::Reg;
-use legality::rules::unneeded_slots;
+use legality::rules::{Elsewhere, unneeded_slots};
 use model::RECORDS;
 use summary::reads::{SLOTS, read_place};
 use summary::stamps::{Stamp, put_slots};
@@ -94,7 +94,8 @@ pub fn last_use(
     requires { Known code.now.recs.now g × Fits code.now.recs.now (length regs.now) g × (p < n) × (n ≤ 800) × (o ≤ length bits.now) }
     ensures { result ≡ cond (all (result_test regs.now bits.now o p) (writes (inst code.now.recs.now g))) (get_or lasts.now p 0) n }
 {
-    if unneeded_slots(&code.slots(g), regs, bits, o, p) {
+    let asked = Elsewhere { regs, bits, at: o };
+    if unneeded_slots(&code.slots(g), &asked, p) {
         return lasts[p];
     }
     n as u32
