@@ -81,6 +81,3 @@ module _ {recs ops regs work ls : List ℕ} {fs : List Fact} {g : Sweep} where
           room = omega arith;
           low = omega arith;
         }
-
-    pub within : {i : ℕ} {work' ls' : List ℕ} {fs' : List Fact} {count : ℕ} → i < g.k → Swept recs ops regs g work ls fs i work' ls' fs' count → (place g i < length fs') × (i < g.span.n)
-    within {i} h s = let t = r.turns in let p = place_low g i (omega arith) in let l = r.long in let z = swept_long s in (omega arith, omega arith)

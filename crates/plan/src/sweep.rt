@@ -42,7 +42,7 @@ pub struct Sweep {
 // Turn i's position.
 fn place(g: Sweep, i: usize) -> usize
     requires { i < g.span.n }
-    ensures { result ≡ place g i }
+    ensures { (result ≡ place g i) × (result < g.span.n) }
 {
     match g.phase {
         Phase::Forth => i,

@@ -2,16 +2,16 @@
 use mathlib.Core.Path.{◌≡◌, sym, ap, ◌∙◌, subst}
 use mathlib.Core.Bool.{Bool}
 use mathlib.Core.List.{List}
-use Prim.Native.Nat.{ℕ, ◌+◌, ◌<◌}
+use Prim.Native.Nat.{ℕ, ◌+◌}
 use native.Mathlib.Omega.{arith}
-use lib.ListN.{get_or, length, set}
+use lib.ListN.{get_or, set}
 use Rattle.words.specs.Lists.{hit}
 use Rattle.words.proofs.Bools.{hit_le}
 use Rattle.facts.specs.declared.Fact.{Fact}
 use Rattle.facts.specs.Marks.{no_fact, marked}
 use Rattle.plan.specs.Sweep.{Swept, Visitable, Visit, place, counts}
 use Rattle.plan.specs.declared.sweep.Sweep.{Sweep}
-use Rattle.plan.proofs.Sweeping.{place_low, visitable, within, swept_count}
+use Rattle.plan.proofs.Sweeping.{visitable, swept_count}
 use Rattle.plan.proofs.sweep.run.Goals as goal
 
 turned : {recs ops regs work ls : List ℕ} {g : Sweep} {fs : List Fact} {i : ℕ} {work' ls' work'' ls'' : List ℕ} {fs' : List Fact} {count p n : ℕ} {stays : Bool}
@@ -25,32 +25,11 @@ turned {recs} {ops} {regs} {work} {ls} {g} {fs} {i} {work'} {ls'} {work''} {ls''
 pub loop-i-init : goal.loop-i-init
 loop-i-init c = Swept.none
 
-pub place-p-requires : goal.place-p-requires
-place-p-requires c = (within c.requires c.loop-i-test.true c.loop-i.invariant).1
-
-pub offset_bounds-facts-p : goal.offset_bounds-facts-p
-offset_bounds-facts-p c =
-    let low = place_low c.args.g c.loop-i.i (within c.requires c.loop-i-test.true c.loop-i.invariant).1 in
-    record { fits = omega (arith, low, c.place-p.ensures, c.requires.safe.few) }
-
-pub slice_copy_out-f : goal.slice_copy_out-f
-slice_copy_out-f c =
-    subst (λ (j : ℕ). j < length c.loop-i.facts) (sym c.place-p.ensures) (within c.requires c.loop-i-test.true c.loop-i.invariant).0
-
-pub offset_bounds-facts-p-in-loop-i : goal.offset_bounds-facts-p-in-loop-i
-offset_bounds-facts-p-in-loop-i c =
-    let low = place_low c.args.g c.loop-i.i (within c.requires c.loop-i-test.true c.loop-i.invariant).1 in
-    record { fits = omega (arith, low, c.place-p.ensures, c.requires.safe.few) }
-
-pub bounds-facts-p : goal.bounds-facts-p
-bounds-facts-p c =
-    subst (λ (j : ℕ). j < length c.loop-i.facts) (sym c.place-p.ensures) (within c.requires c.loop-i-test.true c.loop-i.invariant).0
-
 pub visit-stays-requires : goal.visit-stays-requires
 visit-stays-requires c =
     let a = c.args in
     let i = c.loop-i in
-    subst (λ (p : ℕ). Visitable a.given.now.code.recs.now a.given.now.code.ops.now a.given.now.regs.now i.work a.g (get_or i.facts p no_fact) p) (sym c.place-p.ensures)
+    subst (λ (p : ℕ). Visitable a.given.now.code.recs.now a.given.now.code.ops.now a.given.now.regs.now i.work a.g (get_or i.facts p no_fact) p) (sym c.place-p.ensures.0)
     (visitable c.requires c.loop-i-test.true i.invariant)
 
 pub overflow_add-count : goal.overflow_add-count
@@ -59,7 +38,7 @@ overflow_add-count c =
     omega (arith, one, hit_le c.counts.result, swept_count c.loop-i.invariant, c.loop-i-test.true, c.requires.turns, c.requires.safe.few)
 
 pub loop-i-preserved : goal.loop-i-preserved
-loop-i-preserved c = turned c.loop-i.invariant c.place-p.ensures c.visit-stays.ensures (c.from-count.ensures ∙ ap hit c.counts.ensures)
+loop-i-preserved c = turned c.loop-i.invariant c.place-p.ensures.0 c.visit-stays.ensures (c.from-count.ensures ∙ ap hit c.counts.ensures)
 
 pub returns : goal.returns
 returns c =
