@@ -2,11 +2,19 @@
 ghost use Rattle.std.specs.Prelude.{◌≡◌, not, ◌&&◌, ◌*◌, ◌<◌, length};
 ghost use Rattle.summary.specs.Passes.{fact_word, stay_test, Near, Forwarded, Written, Readable, Small};
 
-use crate::kept::Kept;
+use crate::kept::{Fences, Kept};
 use facts::Fact;
 use inst::code::Code;
 use summary::notes::forget;
 use summary::stamps::{MEMBER_AT, ORIGIN, Stamp, WRITER, put_writes};
+
+// What a sweep looks at and does not change: the records, and a word for each register in use, with what was known of it before round 1
+// and its last writer.
+#[derive(Clone, Copy)]
+pub struct Given<'a> {
+    pub code: Code<'a>,
+    pub regs: &'a [u32],
+}
 
 // What is stamped of a member, beside its origin.
 const IN_SET: u64 = WRITER + MEMBER_AT;
@@ -14,7 +22,7 @@ const IN_SET: u64 = WRITER + MEMBER_AT;
 // A member that keeps rules 3 to 6, the cheap ones first.
 fn may_stay(code: &Code, f: Fact, kept: &Kept, p: usize) -> bool
     requires { Readable code.now.recs.now code.now.ops.now (length kept.now.st.now) f × Small f × (p < 800) }
-    ensures { result ≡ (f.member && stay_test code.now.recs.now code.now.ops.now kept.now.regs.now kept.now.st.now kept.now.lasts.now f kept.now.sus kept.now.bar p) }
+    ensures { result ≡ (f.member && stay_test code.now.recs.now code.now.ops.now kept.now.regs.now kept.now.st.now kept.now.lasts.now f kept.now.fences.sus kept.now.fences.bar p) }
 {
     f.member && kept.rule4(p) && kept.rule6(f) && kept.rule5(code, f, p) && kept.rule3(code, f, p)
 }
@@ -33,32 +41,29 @@ fn stamp_of(f: Fact, member: bool) -> u64
 
 // Position p, of fact f: dropped if it is a member that breaks one of rules 3 to 6. Its writes are noted. Says whether it is in the set.
 pub fn forth(
-    code: &Code,
+    given: &Given<'_>,
     f: Fact,
-    regs: &[u32],
     st: &mut [u64],
     lasts: &mut [u32; 2008],
-    sus: u32,
-    bar: u32,
+    fences: Fences,
     p: usize,
 ) -> bool
-    requires { Written code.now.recs.now (length st.old) f.rec f.def f.more × Readable code.now.recs.now code.now.ops.now (length st.old) f × Small f × Near st.old × (length regs.now ≡ length st.old) × (p < 800) }
-    ensures { Forwarded code.now.recs.now code.now.ops.now regs.now f sus bar p st.old lasts.old st.new lasts.new result }
+    requires { Written given.now.code.recs.now (length st.old) f.rec f.def f.more × Readable given.now.code.recs.now given.now.code.ops.now (length st.old) f × Small f × Near st.old × (length given.now.regs.now ≡ length st.old) × (p < 800) }
+    ensures { Forwarded given.now.code.recs.now given.now.code.ops.now given.now.regs.now f fences.sus fences.bar p st.old lasts.old st.new lasts.new result }
 {
     let kept = Kept {
-        regs,
+        regs: given.regs,
         st,
         lasts,
-        sus,
-        bar,
+        fences,
     };
-    let stays = may_stay(code, f, &kept, p);
+    let stays = may_stay(&given.code, f, &kept, p);
     forget(lasts, f.member & !stays, p);
     let d = Stamp {
         keep: WRITER,
         lo: 0,
         v: stamp_of(f, stays),
     };
-    put_writes(code, f, st, d);
+    put_writes(&given.code, f, st, d);
     stays
 }

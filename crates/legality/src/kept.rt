@@ -16,15 +16,21 @@ use summary::notes::MEMBER;
 use summary::reads::all_read;
 use summary::stamps::{AWAITED, MEMBER_AT, ORIGIN, WRITER};
 
+// The last kept suspension and the last kept barrier, each and 1.
+#[derive(Clone, Copy)]
+pub struct Fences {
+    pub sus: u32,
+    pub bar: u32,
+}
+
 // What rules 3 to 6 ask: of each register in use what was known of it before round 1, and what is stamped of it; what the kept
-// positions do, and of that the last suspension and the last barrier, each and 1.
+// positions do, and of that the fences.
 #[derive(Clone, Copy)]
 pub struct Kept<'a> {
     pub regs: &'a [u32],
     pub st: &'a [u64],
     pub lasts: &'a [u32; 2008],
-    pub sus: u32,
-    pub bar: u32,
+    pub fences: Fences,
     ghost near: { Near st.now },
     ghost alike: { length regs.now ≡ length st.now },
 }
@@ -58,20 +64,20 @@ impl Kept<'_> {
     // Rule 4: no kept position after p may suspend.
     pub fn rule4(&self, p: usize) -> bool
         requires { p < 800 }
-        ensures { result ≡ leb self.now.sus (p + 1) }
+        ensures { result ≡ leb self.now.fences.sus (p + 1) }
     {
-        self.sus <= p as u32 + 1
+        self.fences.sus <= p as u32 + 1
     }
 
     // Rule 5 for the origin of number o.
     fn org_ok(&self, p: usize, o: u32) -> bool
         requires { (o < 2005) × (p < 800) }
-        ensures { result ≡ org_test self.now.lasts.now self.now.bar p o }
+        ensures { result ≡ org_test self.now.lasts.now self.now.fences.bar p o }
     {
         let e = p as u32 + 1;
         let k = o as usize + 1;
         ((o == 1) | (3 <= o))
-            & ((self.bar <= e) | (o == 1))
+            & ((self.fences.bar <= e) | (o == 1))
             & (self.lasts[1] % MEMBER <= e)
             & ((o <= 2) | (self.lasts[k] % MEMBER <= e))
     }
@@ -98,7 +104,7 @@ impl Kept<'_> {
     // Rule 5 for a Cat's piece, if its bit says that it is an address.
     fn piece_ok(&self, p: usize, sc: u32, r: Reg) -> bool
         requires { (r.0 < length self.now.st.now) × (p < 800) }
-        ensures { result ≡ (not (eqb (sc % 2) 0) || piece_test self.now.regs.now self.now.st.now self.now.lasts.now self.now.bar p r.0) }
+        ensures { result ≡ (not (eqb (sc % 2) 0) || piece_test self.now.regs.now self.now.st.now self.now.lasts.now self.now.fences.bar p r.0) }
     {
         if sc % 2 != 0 {
             return true;
@@ -109,7 +115,7 @@ impl Kept<'_> {
     // Rule 5 for all of a Cat's pieces, the registers xs.
     fn pieces_ok(&self, xs: &[u32], p: usize, scalars: u32) -> bool
         requires { ((k : ℕ) → k < length xs.now → get_or xs.now k 0 < length self.now.st.now) × (p < 800) }
-        ensures { result ≡ all (piece_test self.now.regs.now self.now.st.now self.now.lasts.now self.now.bar p) (picked scalars xs.now) }
+        ensures { result ≡ all (piece_test self.now.regs.now self.now.st.now self.now.lasts.now self.now.fences.bar p) (picked scalars xs.now) }
     {
         let mut rest = xs;
         let mut sc = scalars;
@@ -129,7 +135,7 @@ impl Kept<'_> {
     // Rule 5 for all that position p reads.
     fn froms_ok(&self, code: &Code, f: Fact, p: usize) -> bool
         requires { Good code.now.recs.now code.now.ops.now (length self.now.st.now) f.rec × (p < 800) × ((f.from ≤ 2004) ⊎ (f.from ≡ 4294967295)) }
-        ensures { result ≡ from_test self.now.regs.now code.now.ops.now (inst code.now.recs.now f.rec) self.now.st.now self.now.lasts.now self.now.bar f.from p }
+        ensures { result ≡ from_test self.now.regs.now code.now.ops.now (inst code.now.recs.now f.rec) self.now.st.now self.now.lasts.now self.now.fences.bar f.from p }
     {
         let x = f.from;
         if x == 0 {
@@ -145,16 +151,16 @@ impl Kept<'_> {
     // Rule 5 for what position p creates or writes.
     fn still(&self, f: Fact, p: usize) -> bool
         requires { p < 800 }
-        ensures { result ≡ still_fine p self.now.bar f.creates f.wrote }
+        ensures { result ≡ still_fine p self.now.fences.bar f.creates f.wrote }
     {
-        (self.bar <= p as u32 + 1) | (!f.creates & (f.wrote == 0))
+        (self.fences.bar <= p as u32 + 1) | (!f.creates & (f.wrote == 0))
     }
 
     // Rule 5: after p no kept barrier if p creates, writes memory, or reads other than Ro or Heap; no kept write that may alias what p
     // reads; and p's reads are Ro, Frame, Img or Temp.
     pub fn rule5(&self, code: &Code, f: Fact, p: usize) -> bool
         requires { Good code.now.recs.now code.now.ops.now (length self.now.st.now) f.rec × (p < 800) × ((f.from ≤ 2004) ⊎ (f.from ≡ 4294967295)) }
-        ensures { result ≡ memory_test code.now.recs.now code.now.ops.now self.now.regs.now self.now.st.now self.now.lasts.now f self.now.bar p }
+        ensures { result ≡ memory_test code.now.recs.now code.now.ops.now self.now.regs.now self.now.st.now self.now.lasts.now f self.now.fences.bar p }
     {
         if !self.still(f, p) {
             return false;

@@ -61,15 +61,15 @@ pub fn rule1(code: &Code, f: Fact, st: &[u64]) -> bool
 }
 
 // Rule 2 for register r, if it is one: p does not write it last in the chain, or it is not needed elsewhere.
-fn unneeded(regs: &[u32], bits: &[u64], o: usize, r: Option<Reg>, p: usize) -> bool
-    requires { Among (length regs.now) r × (p < 800) × (o ≤ length bits.now) }
-    ensures { result ≡ (eqb (word_of r) absent || result_test regs.now bits.now o p (word_of r)) }
+fn unneeded(asked: &Elsewhere<'_>, r: Option<Reg>, p: usize) -> bool
+    requires { Among (length asked.now.regs.now) r × (p < 800) × (asked.now.at ≤ length asked.now.bits.now) }
+    ensures { result ≡ (eqb (word_of r) absent || result_test asked.now.regs.now asked.now.bits.now asked.now.at p (word_of r)) }
 {
     let Some(w) = r else {
         return true;
     };
     let k = w.at();
-    !(words::bits::bit_in(bits, o, k) & (regs[k] / FLAGS == p as u32 + 1))
+    !(words::bits::bit_in(asked.bits, asked.at, k) & (asked.regs[k] / FLAGS == p as u32 + 1))
 }
 
 // Rule 2 for what a record, at p, writes, slot by slot.
@@ -77,18 +77,16 @@ pub fn unneeded_slots(slots: &Slots, asked: &Elsewhere<'_>, p: usize) -> bool
     requires { Fits slots.now.recs.now (length asked.now.regs.now) slots.now.p × (p < 800) × (asked.now.at ≤ length asked.now.bits.now) }
     ensures { result ≡ all (result_test asked.now.regs.now asked.now.bits.now asked.now.at p) (writes (inst slots.now.recs.now slots.now.p)) }
 {
-    let Elsewhere { regs, bits, at } = *asked;
-    all_written(slots, regs.len(), |r| unneeded(regs, bits, at, r, p))
+    all_written(slots, asked.regs.len(), |r| unneeded(asked, r, p))
 }
 
-// Rule 2: no register of the row that begins at word `o` of `bits` is written at p and by none after it.
-pub fn rule2(code: &Code, f: Fact, regs: &[u32], bits: &[u64], o: usize, p: usize) -> bool
-    requires { Written code.now.recs.now (length regs.now) f.rec f.def f.more × (p < 800) × (o ≤ length bits.now) }
-    ensures { result ≡ all (result_test regs.now bits.now o p) (writes (inst code.now.recs.now f.rec)) }
+// Rule 2: no register needed elsewhere is written at p and by none after it.
+pub fn rule2(code: &Code, f: Fact, asked: &Elsewhere<'_>, p: usize) -> bool
+    requires { Written code.now.recs.now (length asked.now.regs.now) f.rec f.def f.more × (p < 800) × (asked.now.at ≤ length asked.now.bits.now) }
+    ensures { result ≡ all (result_test asked.now.regs.now asked.now.bits.now asked.now.at p) (writes (inst code.now.recs.now f.rec)) }
 {
     if !f.more {
-        return unneeded(regs, bits, o, Reg::new(f.def, regs.len()), p);
+        return unneeded(asked, Reg::new(f.def, asked.regs.len()), p);
     }
-    let asked = Elsewhere { regs, bits, at: o };
-    unneeded_slots(&code.slots(f.rec as usize), &asked, p)
+    unneeded_slots(&code.slots(f.rec as usize), asked, p)
 }

@@ -1,20 +1,18 @@
 -- The turns of a sweep: what the facts say, and that each turn's visit may be made. Assumes nothing.
 use mathlib.Core.Path.{◌≡◌, refl, sym, ◌∙◌, subst}
-use mathlib.Core.Logic.{◌⊎◌, inl, inr}
-use mathlib.Core.Bool.{Bool, true, false, not, ◌&&◌, cond}
+use mathlib.Core.Bool.{Bool, true, false, cond}
 use mathlib.Core.List.{List}
 use Prim.Native.Nat.{ℕ, ◌+◌, ◌*◌, ◌-◌, ◌/◌, ◌%◌, ◌≤◌, ◌<◌, max}
 use native.Mathlib.Omega.{arith}
 use lib.ListN.{get_or, length, length-set}
 use Rattle.words.specs.Lists.{hit, mem}
-use Rattle.words.proofs.Bools.{bool?, hit_le}
+use Rattle.words.proofs.Bools.{hit_le}
 use Rattle.facts.specs.declared.Fact.{Fact}
 use Rattle.facts.specs.Marks.{no_fact, marked, bare}
 use Rattle.facts.proofs.Bare.{bare_shows, bare_marked}
 use Rattle.plan.specs.declared.sweep.Sweep.{Sweep}
-use Rattle.plan.specs.declared.sweep.Tally.{Tally}
 use Rattle.summary.specs.Passes.{over, stamp, fact_word, Stamped, Near, Small, Shows}
-use Rattle.plan.specs.Sweep.{part, place, Visitable, Sweepable, Swept, none, more, is_start, is_forth}
+use Rattle.plan.specs.Sweep.{part, place, counts, Visitable, Sweepable, Swept, none, more, is_start, is_forth}
 use Rattle.summary.proofs.Wording.{written, readable, small}
 
 -- ---- a fact without its mark
@@ -40,43 +38,37 @@ near_next {f} {l} {st} {st'} b m k d = record { org = λ r h. let u = subst (λ 
     go true x h = let o = m.org in let z = hit_le b in omega arith
     go false x h = h
 
-module _ {recs ops regs work ls : List ℕ} {fs : List Fact} {g : Sweep} {a : Tally} where
-  pub swept_bare : {i : ℕ} {work' ls' : List ℕ} {fs' : List Fact} {a' : Tally} → Swept recs ops regs g work ls fs a i work' ls' fs' a' → bare fs' ≡ bare fs
+module _ {recs ops regs work ls : List ℕ} {fs : List Fact} {g : Sweep} where
+  pub swept_bare : {i : ℕ} {work' ls' : List ℕ} {fs' : List Fact} {count : ℕ} → Swept recs ops regs g work ls fs i work' ls' fs' count → bare fs' ≡ bare fs
   swept_bare none = refl
-  swept_bare (more i work' ls' work'' ls'' fs' a' a'' s v) = bare_marked fs' (place g i) a''.keep ∙ swept_bare s
+  swept_bare (more i work' ls' work'' ls'' fs' count keep s v) = bare_marked fs' (place g i) keep ∙ swept_bare s
 
-  pub swept_long : {i : ℕ} {work' ls' : List ℕ} {fs' : List Fact} {a' : Tally} → Swept recs ops regs g work ls fs a i work' ls' fs' a' → length fs' ≡ length fs
+  pub swept_long : {i : ℕ} {work' ls' : List ℕ} {fs' : List Fact} {count : ℕ} → Swept recs ops regs g work ls fs i work' ls' fs' count → length fs' ≡ length fs
   swept_long none = refl
-  swept_long (more i work' ls' work'' ls'' fs' a' a'' s v) = length-set fs' (place g i) (marked (get_or fs' (place g i) no_fact) a''.keep) ∙ swept_long s
+  swept_long (more i work' ls' work'' ls'' fs' count keep s v) = length-set fs' (place g i) (marked (get_or fs' (place g i) no_fact) keep) ∙ swept_long s
 
-  pub swept_size : {i : ℕ} {work' ls' : List ℕ} {fs' : List Fact} {a' : Tally} → Swept recs ops regs g work ls fs a i work' ls' fs' a' → length work' ≡ length work
+  pub swept_size : {i : ℕ} {work' ls' : List ℕ} {fs' : List Fact} {count : ℕ} → Swept recs ops regs g work ls fs i work' ls' fs' count → length work' ≡ length work
   swept_size none = refl
-  swept_size (more i work' ls' work'' ls'' fs' a' a'' s v) = v.size ∙ swept_size s
+  swept_size (more i work' ls' work'' ls'' fs' count keep s v) = v.size ∙ swept_size s
 
-  pub swept_count : {i : ℕ} {work' ls' : List ℕ} {fs' : List Fact} {a' : Tally} → Swept recs ops regs g work ls fs a i work' ls' fs' a' → a'.count ≤ a.count + i
+  pub swept_count : {i : ℕ} {work' ls' : List ℕ} {fs' : List Fact} {count : ℕ} → Swept recs ops regs g work ls fs i work' ls' fs' count → count ≤ i
   swept_count none = omega arith
-  swept_count (more i work' ls' work'' ls'' fs' a' a'' s v) = go (bool? (is_start g.phase)) (swept_count s)
-    where
-      go : ((is_start g.phase) ≡ true) ⊎ ((is_start g.phase) ≡ false) → a'.count ≤ a.count + i → a''.count ≤ a.count + (i + 1)
-      go (inl e) y = let x = (v.begun e).1.1 in let z = hit_le a''.keep in omega arith
-      go (inr e) y = let x = v.counted e in let z = hit_le ((get_or fs' (place g i) no_fact).member && not a''.keep) in omega arith
+  swept_count (more i work' ls' work'' ls'' fs' count keep s v) = let x = swept_count s in let z = hit_le (counts g.phase (get_or fs' (place g i) no_fact) keep) in omega arith
 
-  module _ {k : ℕ} (r : Sweepable recs ops regs work fs g a k) where
-    says : {i : ℕ} {work' ls' : List ℕ} {fs' : List Fact} {a' : Tally} → Swept recs ops regs g work ls fs a i work' ls' fs' a' → (p : ℕ) → Shows (bare fs) p (get_or fs' p no_fact)
+  module _ (r : Sweepable recs ops regs work fs g) where
+    says : {i : ℕ} {work' ls' : List ℕ} {fs' : List Fact} {count : ℕ} → Swept recs ops regs g work ls fs i work' ls' fs' count → (p : ℕ) → Shows (bare fs) p (get_or fs' p no_fact)
     says {fs' = fs'} s p = subst (λ (w : List Fact). Shows w p (get_or fs' p no_fact)) (swept_bare s) (shown fs' p)
 
-    swept_near : {i : ℕ} {work' ls' : List ℕ} {fs' : List Fact} {a' : Tally} → i ≤ k → (is_start g.phase) ≡ false → (is_forth g.phase) ≡ true → Swept recs ops regs g work ls fs a i work' ls' fs' a' → Near (part g.span.s (length regs) work')
+    swept_near : {i : ℕ} {work' ls' : List ℕ} {fs' : List Fact} {count : ℕ} → i ≤ g.k → (is_start g.phase) ≡ false → (is_forth g.phase) ≡ true → Swept recs ops regs g work ls fs i work' ls' fs' count → Near (part g.span.s (length regs) work')
     swept_near h e u none = r.near e u
-    swept_near h e u (more i work' ls' work'' ls'' fs' a' a'' s v) =
-        let t = r.turns in near_next a''.keep (small r.safe (place_low g i (omega arith)) (says s (place g i))) (swept_near (omega arith) e u s) (v.forwarded e u).stamped
+    swept_near h e u (more i work' ls' work'' ls'' fs' count keep s v) =
+        let t = r.turns in near_next keep (small r.safe (place_low g i (omega arith)) (says s (place g i))) (swept_near (omega arith) e u s) (v.forwarded e u).stamped
 
-    pub visitable : {i : ℕ} {work' ls' : List ℕ} {fs' : List Fact} {a' : Tally} → i < k → Swept recs ops regs g work ls fs a i work' ls' fs' a' → Visitable recs ops regs work' g (get_or fs' (place g i) no_fact) a' (place g i)
+    pub visitable : {i : ℕ} {work' ls' : List ℕ} {fs' : List Fact} {count : ℕ} → i < g.k → Swept recs ops regs g work ls fs i work' ls' fs' count → Visitable recs ops regs work' g (get_or fs' (place g i) no_fact) (place g i)
     visitable {i} {fs' = fs'} h s =
         let t = r.turns in
         let p = place_low g i (omega arith) in
         let few = r.safe.few in
-        let c = swept_count s in
-        let z = r.fresh in
         let size = swept_size s in
         let row = r.row in
         let room = r.room in
@@ -88,8 +80,4 @@ module _ {recs ops regs work ls : List ℕ} {fs : List Fact} {g : Sweep} {a : Ta
           row = omega arith;
           room = omega arith;
           low = omega arith;
-          few = omega arith;
         }
-
-    pub within : {i : ℕ} {work' ls' : List ℕ} {fs' : List Fact} {a' : Tally} → i < k → Swept recs ops regs g work ls fs a i work' ls' fs' a' → (place g i < length fs') × (i < g.span.n)
-    within {i} h s = let t = r.turns in let p = place_low g i (omega arith) in let l = r.long in let z = swept_long s in (omega arith, omega arith)

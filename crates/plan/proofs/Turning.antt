@@ -22,16 +22,15 @@ use Rattle.legalset.specs.Marks.{in_set, members, own, Inside, Passed}
 use Rattle.legalset.specs.Rules.{backward_ok, forward_ok, result_ok, begins, pass_ok}
 use Rattle.legalset.proofs.Settling.{ahead_passed, back_passed}
 use Rattle.plan.specs.declared.sweep.Sweep.{Sweep}
-use Rattle.plan.specs.declared.sweep.Tally.{Tally}
 use Rattle.summary.specs.Passes.{writer_word, begin_test, Summed, Ended, Shows, Near, Around}
-use Rattle.plan.specs.Sweep.{part, place, Visit, Sweepable, Swept, none, more, marks_of, marks, is_start, is_forth}
+use Rattle.plan.specs.Sweep.{part, place, counts, Visit, Sweepable, Swept, none, more, marks_of, marks, is_start, is_forth}
 use Rattle.summary.proofs.Backing.{Backing, GoneBack, backing_none, backing_more, backing_end, gone_back}
 use Rattle.summary.proofs.Forwarding.{Going, GoneOn, going_none, going_more, going_end, gone_on, now_in}
 use Rattle.legality.proofs.Starting.{begins_in}
 use Rattle.summary.proofs.Summing.{safe_len}
 use Rattle.legality.proofs.Marking.{past_marks}
 use Rattle.plan.proofs.Sweeping.{shown, swept_bare, swept_long}
-use Rattle.plan.proofs.Visiting.{place_on, place_back, part_len}
+use Rattle.plan.proofs.Visiting.{place_on, place_back, part_len, counts_start, counts_dropped}
 
 -- ---- the marks of the first n facts
 
@@ -61,7 +60,7 @@ marks_set n fs p b h = ap (take n) (marks_put fs p (marked (get_or fs p no_fact)
 pub in_low : (n : ℕ) (fs : List Fact) (p : ℕ) → n ≤ length fs → T (in_set (marks n fs) p) → p < n
 in_low n fs p h t = ⊎_elim (λ (l : p < n). l) (λ (l : n ≤ p). let z = marks_long n fs h in absurd (subst T (sym (past_marks (marks n fs) p (omega arith))) t)) (lt? p n)
 
-module _ {recs ops regs work : List ℕ} {fs : List Fact} {g : Sweep} {a : Tally} {k : ℕ} (r : Sweepable recs ops regs work fs g a k) where
+module _ {recs ops regs work : List ℕ} {fs : List Fact} {g : Sweep} (r : Sweepable recs ops regs work fs g) where
   abbrev st₀ : List ℕ
   st₀ = part g.span.s (length regs) work
 
@@ -72,61 +71,61 @@ module _ {recs ops regs work : List ℕ} {fs : List Fact} {g : Sweep} {a : Tally
   safe = safe_len r.safe same_len
 
   module _ {ls : List ℕ} where
-    says : {i : ℕ} {work' ls' : List ℕ} {fs' : List Fact} {a' : Tally} → Swept recs ops regs g work ls fs a i work' ls' fs' a' → (p : ℕ) → Shows (bare fs) p (get_or fs' p no_fact)
+    says : {i : ℕ} {work' ls' : List ℕ} {fs' : List Fact} {count : ℕ} → Swept recs ops regs g work ls fs i work' ls' fs' count → (p : ℕ) → Shows (bare fs) p (get_or fs' p no_fact)
     says {fs' = fs'} s p = subst (λ (w : List Fact). Shows w p (get_or fs' p no_fact)) (swept_bare s) (shown fs' p)
 
-    marks_size : {i : ℕ} {work' ls' : List ℕ} {fs' : List Fact} {a' : Tally} → Swept recs ops regs g work ls fs a i work' ls' fs' a' → length (marks g.span.n fs') ≡ g.span.n
+    marks_size : {i : ℕ} {work' ls' : List ℕ} {fs' : List Fact} {count : ℕ} → Swept recs ops regs g work ls fs i work' ls' fs' count → length (marks g.span.n fs') ≡ g.span.n
     marks_size {fs' = fs'} s = let l = r.long in let z = swept_long s in marks_long g.span.n fs' (omega arith)
 
     -- ---- backward
 
     module _ (e : (is_start g.phase) ≡ false) (u : (is_forth g.phase) ≡ false) (clear : st₀ ≡ replicate (length st₀) 0) (new : ls ≡ replicate 2008 0) where
-      pub swept_back : {i : ℕ} {work' ls' : List ℕ} {fs' : List Fact} {a' : Tally} → i ≤ g.span.n → Swept recs ops regs g work ls fs a i work' ls' fs' a'
-          → Backing recs ops (bare fs) g.span.n (g.span.n - i) st₀ (marks g.span.n fs) (part g.span.s (length regs) work') ls' (marks g.span.n fs') a'.count
+      pub swept_back : {i : ℕ} {work' ls' : List ℕ} {fs' : List Fact} {count : ℕ} → i ≤ g.span.n → Swept recs ops regs g work ls fs i work' ls' fs' count
+          → Backing recs ops (bare fs) g.span.n (g.span.n - i) st₀ (marks g.span.n fs) (part g.span.s (length regs) work') ls' (marks g.span.n fs') count
       swept_back h none = let z : g.span.n - 0 ≡ g.span.n = omega arith in
-          subst (λ (q : ℕ). Backing recs ops (bare fs) g.span.n q st₀ (marks g.span.n fs) st₀ ls (marks g.span.n fs) a.count) (sym z)
-          (subst (Backing recs ops (bare fs) g.span.n g.span.n st₀ (marks g.span.n fs) st₀ ls (marks g.span.n fs)) (sym r.fresh) (backing_none recs ops (bare fs) g.span.n st₀ (marks g.span.n fs) clear new inside))
+          subst (λ (q : ℕ). Backing recs ops (bare fs) g.span.n q st₀ (marks g.span.n fs) st₀ ls (marks g.span.n fs) 0) (sym z)
+          (backing_none recs ops (bare fs) g.span.n st₀ (marks g.span.n fs) clear new inside)
         where
           inside : Inside g.span.n (marks g.span.n fs)
           inside = record { low = λ p t. in_low g.span.n fs p r.long t }
-      swept_back h (more i work' ls' work'' ls'' fs' a' a'' s v) =
+      swept_back h (more i work' ls' work'' ls'' fs' count keep s v) =
           let p : g.span.n - i - 1 ≡ place g i = (let y : g.span.n - i - 1 ≡ g.span.n - 1 - i = omega arith in y ∙ place_back g i u) in
           let z : g.span.n - (i + 1) ≡ g.span.n - i - 1 = omega arith in
           let b = swept_back (omega arith) s in
           let l : place g i < g.span.n = (let y : g.span.n - i - 1 < g.span.n = omega arith in subst (λ (x : ℕ). x < g.span.n) p y) in
           let k = gone_back (marks g.span.n fs') safe l b.notes.size (says s (place g i)) (subst (λ (x : ℕ). place g i < x) (sym (marks_size s)) l) (marks_at g.span.n fs' (place g i) l) (v.backed e u) in
-          subst (λ (q : ℕ). Backing recs ops (bare fs) g.span.n q st₀ (marks g.span.n fs) (part g.span.s (length regs) work'') ls'' (marks g.span.n (set fs' (place g i) (marked (get_or fs' (place g i) no_fact) a''.keep))) a''.count) (sym z)
-          (subst (λ (S : List ℕ). Backing recs ops (bare fs) g.span.n (g.span.n - i - 1) st₀ (marks g.span.n fs) (part g.span.s (length regs) work'') ls'' S a''.count) (sym (marks_set g.span.n fs' (place g i) a''.keep l))
-          (subst (Backing recs ops (bare fs) g.span.n (g.span.n - i - 1) st₀ (marks g.span.n fs) (part g.span.s (length regs) work'') ls'' (set (marks g.span.n fs') (place g i) (num a''.keep))) (sym (v.counted e))
-          (backing_more safe (omega arith) (omega arith) b (subst (λ (q : ℕ). GoneBack (bare fs) (defs_of recs (bare fs)) (reads_of recs ops (bare fs)) q (part g.span.s (length regs) work') ls' (marks g.span.n fs') (part g.span.s (length regs) work'') ls'' (set (marks g.span.n fs') (place g i) (num a''.keep)) (hit ((get_or fs' (place g i) no_fact).member && not a''.keep))) (sym p) k))))
+          subst (λ (q : ℕ). Backing recs ops (bare fs) g.span.n q st₀ (marks g.span.n fs) (part g.span.s (length regs) work'') ls'' (marks g.span.n (set fs' (place g i) (marked (get_or fs' (place g i) no_fact) keep))) (count + hit (counts g.phase (get_or fs' (place g i) no_fact) keep))) (sym z)
+          (subst (λ (S : List ℕ). Backing recs ops (bare fs) g.span.n (g.span.n - i - 1) st₀ (marks g.span.n fs) (part g.span.s (length regs) work'') ls'' S (count + hit (counts g.phase (get_or fs' (place g i) no_fact) keep))) (sym (marks_set g.span.n fs' (place g i) keep l))
+          (subst (Backing recs ops (bare fs) g.span.n (g.span.n - i - 1) st₀ (marks g.span.n fs) (part g.span.s (length regs) work'') ls'' (set (marks g.span.n fs') (place g i) (num keep))) (sym (ap (λ (x : Bool). count + hit x) (counts_dropped g.phase (get_or fs' (place g i) no_fact) keep e)))
+          (backing_more safe (omega arith) (omega arith) b (subst (λ (q : ℕ). GoneBack (bare fs) (defs_of recs (bare fs)) (reads_of recs ops (bare fs)) q (part g.span.s (length regs) work') ls' (marks g.span.n fs') (part g.span.s (length regs) work'') ls'' (set (marks g.span.n fs') (place g i) (num keep)) (hit ((get_or fs' (place g i) no_fact).member && not keep))) (sym p) k))))
 
-      pub passed_back : {work' ls' : List ℕ} {fs' : List Fact} {a' : Tally} → Swept recs ops regs g work ls fs a g.span.n work' ls' fs' a'
-          → Passed (backward_ok (defs_of recs (bare fs)) (reads_of recs ops (bare fs)) g.span.n) 0 g.span.n (marks g.span.n fs) (marks g.span.n fs') a'.count × (length (part g.span.s (length regs) work') ≡ length st₀)
+      pub passed_back : {work' ls' : List ℕ} {fs' : List Fact} {count : ℕ} → Swept recs ops regs g work ls fs g.span.n work' ls' fs' count
+          → Passed (backward_ok (defs_of recs (bare fs)) (reads_of recs ops (bare fs)) g.span.n) 0 g.span.n (marks g.span.n fs) (marks g.span.n fs') count × (length (part g.span.s (length regs) work') ≡ length st₀)
           × Summed recs (bare fs) g.span.n 0 (part g.span.s (length regs) work') ls' (marks g.span.n fs')
       passed_back s = backing_end safe (swept_back (omega arith) s) (omega arith)
 
     -- ---- forward, by the summary that the sweep backward left
 
-    module _ (e : (is_start g.phase) ≡ false) (u : (is_forth g.phase) ≡ true) (z : Summed recs (bare fs) g.span.n 0 st₀ ls (marks g.span.n fs)) (sus : g.sus ≡ get_or ls 2007 0 % 1024) (bar : g.bar ≡ get_or ls 2006 0 % 1024) where
-      pub swept_forth : {i : ℕ} {work' ls' : List ℕ} {fs' : List Fact} {a' : Tally} → i ≤ g.span.n → Swept recs ops regs g work ls fs a i work' ls' fs' a'
-          → Going recs ops (bare fs) regs g.span.n i st₀ ls (marks g.span.n fs) (part g.span.s (length regs) work') ls' (marks g.span.n fs') a'.count
-      swept_forth h none = subst (Going recs ops (bare fs) regs g.span.n 0 st₀ ls (marks g.span.n fs) st₀ ls (marks g.span.n fs)) (sym r.fresh) (going_none z)
-      swept_forth h (more i work' ls' work'' ls'' fs' a' a'' s v) =
+    module _ (e : (is_start g.phase) ≡ false) (u : (is_forth g.phase) ≡ true) (z : Summed recs (bare fs) g.span.n 0 st₀ ls (marks g.span.n fs)) (sus : g.fences.sus ≡ get_or ls 2007 0 % 1024) (bar : g.fences.bar ≡ get_or ls 2006 0 % 1024) where
+      pub swept_forth : {i : ℕ} {work' ls' : List ℕ} {fs' : List Fact} {count : ℕ} → i ≤ g.span.n → Swept recs ops regs g work ls fs i work' ls' fs' count
+          → Going recs ops (bare fs) regs g.span.n i st₀ ls (marks g.span.n fs) (part g.span.s (length regs) work') ls' (marks g.span.n fs') count
+      swept_forth h none = going_none z
+      swept_forth h (more i work' ls' work'' ls'' fs' count keep s v) =
           let p : i ≡ place g i = place_on g i u in
           let l : i < g.span.n = omega arith in
-          let w = subst (λ (j : ℕ). Visit recs ops regs g (get_or fs' j no_fact) a' j work' ls' work'' ls'' a'') (sym p) v in
+          let w = subst (λ (j : ℕ). Visit recs ops regs g (get_or fs' j no_fact) j work' ls' work'' ls'' keep) (sym p) v in
           let b = swept_forth (omega arith) s in
           let k = gone_on (marks g.span.n fs') (says s i) (subst (λ (x : ℕ). i < x) (sym (marks_size s)) l) (marks_at g.span.n fs' i l) (w.forwarded e u) in
-          subst (λ (j : ℕ). Going recs ops (bare fs) regs g.span.n (i + 1) st₀ ls (marks g.span.n fs) (part g.span.s (length regs) work'') ls'' (marks g.span.n (set fs' j (marked (get_or fs' j no_fact) a''.keep))) a''.count) p
-          (subst (λ (S : List ℕ). Going recs ops (bare fs) regs g.span.n (i + 1) st₀ ls (marks g.span.n fs) (part g.span.s (length regs) work'') ls'' S a''.count) (sym (marks_set g.span.n fs' i a''.keep l))
-          (subst (Going recs ops (bare fs) regs g.span.n (i + 1) st₀ ls (marks g.span.n fs) (part g.span.s (length regs) work'') ls'' (set (marks g.span.n fs') i (num a''.keep))) (sym (w.counted e))
+          subst (λ (j : ℕ). Going recs ops (bare fs) regs g.span.n (i + 1) st₀ ls (marks g.span.n fs) (part g.span.s (length regs) work'') ls'' (marks g.span.n (set fs' j (marked (get_or fs' j no_fact) keep))) (count + hit (counts g.phase (get_or fs' j no_fact) keep))) p
+          (subst (λ (S : List ℕ). Going recs ops (bare fs) regs g.span.n (i + 1) st₀ ls (marks g.span.n fs) (part g.span.s (length regs) work'') ls'' S (count + hit (counts g.phase (get_or fs' i no_fact) keep))) (sym (marks_set g.span.n fs' i keep l))
+          (subst (Going recs ops (bare fs) regs g.span.n (i + 1) st₀ ls (marks g.span.n fs) (part g.span.s (length regs) work'') ls'' (set (marks g.span.n fs') i (num keep))) (sym (ap (λ (x : Bool). count + hit x) (counts_dropped g.phase (get_or fs' i no_fact) keep e)))
           (going_more safe l z b (says s i) (let x = marks_long g.span.n fs r.long in omega arith)
-          (subst (λ (x : ℕ). GoneOn recs ops (bare fs) regs (get_or fs' i no_fact) x (get_or ls 2006 0 % 1024) i (part g.span.s (length regs) work') ls' (marks g.span.n fs') (part g.span.s (length regs) work'') ls'' (set (marks g.span.n fs') i (num a''.keep)) (hit ((get_or fs' i no_fact).member && not a''.keep))) sus
-          (subst (λ (x : ℕ). GoneOn recs ops (bare fs) regs (get_or fs' i no_fact) g.sus x i (part g.span.s (length regs) work') ls' (marks g.span.n fs') (part g.span.s (length regs) work'') ls'' (set (marks g.span.n fs') i (num a''.keep)) (hit ((get_or fs' i no_fact).member && not a''.keep))) bar k)))))
+          (subst (λ (x : ℕ). GoneOn recs ops (bare fs) regs (get_or fs' i no_fact) x (get_or ls 2006 0 % 1024) i (part g.span.s (length regs) work') ls' (marks g.span.n fs') (part g.span.s (length regs) work'') ls'' (set (marks g.span.n fs') i (num keep)) (hit ((get_or fs' i no_fact).member && not keep))) sus
+          (subst (λ (x : ℕ). GoneOn recs ops (bare fs) regs (get_or fs' i no_fact) g.fences.sus x i (part g.span.s (length regs) work') ls' (marks g.span.n fs') (part g.span.s (length regs) work'') ls'' (set (marks g.span.n fs') i (num keep)) (hit ((get_or fs' i no_fact).member && not keep))) bar k)))))
 
-      pub passed_forth : {work' ls' : List ℕ} {fs' : List Fact} {a' : Tally} → k ≤ g.span.n → Swept recs ops regs g work ls fs a k work' ls' fs' a'
-          → Passed (own (forward_ok (view recs ops (bare fs) regs) g.span.n)) 0 k (marks g.span.n fs) (marks g.span.n fs') a'.count × (length (part g.span.s (length regs) work') ≡ length st₀)
-      passed_forth h s = going_end (swept_forth h s) (omega arith) (omega arith)
+      pub passed_forth : {work' ls' : List ℕ} {fs' : List Fact} {count : ℕ} → Swept recs ops regs g work ls fs g.k work' ls' fs' count
+          → Passed (own (forward_ok (view recs ops (bare fs) regs) g.span.n)) 0 g.k (marks g.span.n fs) (marks g.span.n fs') count × (length (part g.span.s (length regs) work') ≡ length st₀)
+      passed_forth s = let h = r.turns in going_end (swept_forth h s) (omega arith) (omega arith)
 
 -- ---- the start, from behind
 
@@ -160,31 +159,31 @@ started_more {recs} {ops} {w} {regs} {bits} {o} {m} {n} {q} {S} {c} {b} l h e k 
         let u = d.count in
         omega arith
 
-module _ {recs ops regs work : List ℕ} {fs : List Fact} {g : Sweep} {a : Tally} {k : ℕ} (r : Sweepable recs ops regs work fs g a k) (d : Ended recs (bare fs) g.span.n regs) {ls : List ℕ} (e : (is_start g.phase) ≡ true) (u : (is_forth g.phase) ≡ false) where
-  pub swept_work : {i : ℕ} {work' ls' : List ℕ} {fs' : List Fact} {a' : Tally} → Swept recs ops regs g work ls fs a i work' ls' fs' a' → work' ≡ work
+module _ {recs ops regs work : List ℕ} {fs : List Fact} {g : Sweep} (r : Sweepable recs ops regs work fs g) (d : Ended recs (bare fs) g.span.n regs) {ls : List ℕ} (e : (is_start g.phase) ≡ true) (u : (is_forth g.phase) ≡ false) where
+  pub swept_work : {i : ℕ} {work' ls' : List ℕ} {fs' : List Fact} {count : ℕ} → Swept recs ops regs g work ls fs i work' ls' fs' count → work' ≡ work
   swept_work none = refl
-  swept_work (more i work' ls' work'' ls'' fs' a' a'' s v) = (v.begun e).1.0 ∙ swept_work s
+  swept_work (more i work' ls' work'' ls'' fs' count keep s v) = (v.begun e).1 ∙ swept_work s
 
-  pub swept_first : {i : ℕ} {work' ls' : List ℕ} {fs' : List Fact} {a' : Tally} → i ≤ g.span.n → Swept recs ops regs g work ls fs a i work' ls' fs' a'
-      → Started recs ops (bare fs) regs work g.span.o g.span.m g.span.n (g.span.n - i) (marks g.span.n fs') a'.count
+  pub swept_first : {i : ℕ} {work' ls' : List ℕ} {fs' : List Fact} {count : ℕ} → i ≤ g.span.n → Swept recs ops regs g work ls fs i work' ls' fs' count
+      → Started recs ops (bare fs) regs work g.span.o g.span.m g.span.n (g.span.n - i) (marks g.span.n fs') count
   unfolding members
-  swept_first h none = record { each = λ p x y. absurd (omega arith); count = r.fresh ∙ sym (ap members (drop_of_length-le (marks g.span.n fs) {i = g.span.n - 0} (let z = marks_long g.span.n fs r.long in omega arith))) }
-  swept_first h (more i work' ls' work'' ls'' fs' a' a'' s v) =
+  swept_first h none = record { each = λ p x y. absurd (omega arith); count = sym (ap members (drop_of_length-le (marks g.span.n fs) {i = g.span.n - 0} (let z = marks_long g.span.n fs r.long in omega arith))) }
+  swept_first h (more i work' ls' work'' ls'' fs' count keep s v) =
       let p : g.span.n - i - 1 ≡ place g i = (let y : g.span.n - i - 1 ≡ g.span.n - 1 - i = omega arith in y ∙ place_back g i u) in
       let z : g.span.n - (i + 1) ≡ g.span.n - i - 1 = omega arith in
       let l : g.span.n - i - 1 < g.span.n = omega arith in
-      let w = subst (λ (j : ℕ). Visit recs ops regs g (get_or fs' j no_fact) a' j work' ls' work'' ls'' a'') (sym p) v in
+      let w = subst (λ (j : ℕ). Visit recs ops regs g (get_or fs' j no_fact) j work' ls' work'' ls'' keep) (sym p) v in
       let k = (w.begun e).0 ∙ ap (λ (x : List ℕ). ltb (g.span.n - i - 1) g.span.m && begin_test recs regs x (get_or fs' (g.span.n - i - 1) no_fact) g.span.o (g.span.n - i - 1)) (swept_work s)
       ∙ begins_in work g.span.o r.safe d g.span.m (g.span.n - i - 1) l (says r s (g.span.n - i - 1)) in
-      subst (λ (q : ℕ). Started recs ops (bare fs) regs work g.span.o g.span.m g.span.n q (marks g.span.n (set fs' (place g i) (marked (get_or fs' (place g i) no_fact) a''.keep))) a''.count) (sym z)
-      (subst (λ (j : ℕ). Started recs ops (bare fs) regs work g.span.o g.span.m g.span.n (g.span.n - i - 1) (marks g.span.n (set fs' j (marked (get_or fs' j no_fact) a''.keep))) a''.count) p
-      (subst (λ (S : List ℕ). Started recs ops (bare fs) regs work g.span.o g.span.m g.span.n (g.span.n - i - 1) S a''.count) (sym (marks_set g.span.n fs' (g.span.n - i - 1) a''.keep l))
-      (subst (Started recs ops (bare fs) regs work g.span.o g.span.m g.span.n (g.span.n - i - 1) (set (marks g.span.n fs') (g.span.n - i - 1) (num a''.keep))) (sym (w.begun e).1.1)
+      subst (λ (q : ℕ). Started recs ops (bare fs) regs work g.span.o g.span.m g.span.n q (marks g.span.n (set fs' (place g i) (marked (get_or fs' (place g i) no_fact) keep))) (count + hit (counts g.phase (get_or fs' (place g i) no_fact) keep))) (sym z)
+      (subst (λ (j : ℕ). Started recs ops (bare fs) regs work g.span.o g.span.m g.span.n (g.span.n - i - 1) (marks g.span.n (set fs' j (marked (get_or fs' j no_fact) keep))) (count + hit (counts g.phase (get_or fs' j no_fact) keep))) p
+      (subst (λ (S : List ℕ). Started recs ops (bare fs) regs work g.span.o g.span.m g.span.n (g.span.n - i - 1) S (count + hit (counts g.phase (get_or fs' (g.span.n - i - 1) no_fact) keep))) (sym (marks_set g.span.n fs' (g.span.n - i - 1) keep l))
+      (subst (Started recs ops (bare fs) regs work g.span.o g.span.m g.span.n (g.span.n - i - 1) (set (marks g.span.n fs') (g.span.n - i - 1) (num keep))) (sym (ap (λ (x : Bool). count + hit x) (counts_start g.phase (get_or fs' (g.span.n - i - 1) no_fact) keep e)))
       (started_more (omega arith) (omega arith) (marks_size r s) k (swept_first (omega arith) s)))))
 
   -- all positions are marked: those that begin in the set
-  pub started : {work' ls' : List ℕ} {fs' : List Fact} {a' : Tally} → g.span.m ≤ g.span.n → Swept recs ops regs g work ls fs a g.span.n work' ls' fs' a'
-      → (work' ≡ work) × (a'.count ≡ members (marks g.span.n fs')) × ((p : ℕ) → in_set (marks g.span.n fs') p ≡ begins (view recs ops (bare fs) regs) g.span.n (λ z. eqb (fact_in (bare fs) z).class 1) g.span.m (λ r. is_in work (64 * g.span.o + r)) p)
+  pub started : {work' ls' : List ℕ} {fs' : List Fact} {count : ℕ} → g.span.m ≤ g.span.n → Swept recs ops regs g work ls fs g.span.n work' ls' fs' count
+      → (work' ≡ work) × (count ≡ members (marks g.span.n fs')) × ((p : ℕ) → in_set (marks g.span.n fs') p ≡ begins (view recs ops (bare fs) regs) g.span.n (λ z. eqb (fact_in (bare fs) z).class 1) g.span.m (λ r. is_in work (64 * g.span.o + r)) p)
   unfolding begins
   started {fs' = fs'} h s =
       let z : g.span.n - g.span.n ≡ 0 = omega arith in
@@ -201,10 +200,10 @@ module _ {recs ops regs work : List ℕ} {fs : List Fact} {g : Sweep} {a : Tally
 pub around_on : {s k : ℕ} {x y z : List ℕ} → Around s k x y → Around s k y z → Around s k x z
 around_on a b = record { size = b.size ∙ a.size; below = b.below ∙ a.below; behind = b.behind ∙ a.behind }
 
-pub swept_around : {recs ops regs work ls : List ℕ} {fs : List Fact} {g : Sweep} {a : Tally} {i : ℕ} {work' ls' : List ℕ} {fs' : List Fact} {a' : Tally} → Swept recs ops regs g work ls fs a i work' ls' fs' a'
+pub swept_around : {recs ops regs work ls : List ℕ} {fs : List Fact} {g : Sweep} {i : ℕ} {work' ls' : List ℕ} {fs' : List Fact} {count : ℕ} → Swept recs ops regs g work ls fs i work' ls' fs' count
     → Around g.span.s (length regs) work work'
 swept_around none = record { size = refl; below = refl; behind = refl }
-swept_around (more i work' ls' work'' ls'' fs' a' a'' s v) = around_on (swept_around s) v.around
+swept_around (more i work' ls' work'' ls'' fs' count keep s v) = around_on (swept_around s) v.around
 
 pub summed_near : {recs : List ℕ} {w : List Fact} {n : ℕ} {st ls S : List ℕ} → Summed recs w n 0 st ls S → Near st
 unfolding writer last_below writer_word
@@ -212,20 +211,20 @@ summed_near z = record { org = λ r h. let x = z.stamps.wrote r h in omega arith
 
 -- ---- the sweeps as passes over the marks, where the numbers of the facts are w
 
-module _ {recs ops regs : List ℕ} {w : List Fact} {work ls : List ℕ} {fs : List Fact} {g : Sweep} {a : Tally} {k : ℕ} (r : Sweepable recs ops regs work fs g a k) (is : bare fs ≡ w) (h : g.span.m ≤ g.span.n) (e : (is_start g.phase) ≡ false)
-    {work' ls' : List ℕ} {fs' : List Fact} {a' : Tally} where
-  pub pass_back : (is_forth g.phase) ≡ false → part g.span.s (length regs) work ≡ replicate (length regs) 0 → ls ≡ replicate 2008 0 → Swept recs ops regs g work ls fs a g.span.n work' ls' fs' a'
-      → Passed (pass_ok (view recs ops w regs) g.span.n (is_forth g.phase)) 0 g.span.m (marks g.span.n fs) (marks g.span.n fs') a'.count × Summed recs w g.span.n 0 (part g.span.s (length regs) work') ls' (marks g.span.n fs')
+module _ {recs ops regs : List ℕ} {w : List Fact} {work ls : List ℕ} {fs : List Fact} {g : Sweep} (r : Sweepable recs ops regs work fs g) (is : bare fs ≡ w) (h : g.span.m ≤ g.span.n) (e : (is_start g.phase) ≡ false)
+    {work' ls' : List ℕ} {fs' : List Fact} {count : ℕ} where
+  pub pass_back : (is_forth g.phase) ≡ false → part g.span.s (length regs) work ≡ replicate (length regs) 0 → ls ≡ replicate 2008 0 → Swept recs ops regs g work ls fs g.span.n work' ls' fs' count
+      → Passed (pass_ok (view recs ops w regs) g.span.n (is_forth g.phase)) 0 g.span.m (marks g.span.n fs) (marks g.span.n fs') count × Summed recs w g.span.n 0 (part g.span.s (length regs) work') ls' (marks g.span.n fs')
   pass_back u clear new s =
       let l = part_len g.span.s (length regs) work r.room in
       let z = passed_back r e u (clear ∙ ap (λ (x : ℕ). replicate x 0) (sym l)) new s in (
-        subst (λ (v : List Fact). Passed (pass_ok (view recs ops v regs) g.span.n (is_forth g.phase)) 0 g.span.m (marks g.span.n fs) (marks g.span.n fs') a'.count) is (back_passed (view recs ops (bare fs) regs) g.span.n g.span.m h u z.0),
+        subst (λ (v : List Fact). Passed (pass_ok (view recs ops v regs) g.span.n (is_forth g.phase)) 0 g.span.m (marks g.span.n fs) (marks g.span.n fs') count) is (back_passed (view recs ops (bare fs) regs) g.span.n g.span.m h u z.0),
         subst (λ (v : List Fact). Summed recs v g.span.n 0 (part g.span.s (length regs) work') ls' (marks g.span.n fs')) is z.2,
       )
 
-  pub pass_forth : (is_forth g.phase) ≡ true → Summed recs w g.span.n 0 (part g.span.s (length regs) work) ls (marks g.span.n fs) → g.sus ≡ get_or ls 2007 0 % 1024 → g.bar ≡ get_or ls 2006 0 % 1024 → k ≡ g.span.m → Swept recs ops regs g work ls fs a k work' ls' fs' a'
-      → Passed (pass_ok (view recs ops w regs) g.span.n (is_forth g.phase)) 0 g.span.m (marks g.span.n fs) (marks g.span.n fs') a'.count
+  pub pass_forth : (is_forth g.phase) ≡ true → Summed recs w g.span.n 0 (part g.span.s (length regs) work) ls (marks g.span.n fs) → g.fences.sus ≡ get_or ls 2007 0 % 1024 → g.fences.bar ≡ get_or ls 2006 0 % 1024 → g.k ≡ g.span.m → Swept recs ops regs g work ls fs g.k work' ls' fs' count
+      → Passed (pass_ok (view recs ops w regs) g.span.n (is_forth g.phase)) 0 g.span.m (marks g.span.n fs) (marks g.span.n fs') count
   pass_forth u sum sus bar m s =
-      let z = passed_forth r e u (subst (λ (v : List Fact). Summed recs v g.span.n 0 (part g.span.s (length regs) work) ls (marks g.span.n fs)) (sym is) sum) sus bar r.turns s in
-      subst (λ (v : List Fact). Passed (pass_ok (view recs ops v regs) g.span.n (is_forth g.phase)) 0 g.span.m (marks g.span.n fs) (marks g.span.n fs') a'.count) is
-      (ahead_passed (view recs ops (bare fs) regs) g.span.n g.span.m u (subst (λ (x : ℕ). Passed (own (forward_ok (view recs ops (bare fs) regs) g.span.n)) 0 x (marks g.span.n fs) (marks g.span.n fs') a'.count) m z.0))
+      let z = passed_forth r e u (subst (λ (v : List Fact). Summed recs v g.span.n 0 (part g.span.s (length regs) work) ls (marks g.span.n fs)) (sym is) sum) sus bar s in
+      subst (λ (v : List Fact). Passed (pass_ok (view recs ops v regs) g.span.n (is_forth g.phase)) 0 g.span.m (marks g.span.n fs) (marks g.span.n fs') count) is
+      (ahead_passed (view recs ops (bare fs) regs) g.span.n g.span.m u (subst (λ (x : ℕ). Passed (own (forward_ok (view recs ops (bare fs) regs) g.span.n)) 0 x (marks g.span.n fs) (marks g.span.n fs') count) m z.0))

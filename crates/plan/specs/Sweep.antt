@@ -9,7 +9,6 @@ use Rattle.legalset.specs.Chain.{Safe, Brief}
 use Rattle.plan.specs.declared.sweep.Phase.{Phase}
 use Rattle.plan.specs.declared.sweep.Phase.TheVariants.{Start, Back, Forth}
 use Rattle.plan.specs.declared.sweep.Sweep.{Sweep}
-use Rattle.plan.specs.declared.sweep.Tally.{Tally}
 use Rattle.summary.specs.Passes.{begin_test, Near, Written, Readable, Small, Backed, Forwarded, Around}
 
 -- the words of the R registers, from word s of the work on
@@ -39,8 +38,14 @@ is_forth Forth = true
 unfoldable pub place : Sweep → ℕ → ℕ
 place g i = cond (is_forth g.phase) i (g.span.n - 1 - i)
 
+-- whether the position of fact f, which stays in the set or not, is counted: at the start if it is in it, else if it is dropped
+abbrev pub counts : Phase → Fact → Bool → Bool
+counts Start f stays = stays
+counts Back f stays = f.member && not stays
+counts Forth f stays = f.member && not stays
+
 -- what a visit asks of the position p of fact f, and of the work
-pub record Visitable (recs ops regs work : List ℕ) (g : Sweep) (f : Fact) (a : Tally) (p : ℕ) : Type 0 where
+pub record Visitable (recs ops regs work : List ℕ) (g : Sweep) (f : Fact) (p : ℕ) : Type 0 where
   pub written : Written recs (length regs) f.rec f.def f.more
   pub readable : Readable recs ops (length regs) f
   pub small : Small f
@@ -48,31 +53,30 @@ pub record Visitable (recs ops regs work : List ℕ) (g : Sweep) (f : Fact) (a :
   pub row : g.span.o ≤ length work
   pub room : g.span.s + length regs ≤ length work
   pub low : p < 800
-  pub few : a.count ≤ 800
 
--- position p of fact f was visited: whether it is in the set, and a count of those that begin in it, or are dropped
-pub record Visit (recs ops regs : List ℕ) (g : Sweep) (f : Fact) (a : Tally) (p : ℕ) (work ls work' ls' : List ℕ) (r : Tally) : Type 0 where
+-- position p of fact f was visited: whether it stays in the set, or begins in it
+pub record Visit (recs ops regs : List ℕ) (g : Sweep) (f : Fact) (p : ℕ) (work ls work' ls' : List ℕ) (stays : Bool) : Type 0 where
   pub size : length work' ≡ length work
-  pub begun : (is_start g.phase) ≡ true → (r.keep ≡ (ltb p g.span.m && begin_test recs regs work f g.span.o p)) × ((work' ≡ work) × (r.count ≡ a.count + hit r.keep))
-  pub backed : (is_start g.phase) ≡ false → (is_forth g.phase) ≡ false → Backed recs ops f p (part g.span.s (length regs) work) ls (part g.span.s (length regs) work') ls' r.keep
-  pub forwarded : (is_start g.phase) ≡ false → (is_forth g.phase) ≡ true → Forwarded recs ops regs f g.sus g.bar p (part g.span.s (length regs) work) ls (part g.span.s (length regs) work') ls' r.keep
+  pub begun : (is_start g.phase) ≡ true → (stays ≡ (ltb p g.span.m && begin_test recs regs work f g.span.o p)) × (work' ≡ work)
+  pub backed : (is_start g.phase) ≡ false → (is_forth g.phase) ≡ false → Backed recs ops f p (part g.span.s (length regs) work) ls (part g.span.s (length regs) work') ls' stays
+  pub forwarded : (is_start g.phase) ≡ false → (is_forth g.phase) ≡ true
+      → Forwarded recs ops regs f g.fences.sus g.fences.bar p (part g.span.s (length regs) work) ls (part g.span.s (length regs) work') ls' stays
   pub around : Around g.span.s (length regs) work work'
-  pub counted : (is_start g.phase) ≡ false → r.count ≡ a.count + hit (f.member && not r.keep)
 
--- what a sweep of k turns asks
-pub record Sweepable (recs ops regs work : List ℕ) (fs : List Fact) (g : Sweep) (a : Tally) (k : ℕ) : Type 0 where
+-- what a sweep asks
+pub record Sweepable (recs ops regs work : List ℕ) (fs : List Fact) (g : Sweep) : Type 0 where
   pub safe : Safe recs ops (bare fs) g.span.n (length regs)
   pub brief : Brief recs ops (bare fs) g.span.n
   pub near : (is_start g.phase) ≡ false → (is_forth g.phase) ≡ true → Near (part g.span.s (length regs) work)
   pub row : g.span.o ≤ length work
   pub room : g.span.s + length regs ≤ length work
   pub long : g.span.n ≤ length fs
-  pub turns : k ≤ g.span.n
-  pub fresh : a.count ≡ 0
+  pub turns : g.k ≤ g.span.n
 
--- the first i turns of a sweep: the facts are marked as the visits answer
-pub data Swept (recs ops regs : List ℕ) (g : Sweep) (work ls : List ℕ) (fs : List Fact) (a : Tally) : ℕ → List ℕ → List ℕ → List Fact → Tally → Type 0 where
-  none : Swept recs ops regs g work ls fs a 0 work ls fs a
-  more : (i : ℕ) (work' ls' work'' ls'' : List ℕ) (fs' : List Fact) (a' a'' : Tally) → Swept recs ops regs g work ls fs a i work' ls' fs' a'
-      → Visit recs ops regs g (get_or fs' (place g i) no_fact) a' (place g i) work' ls' work'' ls'' a''
-      → Swept recs ops regs g work ls fs a (i + 1) work'' ls'' (set fs' (place g i) (marked (get_or fs' (place g i) no_fact) a''.keep)) a''
+-- the first i turns of a sweep: the facts are marked as the visits answer, and those counted that begin in the set, or are dropped
+pub data Swept (recs ops regs : List ℕ) (g : Sweep) (work ls : List ℕ) (fs : List Fact) : ℕ → List ℕ → List ℕ → List Fact → ℕ → Type 0 where
+  none : Swept recs ops regs g work ls fs 0 work ls fs 0
+  more : (i : ℕ) (work' ls' work'' ls'' : List ℕ) (fs' : List Fact) (count : ℕ) (stays : Bool) → Swept recs ops regs g work ls fs i work' ls' fs' count
+      → Visit recs ops regs g (get_or fs' (place g i) no_fact) (place g i) work' ls' work'' ls'' stays
+      → Swept recs ops regs g work ls fs (i + 1) work'' ls'' (set fs' (place g i) (marked (get_or fs' (place g i) no_fact) stays))
+      (count + hit (counts g.phase (get_or fs' (place g i) no_fact) stays))

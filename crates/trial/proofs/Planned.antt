@@ -154,9 +154,7 @@ module _ {bounds recs ops pairs targets : List ℕ} {s : Sizes} {c : Chain} {fs 
         row = row_fits t d;
         room = omega (arith, r.words64, d.size64);
         long = omega arith;
-        first = refl;
-        ahead = refl;
-        go = refl;
+        start = refl;
       }
 
   choosable_on : 0 < a.least → Choosable recs ops (copied_words t.planning.P work32) work64₁ fs (from_start (needed_at s) (stamps_at s) g.inside g.places g.least)
@@ -174,9 +172,7 @@ module _ {bounds recs ops pairs targets : List ℕ} {s : Sizes} {c : Chain} {fs 
         row = row_fits t d;
         room = omega (arith, r.words64, r.lent, d.size64, rl, l.regs_are);
         long = long;
-        first = refl;
-        ahead = refl;
-        go = refl;
+        start = refl;
       }
 
   pub choosable : Choosable recs ops (take (a.end - 8000) (drop 8000 work32)) work64₁ fs a.sweeps

@@ -23,7 +23,7 @@ use Rattle.chains.specs.Chain.{chain_in}
 
 -- the sweeps from the start on
 abbrev pub from_start : ℕ → ℕ → ℕ → ℕ → ℕ → Cycle
-from_start o s m n least = record { go = true; phase = Start; quiet = false; done = false; span = record { o = o; s = s; m = m; n = n }; least = least; left = 0 }
+from_start o s m n least = record { next = Some Start; quiet = false; span = record { o = o; s = s; m = m; n = n }; least = least; left = 0 }
 
 -- there is a picture of these lists, whose blocks both branches are
 pub record Aiming (bounds recs pairs targets : List ℕ) (s : Sizes) (c : Chain) (work64 work32 : List ℕ) (g : Goal) : Type 0 where

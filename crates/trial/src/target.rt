@@ -49,10 +49,8 @@ fn from_start(o: usize, s: usize, m: usize, n: usize, least: u32) -> Cycle
     ensures { result ≡ from_start o s m n least }
 {
     Cycle {
-        go: true,
-        phase: Phase::Start,
+        next: Some(Phase::Start),
         quiet: false,
-        done: false,
         span: Span { o, s, m, n },
         least,
         left: 0,

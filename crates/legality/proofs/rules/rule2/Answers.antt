@@ -14,8 +14,8 @@ unneeded-requires c =
 pub returns-then-not-f : goal.returns-then-not-f
 returns-then-not-f c =
     let a = c.args in
-    let test = result_test a.regs.now a.bits.now a.o a.p in
-    def_tested a.f (length a.regs.now) test c.new.ensures c.unneeded.ensures ∙ ap (all test) (def_all a.f c.requires.0 (not-true _ c.if-not-f.true))
+    let test = result_test a.asked.now.regs.now a.asked.now.bits.now a.asked.now.at a.p in
+    def_tested a.f (length a.asked.now.regs.now) test c.new.ensures c.unneeded.ensures ∙ ap (all test) (def_all a.f c.requires.0 (not-true _ c.if-not-f.true))
 
 pub slots-requires : goal.slots-requires
 slots-requires c = c.requires.0.known

@@ -9,8 +9,8 @@ use Rattle.legality.proofs.rules.unneeded.Goals as goal
 pub returns-in_default : goal.returns-in_default
 returns-in_default c = result_absent _ _ _ _ _ (ap word_of c.in_default.is)
 
-pub bounds-regs-k : goal.bounds-regs-k
-bounds-regs-k c =
+pub bounds-asked-k : goal.bounds-asked-k
+bounds-asked-k c =
     let is = c.in-Some.is in
     omega (arith, (a_reg is c.requires.0).0, ap word_of is, c.at-k.ensures)
 

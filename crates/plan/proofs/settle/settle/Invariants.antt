@@ -3,7 +3,7 @@ use Rattle.plan.proofs.Looping.{Looping, to_come}
 use Rattle.plan.proofs.settle.settle.Given as goal
 
 abbrev pub invariant-loop-c : goal.invariant-loop-c
-invariant-loop-c l = Looping l.code.recs.now l.code.ops.now l.regs l.fn.z l.fn.work l.fn.facts l.c l.work l.lasts l.facts
+invariant-loop-c l = Looping l.given.code.recs.now l.given.code.ops.now l.given.regs.now l.fn.z l.fn.work l.fn.facts l.c l.work l.lasts l.facts
 
 abbrev pub decreases-loop-c : goal.decreases-loop-c
 decreases-loop-c l = to_come l.c l.facts

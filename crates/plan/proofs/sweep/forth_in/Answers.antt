@@ -1,11 +1,17 @@
 -- `plan::sweep::forth_in` meets its contract. Assumes nothing.
-use mathlib.Core.Path.{◌∙◌, sym}
-use borrow.Rule.Slice.PartMut.{mid_len}
-use Rattle.plan.proofs.Visiting.{forth_part, part_written, part_readable}
+use mathlib.Core.Path.{sym}
+use lib.ListN.{length}
+use Rattle.plan.proofs.Visiting.{forth_part, words_written, words_readable, words_near, words_long}
 use Rattle.plan.proofs.sweep.forth_in.Goals as goal
 
 pub forth-requires : goal.forth-requires
-forth-requires c = let p = c.requires in let a = c.args in (part_written a.g.span.s a.e a.work.now p.7 p.0, part_readable a.g.span.s a.e a.work.now p.7 p.1, p.2, p.3, p.4 ∙ sym (mid_len a.g.span.s a.e a.work.now p.7), p.5)
+forth-requires c =
+    let p = c.requires in
+    let a = c.args in
+    let s = a.g.span.s in
+    let n = length a.given.now.regs.now in
+    let w = a.work.now in
+    (words_written s n w p.5 p.0, words_readable s n w p.5 p.1, p.2, words_near s n w p.5 p.3, sym (words_long s n w p.5), p.4)
 
 pub returns : goal.returns
-returns c = let p = c.requires in forth_part c.args.work.now p.6 p.7 c.forth.ensures
+returns c = forth_part c.args.work.now c.requires.5 c.forth.ensures

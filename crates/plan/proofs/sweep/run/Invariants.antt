@@ -3,4 +3,4 @@ use Rattle.plan.specs.Sweep.{Swept}
 use Rattle.plan.proofs.sweep.run.Given as goal
 
 abbrev pub invariant-loop-i : goal.invariant-loop-i
-invariant-loop-i l = Swept l.code.recs.now l.code.ops.now l.regs l.g l.fn.work l.fn.lasts l.fn.facts l.fn.a l.i l.work l.lasts l.facts l.b
+invariant-loop-i l = Swept l.given.code.recs.now l.given.code.ops.now l.given.regs.now l.g l.fn.work l.fn.lasts l.fn.facts l.i l.work l.lasts l.facts l.count
