@@ -44,6 +44,7 @@ pub fn seek(body: &Body<'_>, work32: &[u32], from: u32) -> Option<Look>
     requires { Seeking body.now.func.bounds.now body.now.func.recs.now body.now.replay.now body.now.sizes work32.now × (from ≤ body.now.sizes.blocks) }
     ensures { Sought body.now.func.bounds.now body.now.func.recs.now body.now.replay.now body.now.sizes work32.now from result }
 {
+    // `find_map` over the range would say so in a line, but what it answers is not proved.
     for b in from..body.sizes.blocks {
         let x = BlockId::known(b, body.sizes.blocks);
         if let Some(k) = look_from(body, work32, x) {
