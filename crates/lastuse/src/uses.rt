@@ -13,7 +13,7 @@ use chains::chain::Chain;
 use chains::cursor::{first, next};
 use inst::code::Code;
 use inst::index::Reg;
-use legality::rules::unneeded_slots;
+use legality::rules::{Elsewhere, unneeded_slots};
 use model::RECORDS;
 use summary::reads::{SLOTS, read_place};
 use summary::stamps::{Stamp, put_slots};
@@ -79,22 +79,20 @@ pub fn last_readers(
     }
 }
 
-// The last use of position p, record g, by its last reader: past the end if the target reads its value; the row of what is
-// live there begins at word `o` of `bits`.
+// The last use of position p, record g, by its last reader: past the end if the target reads its value, where the row asked of is that
+// of what is live there.
 pub fn last_use(
     code: &Code,
-    regs: &[u32],
-    bits: &[u64],
-    o: usize,
+    asked: &Elsewhere<'_>,
     lasts: &[u32; RECORDS],
     g: usize,
     p: usize,
     n: usize,
 ) -> u32
-    requires { Known code.now.recs.now g × Fits code.now.recs.now (length regs.now) g × (p < n) × (n ≤ 800) × (o ≤ length bits.now) }
-    ensures { result ≡ cond (all (result_test regs.now bits.now o p) (writes (inst code.now.recs.now g))) (get_or lasts.now p 0) n }
+    requires { Known code.now.recs.now g × Fits code.now.recs.now (length asked.now.regs.now) g × (p < n) × (n ≤ 800) × (asked.now.at ≤ length asked.now.bits.now) }
+    ensures { result ≡ cond (all (result_test asked.now.regs.now asked.now.bits.now asked.now.at p) (writes (inst code.now.recs.now g))) (get_or lasts.now p 0) n }
 {
-    if unneeded_slots(&code.slots(g), regs, bits, o, p) {
+    if unneeded_slots(&code.slots(g), asked.regs, asked.bits, asked.at, p) {
         return lasts[p];
     }
     n as u32

@@ -9,9 +9,9 @@ unneeded_slots-requires c = let p = c.requires in (rw (c.slots.ensures.recs, c.s
 pub returns-then-unneeded_slots : goal.returns-then-unneeded_slots
 returns-then-unneeded_slots c =
     let a = c.args in
-    use_inside a.code.now.recs.now a.regs.now a.bits.now a.o a.lasts.now a.g a.p a.n (rw (c.slots.ensures.recs, c.slots.ensures.place) at c.unneeded_slots.ensures) c.if-unneeded_slots.true
+    use_inside a.code.now.recs.now a.asked.now.regs.now a.asked.now.bits.now a.asked.now.at a.lasts.now a.g a.p a.n (rw (c.slots.ensures.recs, c.slots.ensures.place) at c.unneeded_slots.ensures) c.if-unneeded_slots.true
 
 pub returns : goal.returns
 returns c =
     let a = c.args in
-    use_past a.code.now.recs.now a.regs.now a.bits.now a.o a.lasts.now a.g a.p a.n (rw (c.slots.ensures.recs, c.slots.ensures.place) at c.unneeded_slots.ensures) c.if-unneeded_slots.false
+    use_past a.code.now.recs.now a.asked.now.regs.now a.asked.now.bits.now a.asked.now.at a.lasts.now a.g a.p a.n (rw (c.slots.ensures.recs, c.slots.ensures.place) at c.unneeded_slots.ensures) c.if-unneeded_slots.false
