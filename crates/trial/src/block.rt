@@ -65,7 +65,8 @@ fn found(x: BlockId, g: Goal, k: u32, l: u32) -> Option<Move>
     None
 }
 
-// The move from block k.x along its chain, which is worth a look. The facts along it are left in the list, marked for the target tried last.
+// The move from block k.x along its chain, which is worth a look. The facts along it are left in the list, marked for the target tried
+// last.
 pub fn try_chain(
     body: &Body<'_>,
     work64: &mut [u64],
