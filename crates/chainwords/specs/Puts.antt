@@ -44,17 +44,17 @@ pub record Facts (fs : List Fact) (before after : List ℕ) (p : ℕ) : Type 0 w
 abbrev pub use_of : List ℕ → List ℕ → List ℕ → ℕ → List ℕ → ℕ → ℕ → ℕ → ℕ
 use_of recs regs bits o lasts n g p = cond (all (result_test regs bits o p) (writes (inst recs g))) (get_or lasts p 0) n
 
--- word 0 of each of n positions is a record's number, and the words of the r registers in use lie behind them; a row from word o on
-pub record UseAsked (recs work64 work32 : List ℕ) (r o n : ℕ) : Type 0 where
+-- word 0 of each of n positions is the number of a record that writes registers of these words; a row from word o of bits on
+pub record UseAsked (recs regs bits words : List ℕ) (o n : ℕ) : Type 0 where
   pub few : n ≤ 800
-  pub known : (p : ℕ) → p < n → Known recs (get_or work32 (10 * p) 0)
-  pub fits : (p : ℕ) → p < n → Fits recs r (get_or work32 (10 * p) 0)
-  pub room : 8000 + r ≤ length work32
-  pub row : o ≤ length work64
+  pub known : (p : ℕ) → p < n → Known recs (get_or words (10 * p) 0)
+  pub fits : (p : ℕ) → p < n → Fits recs (length regs) (get_or words (10 * p) 0)
+  pub room : 8000 ≤ length words
+  pub row : o ≤ length bits
 
 -- word 7 of the first p positions is their last use, and nothing else was written
-pub record Lasting (recs lasts bits before after : List ℕ) (r o n p : ℕ) : Type 0 where
+pub record Lasting (recs lasts regs bits before after : List ℕ) (o n p : ℕ) : Type 0 where
   pub size : length after ≡ length before
-  pub last : (q : ℕ) → q < p → get_or after (10 * q + 7) 0 ≡ use_of recs (take r (drop 8000 before)) bits o lasts n (get_or before (10 * q) 0) q
+  pub last : (q : ℕ) → q < p → get_or after (10 * q + 7) 0 ≡ use_of recs regs bits o lasts n (get_or before (10 * q) 0) q
   pub others : (q j : ℕ) → j < 10 → (j ≡ 7 → ⊥) → get_or after (10 * q + j) 0 ≡ get_or before (10 * q + j) 0
   pub rest : (i : ℕ) → 10 * p ≤ i → get_or after i 0 ≡ get_or before i 0

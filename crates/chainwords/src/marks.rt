@@ -1,19 +1,22 @@
 // The chain's words for the move (01, "The move"): of each position the number of its record, its mark and the register it writes, by its
 // fact; of each position in x its last use.
-ghost use Rattle.std.specs.Prelude.{◌≡◌, ◌+◌, ◌*◌, ◌≤◌, ◌<◌, length, get_or, take, drop};
+ghost use Rattle.std.specs.Prelude.{◌≡◌, ◌+◌, ◌*◌, ◌≤◌, length};
 ghost use Rattle.summary.specs.Passes.{Around};
 ghost use Rattle.lastuse.specs.Uses.{Legible, ReadersAlong};
-ghost use Rattle.chainwords.specs.Puts.{Own, put_fact, Facts, use_of, UseAsked, Lasting};
+ghost use Rattle.sizes.specs.Parts.{stamps_at};
+ghost use Rattle.chainwords.specs.Puts.{Own, put_fact, Facts, UseAsked, Lasting};
 ghost use Rattle.chainwords.specs.Along.{Using, Used};
 
+use apply::moves::Move;
+use cfg::body::Body;
 use chains::chain::Chain;
 use facts::Fact;
 use inst::code::Code;
-use inst::index::BlockId;
 use lastuse::uses::{last_readers, last_use};
+use legality::rules::Elsewhere;
 use model::RECORDS;
 use position::{DEF, LAST, MARK, PLACE};
-use sizes::{COPIED, Sizes, at_stamps};
+use sizes::{COPIED, at_stamps};
 use words::bits::width;
 
 // Of the words of position p, of fact f: record, mark, register written.
@@ -47,85 +50,64 @@ fn own_places(lasts: &mut [u32; RECORDS])
     }
 }
 
-// Each position's last reader in chain c, into `lasts`; r words from st on are written.
-fn find_readers(
-    code: &Code,
-    bounds: &[u32],
-    work64: &mut [u64],
-    lasts: &mut [u32; RECORDS],
-    c: Chain,
-    st: usize,
-    r: usize,
-)
-    requires { Legible code.now.recs.now code.now.ops.now bounds.now c r × (st + r ≤ length work64.old) × (length lasts.old ≡ 800) }
-    ensures { ReadersAlong code.now.recs.now code.now.ops.now bounds.now c lasts.new × Around st r work64.old work64.new }
+// Each position's last reader in chain c, into `lasts`. The words of the stamps are written.
+fn find_readers(body: &Body<'_>, work64: &mut [u64], lasts: &mut [u32; RECORDS], c: Chain)
+    requires chain { Legible body.now.func.recs.now body.now.ops.now body.now.func.bounds.now c body.now.sizes.regs }
+    requires few { (body.now.sizes.blocks ≤ 4096) × (body.now.sizes.lent ≤ 65536) }
+    requires room { stamps_at body.now.sizes + body.now.sizes.regs ≤ length work64.old }
+    requires lasts { length lasts.old ≡ 800 }
+    ensures { ReadersAlong body.now.func.recs.now body.now.ops.now body.now.func.bounds.now c lasts.new × Around (stamps_at body.now.sizes) body.now.sizes.regs work64.old work64.new }
 {
-    let e = st + r;
+    let code = Code {
+        table: body.func.table,
+        recs: body.func.recs,
+        ops: body.ops,
+    };
+    let st = at_stamps(body.sizes);
+    let e = st + body.sizes.regs as usize;
     own_places(lasts);
-    last_readers(code, bounds, &mut work64[st..e], lasts, c);
+    last_readers(&code, body.func.bounds, &mut work64[st..e], lasts, c);
 }
 
-// The last use of position p; row o is what is live into the target.
-fn find_use(
-    code: &Code,
-    work64: &[u64],
-    work32: &[u32],
-    lasts: &[u32; RECORDS],
-    r: usize,
-    o: usize,
-    p: usize,
-    n: usize,
-) -> u32
-    requires { UseAsked code.now.recs.now work64.now work32.now r o n × (p < n) }
-    ensures { result ≡ use_of code.now.recs.now (take r (drop 8000 work32.now)) work64.now o lasts.now n (get_or work32.now (10 * p) 0) p }
-{
-    let g = work32[PLACE * p] as usize;
-    let e = COPIED + r;
-    last_use(code, &work32[COPIED..e], work64, o, lasts, g, p, n)
-}
-
-// The last uses of the first m positions.
+// The last uses of the first m of n positions, into their words; the row asked of is that of what is live into the target.
 fn put_lasts(
     code: &Code,
-    work64: &[u64],
-    work32: &mut [u32],
+    asked: &Elsewhere<'_>,
     lasts: &[u32; RECORDS],
-    r: usize,
-    o: usize,
+    words: &mut [u32],
     m: usize,
     n: usize,
 )
-    requires { UseAsked code.now.recs.now work64.now work32.old r o n × (m ≤ n) }
-    ensures { Lasting code.now.recs.now lasts.now work64.now work32.old work32.new r o n m }
+    requires { UseAsked code.now.recs.now asked.now.regs.now asked.now.bits.now words.old asked.now.at n × (m ≤ n) }
+    ensures { Lasting code.now.recs.now lasts.now asked.now.regs.now asked.now.bits.now words.old words.new asked.now.at n m }
 {
     for p in 0..m {
-        work32[PLACE * p + LAST] = find_use(code, work64, work32, lasts, r, o, p, n);
+        let g = words[PLACE * p] as usize;
+        words[PLACE * p + LAST] = last_use(code, asked, lasts, g, p, n);
     }
 }
 
-// The last uses of the m positions in x, for target `into`, if any members move.
-pub fn put_uses(
-    code: &Code,
-    bounds: &[u32],
-    work64: &mut [u64],
-    work32: &mut [u32],
-    s: Sizes,
-    c: Chain,
-    moved: u32,
-    into: BlockId,
-    m: usize,
-    n: usize,
-)
-    requires { Using bounds.now code.now.recs.now code.now.ops.now s c work64.old work32.old moved into.0 m n }
-    ensures { Used bounds.now code.now.recs.now code.now.ops.now s c work64.old work32.old moved into.0 m n work64.new work32.new }
+// The last uses of the positions inside the first block of chain c, for move mv, if any members move.
+pub fn put_uses(body: &Body<'_>, work64: &mut [u64], work32: &mut [u32], c: Chain, mv: Move)
+    requires { Using body.now.func.bounds.now body.now.func.recs.now body.now.ops.now body.now.sizes c work64.old work32.old mv.moved mv.into.0 mv.inside mv.places }
+    ensures { Used body.now.func.bounds.now body.now.func.recs.now body.now.ops.now body.now.sizes c work64.old work32.old mv.moved mv.into.0 mv.inside mv.places work64.new work32.new }
 {
-    if moved == 0 {
+    if mv.moved == 0 {
         return;
     }
-    let r = s.regs as usize;
-    let st = at_stamps(s);
     let mut lasts = [0u32; RECORDS];
-    find_readers(code, bounds, work64, &mut lasts, c, st, r);
-    let o = into.at() * width(r);
-    put_lasts(code, work64, work32, &lasts, r, o, m, n);
+    find_readers(body, work64, &mut lasts, c);
+    let code = Code {
+        table: body.func.table,
+        recs: body.func.recs,
+        ops: body.ops,
+    };
+    let r = body.sizes.regs as usize;
+    let (words, behind) = work32.split_at_mut(COPIED);
+    let asked = Elsewhere {
+        regs: &behind[..r],
+        bits: work64,
+        at: mv.into.at() * width(r),
+    };
+    put_lasts(&code, &asked, &lasts, words, mv.inside, mv.places);
 }

@@ -28,7 +28,7 @@ fn renew(code: &Code, bounds: &[u32], work64: &mut [u64], was: u32, l: Line)
     block_rows(work64, code, bounds, k, mv.into);
 }
 
-// The round's move, if it fits.
+// The round's move, if it fits. (The slices that are written stay apart, as in `round`.)
 pub fn make(
     t: &Table,
     bounds: &mut [u32],

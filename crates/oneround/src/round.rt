@@ -7,23 +7,25 @@ ghost use Rattle.oneround.specs.Kept.{registers_then, operands_then, StepKept};
 
 use crate::make::make;
 use crate::weigh::{Step, weigh};
+use cfg::body::Body;
+use cfg::graph::Func;
 use facts::Fact;
 use find::find_move;
-use inst::code::Code;
 use inst::table::Table;
 use sizes::Sizes;
 
-pub fn round(
-    t: &Table,
+// The slices that are written stay apart: a struct of `&mut` slices cannot be lent on twice. What is shared has one lifetime, as in `Body`.
+pub fn round<'a>(
+    t: &'a Table,
     bounds: &mut [u32],
     recs: &mut [u32],
     locs: &mut [u32],
     vias: &mut [u32],
     types: &mut [u32],
     ops: &mut [u32],
-    pairs: &[u32],
-    targets: &[u32],
-    replay: &[u32],
+    pairs: &'a [u32],
+    targets: &'a [u32],
+    replay: &'a [u32],
     work64: &mut [u64],
     work32: &mut [u32],
     facts: &mut [Fact],
@@ -36,15 +38,21 @@ pub fn round(
         Stepped P work64.old work32.old result bounds.new recs.new locs.new vias.new types.new ops.new work64.new work32.new
         × StepKept P work64.old work32.old result Q }
 {
-    let found = find_move(
-        t, bounds, recs, ops, pairs, targets, replay, work64, work32, facts, s,
-    );
-    let code = Code {
+    let func = Func {
         table: t,
+        bounds,
         recs,
-        ops,
+        pairs,
+        targets,
     };
-    let r = weigh(&code, bounds, types, work64, work32, s, found);
+    let body = Body {
+        func,
+        ops,
+        replay,
+        sizes: s,
+    };
+    let found = find_move(&body, work64, work32, facts);
+    let r = weigh(&body, types, work64, work32, found);
     make(
         t, bounds, recs, locs, vias, types, ops, work64, work32, s, r,
     );

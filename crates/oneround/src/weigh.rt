@@ -6,9 +6,10 @@ ghost use Rattle.oneround.specs.Weigh.{Needing, Needed, IsStepped, Ready, Weighe
 
 use apply::moves::Move;
 use apply::needs::{Counts, needs};
+use cfg::body::Body;
 use inst::code::Code;
 use model::CHAIN_WORDS;
-use sizes::{Sizes, at_stamps};
+use sizes::at_stamps;
 
 // A move that fits, with the registers and operands in use after it.
 #[derive(Clone, Copy)]
@@ -28,25 +29,29 @@ pub enum Step {
 
 // What move mv needs: the registers and operands in use after it. Its new registers are then in the words of its positions.
 fn count_needs(
-    code: &Code,
-    bounds: &[u32],
+    body: &Body<'_>,
     types: &[u32],
     work64: &mut [u64],
     work32: &mut [u32],
-    s: Sizes,
     mv: Move,
 ) -> Counts
-    requires { Exists (λ n. Needing bounds.now code.now.recs.now types.now code.now.ops.now s work64.old work32.old n mv) }
-    ensures { Needed bounds.now code.now.recs.now types.now code.now.ops.now s work64.old work32.old mv work64.new work32.new result }
+    requires { Exists (λ n. Needing body.now.func.bounds.now body.now.func.recs.now types.now body.now.ops.now body.now.sizes work64.old work32.old n mv) }
+    ensures { Needed body.now.func.bounds.now body.now.func.recs.now types.now body.now.ops.now body.now.sizes work64.old work32.old mv work64.new work32.new result }
 {
+    let code = Code {
+        table: body.func.table,
+        recs: body.func.recs,
+        ops: body.ops,
+    };
+    let s = body.sizes;
     let a = at_stamps(s);
     let c = Counts {
         regs: s.regs,
         opers: s.opers as usize,
     };
     needs(
-        code,
-        bounds,
+        &code,
+        body.func.bounds,
         types,
         &mut work64[a..a + s.lent],
         &mut work32[..CHAIN_WORDS],
@@ -75,20 +80,18 @@ fn step_of(mv: Move, c: Counts, lent: usize, room: usize) -> Step
 
 // What the round comes to, of which r is the move, if there is one.
 pub fn weigh(
-    code: &Code,
-    bounds: &[u32],
+    body: &Body<'_>,
     types: &[u32],
     work64: &mut [u64],
     work32: &mut [u32],
-    s: Sizes,
     r: Option<Move>,
 ) -> Step
-    requires { Ready bounds.now code.now.recs.now types.now code.now.ops.now s work64.old work32.old r }
-    ensures { Weighed bounds.now code.now.recs.now types.now code.now.ops.now s work64.old work32.old r work64.new work32.new result }
+    requires { Ready body.now.func.bounds.now body.now.func.recs.now types.now body.now.ops.now body.now.sizes work64.old work32.old r }
+    ensures { Weighed body.now.func.bounds.now body.now.func.recs.now types.now body.now.ops.now body.now.sizes work64.old work32.old r work64.new work32.new result }
 {
     let Some(mv) = r else {
         return Step::Ends;
     };
-    let c = count_needs(code, bounds, types, work64, work32, s, mv);
-    step_of(mv, c, s.lent, code.ops.len())
+    let c = count_needs(body, types, work64, work32, mv);
+    step_of(mv, c, body.sizes.lent, body.ops.len())
 }

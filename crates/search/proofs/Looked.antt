@@ -112,8 +112,8 @@ module _ (P : Picture) (G : Facts) (x : ℕ) where
       go None e = no_chain e
       go (Some c) e = not_worth c e (low c (worth_a_look P x c) refl)
 
-sized : (P : Picture) {bounds : List ℕ} → bounds ≡ P.bounds → (x k : ℕ) → k ≡ x → get_or bounds (2 * k + 1) 0 - get_or bounds (2 * k) 0 ≡ size P x
-sized P h x k e = ap₂ (λ (l : List ℕ) (i : ℕ). get_or l (2 * i + 1) 0 - get_or l (2 * i) 0) h e
+sized : (P : Picture) {bounds : List ℕ} → bounds ≡ P.bounds → (x : ℕ) → get_or bounds (2 * x + 1) 0 - get_or bounds (2 * x) 0 ≡ size P x
+sized P h x = ap (λ (l : List ℕ). get_or l (2 * x + 1) 0 - get_or l (2 * x) 0) h
 
 -- with work slices of these lengths
 pub shown_at : {bounds recs ops pairs targets replay : List ℕ} {s : Sizes} {P : Picture} {a b a' b' : ℕ} → a' ≡ a → b' ≡ b → Shown P bounds recs ops pairs targets replay s a b → Shown P bounds recs ops pairs targets replay s a' b'
@@ -150,11 +150,11 @@ module _ {bounds recs replay : List ℕ} {s : Sizes} {work32 : List ℕ} (g : Se
       (subst (λ (r : List ℕ). Blocks P.bounds r s.blocks) (sym lists.recs_are) (subst (Blocks P.bounds P.recs) (sym lists.blocks_are) z))
 
   -- block x's bounds
-  pub bounds_long : (x k : ℕ) → k ≡ x → x < s.blocks → 2 * k + 1 < length bounds
-  bounds_long x k e h = let z = (pair_ask x h).size in omega arith
+  pub bounds_long : (x : ℕ) → x < s.blocks → 2 * x + 1 < length bounds
+  bounds_long x h = let z = (pair_ask x h).size in omega arith
 
-  pub bounds_order : (x k : ℕ) → k ≡ x → x < s.blocks → get_or bounds (2 * k) 0 ≤ get_or bounds (2 * k + 1) 0
-  bounds_order x k e h = (pair_ask k (omega arith)).order
+  pub bounds_order : (x : ℕ) → x < s.blocks → get_or bounds (2 * x) 0 ≤ get_or bounds (2 * x + 1) 0
+  bounds_order x h = (pair_ask x h).order
 
   pub worth_asks : (x : ℕ) {r : Option Chain} {c : Chain} → x < s.blocks → SoundOf r s.blocks → r ≡ Some c
       → Laid bounds c × Pair bounds x × (16 * end_past bounds x ≤ length recs)
@@ -168,9 +168,9 @@ pub chains_at : {bounds recs : List ℕ} (s : Sizes) (work32 : List ℕ) {x : �
 chains_at {bounds} {recs} s work32 {x} {r} e f = subst (λ (p : ℕ). C.Found bounds recs (take (length work32 - p) (drop p work32)) x s.blocks r) e f
 
 -- what it answers
-module _ {bounds recs replay : List ℕ} {s : Sizes} {work32 : List ℕ} (x k : ℕ) (ek : k ≡ x) where
-  pub looked_short : get_or bounds (2 * k + 1) 0 - get_or bounds (2 * k) 0 ≤ 3 → Looked bounds recs replay s work32 x None
-  looked_short h = record { is = λ P v G. too_short P G x (let z = sized P v.shown.lists.bounds_are x k ek in omega arith) }
+module _ {bounds recs replay : List ℕ} {s : Sizes} {work32 : List ℕ} (x : ℕ) where
+  pub looked_short : get_or bounds (2 * x + 1) 0 - get_or bounds (2 * x) 0 ≤ 3 → Looked bounds recs replay s work32 x None
+  looked_short h = record { is = λ P v G. too_short P G x (let z = sized P v.shown.lists.bounds_are x in omega arith) }
 
   chain_is : {r : Option Chain} (P : Picture) → Sees P bounds recs replay s work32 → Chains bounds recs s work32 x r → chain_of r ≡ chain P x
   chain_is P v f =

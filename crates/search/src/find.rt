@@ -3,12 +3,12 @@
 ghost use Rattle.std.specs.Prelude.{◌≡◌, ◌≤◌, ◌<◌};
 ghost use Rattle.search.specs.Search.{Looking, Seeking, Looked, Sought, Opened};
 
-use cfg::graph::Func;
+use cfg::body::Body;
 use chains::chain::{Chain, find_chain};
 use chains::pass::Sink;
 use flow::live::live_in;
 use inst::index::BlockId;
-use sizes::{Sizes, at_preds};
+use sizes::at_preds;
 use worth::look::worth_a_look;
 
 // A block and the chain from it, which is worth a look.
@@ -19,46 +19,35 @@ pub struct Look {
 }
 
 // The chain from block x, if it is worth a look.
-pub fn look_from(
-    bounds: &[u32],
-    recs: &[u32],
-    replay: &[u32],
-    work32: &[u32],
-    s: Sizes,
-    x: BlockId,
-) -> Option<Look>
-    requires { Seeking bounds.now recs.now replay.now s work32.now × (x.0 < s.blocks) }
-    ensures { Looked bounds.now recs.now replay.now s work32.now x.0 result }
+pub fn look_from(body: &Body<'_>, work32: &[u32], x: BlockId) -> Option<Look>
+    requires { Seeking body.now.func.bounds.now body.now.func.recs.now body.now.replay.now body.now.sizes work32.now × (x.0 < body.now.sizes.blocks) }
+    ensures { Looked body.now.func.bounds.now body.now.func.recs.now body.now.replay.now body.now.sizes work32.now x.0 result }
 {
-    let k = x.at();
-    if bounds[2 * k + 1] - bounds[2 * k] <= Sink::MIN_REPLAY {
+    let bounds = body.func.bounds;
+    let recs = body.func.recs;
+    let size = x.past(bounds) - x.start(bounds);
+    if size <= Sink::MIN_REPLAY as usize {
         return None;
     }
-    let p = at_preds(s);
-    let Some(c) = find_chain(bounds, recs, &work32[p..], x, s.blocks) else {
+    let p = at_preds(body.sizes);
+    let Some(c) = find_chain(bounds, recs, &work32[p..], x, body.sizes.blocks) else {
         return None;
     };
-    if !worth_a_look(bounds, recs, replay, c, x) {
+    if !worth_a_look(bounds, recs, body.replay, c, x) {
         return None;
     }
     Some(Look { x, c })
 }
 
 // The first such block in number order, from block `from` on.
-pub fn seek(
-    bounds: &[u32],
-    recs: &[u32],
-    replay: &[u32],
-    work32: &[u32],
-    s: Sizes,
-    from: u32,
-) -> Option<Look>
-    requires { Seeking bounds.now recs.now replay.now s work32.now × (from ≤ s.blocks) }
-    ensures { Sought bounds.now recs.now replay.now s work32.now from result }
+pub fn seek(body: &Body<'_>, work32: &[u32], from: u32) -> Option<Look>
+    requires { Seeking body.now.func.bounds.now body.now.func.recs.now body.now.replay.now body.now.sizes work32.now × (from ≤ body.now.sizes.blocks) }
+    ensures { Sought body.now.func.bounds.now body.now.func.recs.now body.now.replay.now body.now.sizes work32.now from result }
 {
-    for b in from..s.blocks {
-        let x = BlockId::known(b, s.blocks);
-        if let Some(k) = look_from(bounds, recs, replay, work32, s, x) {
+    // `find_map` over the range would say so in a line, but what it answers is not proved.
+    for b in from..body.sizes.blocks {
+        let x = BlockId::known(b, body.sizes.blocks);
+        if let Some(k) = look_from(body, work32, x) {
             return Some(k);
         }
     }
@@ -66,16 +55,10 @@ pub fn seek(
 }
 
 // A round's first: live-in anew, then the search from block 0 on.
-pub fn first_look(
-    func: &Func<'_>,
-    replay: &[u32],
-    work64: &mut [u64],
-    work32: &[u32],
-    s: Sizes,
-) -> Option<Look>
-    requires { Looking func.now.bounds.now func.now.recs.now func.now.pairs.now func.now.targets.now replay.now s work64.old work32.now }
-    ensures { Opened func.now.bounds.now func.now.recs.now func.now.pairs.now func.now.targets.now replay.now s work64.old work32.now work64.new result }
+pub fn first_look(body: &Body<'_>, work64: &mut [u64], work32: &[u32]) -> Option<Look>
+    requires { Looking body.now.func.bounds.now body.now.func.recs.now body.now.func.pairs.now body.now.func.targets.now body.now.replay.now body.now.sizes work64.old work32.now }
+    ensures { Opened body.now.func.bounds.now body.now.func.recs.now body.now.func.pairs.now body.now.func.targets.now body.now.replay.now body.now.sizes work64.old work32.now work64.new result }
 {
-    live_in(work64, func, s.regs as usize);
-    seek(func.bounds, func.recs, replay, work32, s, 0)
+    live_in(work64, &body.func, body.sizes.regs as usize);
+    seek(body, work32, 0)
 }

@@ -30,7 +30,6 @@ use Rattle.chains.specs.Chain.{chain_in}
 use Rattle.trial.specs.Target.{Trying, TargetTried}
 use Rattle.trial.specs.Trial.{IsTried, toward_t, toward_f, found, Following, Followed}
 use Rattle.worth.specs.Worth.{Chosen}
-use Rattle.chainwords.proofs.Rooms.{room}
 use Rattle.worth.proofs.Looks.{worth_facts, worth_long}
 use Rattle.trial.proofs.Planned.{along_behind, lists_of}
 use Rattle.trial.proofs.Moves.{plan_in, MovesBy, held_both, first_plan}
@@ -102,11 +101,11 @@ module _ {bounds recs ops pairs targets replay : List ℕ} {s : Sizes} (k : Look
   size_some = let a = worth_long p.given.P k.x.0 (chain_in k.c) p.chosen.worth in let f = size_is k.x.0 p.given.shown.lists in omega arith
 
   -- what `toward_t` asks
-  pub measured : (k.x.0 < 4096) × (2 * k.x.0 + 1 < length bounds) × (get_or bounds (2 * k.x.0) 0 < get_or bounds (2 * k.x.0 + 1) 0)
+  pub measured : (2 * k.x.0 + 1 < length bounds) × (get_or bounds (2 * k.x.0) 0 < get_or bounds (2 * k.x.0 + 1) 0)
   measured =
       let b = p.chosen.x_block in
       let l : length bounds ≡ length p.given.P.bounds = ap length p.given.shown.lists.bounds_are in
-      (let a = (room p.given.shown.lists).blocks in let e = p.given.shown.lists.blocks_are in omega arith, omega arith, let z = size_some in omega arith)
+      (omega arith, let z = size_some in omega arith)
 
   pub learning : {fs : List F.Fact} → 800 ≤ length fs → Learning bounds recs ops s k.c work64 work32 fs
   learning h = record { P = p.given.P; G = p.given.G; lists = p.given.shown.lists; held = p.given.held; chained = chained_here p.chosen; room = h }

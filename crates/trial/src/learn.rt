@@ -6,11 +6,11 @@ ghost use Rattle.chainwords.specs.Along.{Learning, Learnt};
 
 use analyse::along::analyse;
 use analyse::look::LEFT;
+use cfg::body::Body;
 use chains::chain::Chain;
 use facts::Fact;
 use inst::code::Code;
-use inst::table::Table;
-use sizes::{COPIED, Sizes, at_regs};
+use sizes::{COPIED, at_regs};
 
 // The last writers and flags of the first r words from word a on, from word 8,000 on.
 fn copy_regs(work64: &[u64], work32: &mut [u32], a: usize, r: usize)
@@ -24,28 +24,24 @@ fn copy_regs(work64: &[u64], work32: &mut [u32], a: usize, r: usize)
 
 // The facts of chain c. The answer is the number of its positions.
 pub fn learn(
-    t: &Table,
-    bounds: &[u32],
-    recs: &[u32],
-    ops: &[u32],
+    body: &Body<'_>,
     work64: &mut [u64],
     work32: &mut [u32],
     facts: &mut [Fact],
-    s: Sizes,
     c: Chain,
 ) -> usize
-    requires { Learning bounds.now recs.now ops.now s c work64.old work32.old facts.old }
-    ensures { Learnt bounds.now recs.now ops.now s c work64.old work32.old work64.new work32.new facts.new result }
+    requires { Learning body.now.func.bounds.now body.now.func.recs.now body.now.ops.now body.now.sizes c work64.old work32.old facts.old }
+    ensures { Learnt body.now.func.bounds.now body.now.func.recs.now body.now.ops.now body.now.sizes c work64.old work32.old work64.new work32.new facts.new result }
 {
-    let r = s.regs as usize;
-    let a = at_regs(s);
-    let e = a + s.lent;
+    let r = body.sizes.regs as usize;
+    let a = at_regs(body.sizes);
+    let e = a + body.sizes.lent;
     let code = Code {
-        table: t,
-        recs,
-        ops,
+        table: body.func.table,
+        recs: body.func.recs,
+        ops: body.ops,
     };
-    let n = analyse(&code, &mut work64[a..e], facts, bounds, c, r);
+    let n = analyse(&code, &mut work64[a..e], facts, body.func.bounds, c, r);
     copy_regs(work64, work32, a, r);
     n as usize
 }

@@ -3,18 +3,18 @@ ghost use Rattle.std.specs.Prelude.{◌≡◌, ◌≤◌, length};
 ghost use Rattle.facts.specs.Marks.{bare};
 ghost use Rattle.trial.specs.Target.{from_start, taken, Aiming, Aimed, Trying, TargetTried};
 
-use cfg::graph::Func;
+use apply::moves::Move;
+use cfg::body::Body;
 use chains::chain::Chain;
 use chainwords::marks::{put_facts, put_uses};
 use facts::Fact;
 use flow::needed::put_needed;
 use inst::code::Code;
 use inst::index::BlockId;
-use inst::table::Table;
 use plan::set::legal_set;
 use plan::settle::Cycle;
 use plan::sweep::{Phase, Span};
-use sizes::{COPIED, Sizes, at_needed, at_preds, at_stamps};
+use sizes::{COPIED, at_needed, at_preds, at_stamps};
 use words::bits::width;
 
 // What one target is tried with: the block that members are to move into, and the other branch; the fewest members that a move has, or
@@ -59,24 +59,13 @@ fn from_start(o: usize, s: usize, m: usize, n: usize, least: u32) -> Cycle
 
 // Is g.into a target, and is a move wanted? Then the row of the registers needed elsewhere is put; else the sweeps are over no positions
 // and no registers.
-fn take_aim<'a>(
-    t: &Table,
-    bounds: &[u32],
-    recs: &'a [u32],
-    pairs: &[u32],
-    targets: &'a [u32],
-    work64: &mut [u64],
-    work32: &[u32],
-    s: Sizes,
-    c: Chain,
-    g: Goal,
-) -> Aim
-    requires { Aiming bounds.now recs.now pairs.now targets.now s c work64.old work32.now g }
-    ensures { Aimed bounds.now recs.now pairs.now targets.now s c work64.old work32.now g work64.new result }
+fn take_aim(body: &Body<'_>, work64: &mut [u64], work32: &[u32], c: Chain, g: Goal) -> Aim
+    requires { Aiming body.now.func.bounds.now body.now.func.recs.now body.now.func.pairs.now body.now.func.targets.now body.now.sizes c work64.old work32.now g }
+    ensures { Aimed body.now.func.bounds.now body.now.func.recs.now body.now.func.pairs.now body.now.func.targets.now body.now.sizes c work64.old work32.now g work64.new result }
 {
-    let o = at_needed(s);
-    let st = at_stamps(s);
-    let k = at_preds(s);
+    let o = at_needed(body.sizes);
+    let st = at_stamps(body.sizes);
+    let k = at_preds(body.sizes);
     let wanted = (g.least != 0) & c.is_target(&work32[k..], g.into);
     if !wanted {
         return Aim {
@@ -85,17 +74,11 @@ fn take_aim<'a>(
             sweeps: from_start(o, st, 0, 0, 1),
         };
     }
-    let func = Func {
-        table: t,
-        bounds,
-        recs,
-        pairs,
-        targets,
-    };
-    put_needed(&func, work64, width(s.regs as usize), g.into, g.other);
+    let r = body.sizes.regs as usize;
+    put_needed(&body.func, work64, width(r), g.into, g.other);
     Aim {
         least: g.least,
-        end: COPIED + s.regs as usize,
+        end: COPIED + r,
         sweeps: from_start(o, st, g.inside, g.places, g.least),
     }
 }
@@ -118,35 +101,34 @@ fn taken(k: u32, least: u32, n: usize) -> Sunk
 
 // How many members move into g.into: 0 where that is no target, none is wanted or there are too few. The chain's words then say which,
 // with their last uses and the registers they write.
-pub fn try_target<'a>(
-    t: &Table,
-    bounds: &[u32],
-    recs: &'a [u32],
-    ops: &[u32],
-    pairs: &[u32],
-    targets: &'a [u32],
+pub fn try_target(
+    body: &Body<'_>,
     work64: &mut [u64],
     work32: &mut [u32],
     facts: &mut [Fact],
-    s: Sizes,
     c: Chain,
     g: Goal,
 ) -> u32
-    requires { Trying bounds.now recs.now ops.now pairs.now targets.now s c (bare facts.old) work64.old work32.old g × (g.places ≤ length facts.old) }
-    ensures { TargetTried bounds.now recs.now ops.now pairs.now targets.now s c (bare facts.old) work64.old work32.old g work64.new work32.new result × (bare facts.new ≡ bare facts.old) }
+    requires { Trying body.now.func.bounds.now body.now.func.recs.now body.now.ops.now body.now.func.pairs.now body.now.func.targets.now body.now.sizes c (bare facts.old) work64.old work32.old g × (g.places ≤ length facts.old) }
+    ensures { TargetTried body.now.func.bounds.now body.now.func.recs.now body.now.ops.now body.now.func.pairs.now body.now.func.targets.now body.now.sizes c (bare facts.old) work64.old work32.old g work64.new work32.new result × (bare facts.new ≡ bare facts.old) }
 {
-    let a = take_aim(t, bounds, recs, pairs, targets, work64, work32, s, c, g);
+    let a = take_aim(body, work64, work32, c, g);
     let e = a.end;
     let code = Code {
-        table: t,
-        recs,
-        ops,
+        table: body.func.table,
+        recs: body.func.recs,
+        ops: body.ops,
     };
     let k = legal_set(&code, &work32[COPIED..e], work64, facts, a.sweeps);
     let b = taken(k, a.least, g.places);
     put_facts(facts, work32, b.places);
-    put_uses(
-        &code, bounds, work64, work32, s, c, b.moved, g.into, g.inside, g.places,
-    );
+    let mv = Move {
+        from: c.nth(0),
+        into: g.into,
+        inside: g.inside,
+        places: g.places,
+        moved: b.moved,
+    };
+    put_uses(body, work64, work32, c, mv);
     b.moved
 }

@@ -4,7 +4,7 @@ use Rattle.trial.proofs.Learning as law
 use Rattle.trial.proofs.learn.learn.Goals as goal
 
 pub slice_bounds-analyse-end : goal.slice_bounds-analyse-end
-slice_bounds-analyse-end c = law.inside c.requires {r = c.args.s.regs} c.at_regs-a.ensures.0 refl refl
+slice_bounds-analyse-end c = law.inside c.requires {r = c.args.body.now.sizes.regs} c.at_regs-a.ensures.0 refl refl
 
 pub analyse-n-requires : goal.analyse-n-requires
 analyse-n-requires c = law.ready c.requires c.at_regs-a.ensures.0 refl refl

@@ -30,13 +30,13 @@ is_target-requires c =
     let p = c.requires in
     let low = block_in p.lists p.into_block in
     let ws = a.work32.now in
-    let long = subst (λ (i : ℕ). 2 * a.s.blocks ≤ length (take (length ws - i) (drop i ws))) (sym c.at_preds-k.ensures) (preds_room ws p.lists) in
+    let long = subst (λ (i : ℕ). 2 * a.body.now.sizes.blocks ≤ length (take (length ws - i) (drop i ws))) (sym c.at_preds-k.ensures) (preds_room ws p.lists) in
     (p.few, omega (arith, low, long))
 
 pub returns-then-not-wanted : goal.returns-then-not-wanted
 returns-then-not-wanted c =
     let a = c.args in
-    aim_off (record { is = λ P h. c.is_target.ensures P a.s.blocks (block_in c.requires.lists c.requires.into_block) (preds_from a.s a.work32.now P c.at_preds-k.ensures h) }) (not-true _ (ap not c.if-not-wanted.true)) c.at_needed-o.ensures.0 c.at_stamps-st.ensures.0 c.from_start.ensures
+    aim_off (record { is = λ P h. c.is_target.ensures P a.body.now.sizes.blocks (block_in c.requires.lists c.requires.into_block) (preds_from a.body.now.sizes a.work32.now P c.at_preds-k.ensures h) }) (not-true _ (ap not c.if-not-wanted.true)) c.at_needed-o.ensures.0 c.at_stamps-st.ensures.0 c.from_start.ensures
 
 pub width-requires : goal.width-requires
 width-requires c = let r = room c.requires.lists in omega (arith, r.lent, r.few)
@@ -53,7 +53,7 @@ put_needed-requires c =
 pub returns : goal.returns
 returns c =
     let a = c.args in
-    aim_on c.requires (record { is = λ P h. c.is_target.ensures P a.s.blocks (block_in c.requires.lists c.requires.into_block) (preds_from a.s a.work32.now P c.at_preds-k.ensures h) }) (not-false _ (ap not c.if-not-wanted.false)) c.width.ensures c.at_needed-o.ensures.0 c.at_stamps-st.ensures.0
+    aim_on c.requires (record { is = λ P h. c.is_target.ensures P a.body.now.sizes.blocks (block_in c.requires.lists c.requires.into_block) (preds_from a.body.now.sizes a.work32.now P c.at_preds-k.ensures h) }) (not-false _ (ap not c.if-not-wanted.false)) c.width.ensures c.at_needed-o.ensures.0 c.at_stamps-st.ensures.0
     refl c.put_needed.ensures c.from_start-2.ensures
 
 pub slice_bounds-is_target-start : goal.slice_bounds-is_target-start

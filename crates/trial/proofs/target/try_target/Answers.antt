@@ -14,6 +14,9 @@ legal_set-k-requires c = (law.choosable c.requires.0 c.requires.1 c.take_aim-a.e
 pub put_facts-requires : goal.put_facts-requires
 put_facts-requires c = law.putting c.requires.0 c.requires.1 c.take_aim-a.ensures c.legal_set-k.ensures c.taken-b.ensures
 
+pub nth-requires : goal.nth-requires
+nth-requires c = let few = c.requires.0.planning.chained.sound.few in (few, few.least)
+
 pub put_uses-requires : goal.put_uses-requires
 put_uses-requires c = (law.uses_asked c.requires.0 c.requires.1 c.take_aim-a.ensures c.legal_set-k.ensures c.taken-b.ensures c.put_facts.ensures)
 
