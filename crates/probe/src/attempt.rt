@@ -82,7 +82,7 @@ fn seek(body: &Body<'_>, work64: &mut [u64], work32: &mut [u32], x: BlockId) -> 
     let s = body.sizes;
     begin(&body.func, body.ops, work64, work32, s);
     live_in(work64, &body.func, s.regs as usize);
-    look_from(body.func.bounds, body.func.recs, body.replay, work32, s, x)
+    look_from(body, work32, x)
 }
 
 // The move from block x, if there is one. The facts along its chain are left in the list.
@@ -97,20 +97,7 @@ fn try_block(
     ensures { Tried body.now work64.old work32.old work64.new work32.new x.0 result }
 {
     let k = seek(body, work64, work32, x)?;
-    try_chain(
-        body.func.table,
-        body.func.bounds,
-        body.func.recs,
-        body.ops,
-        body.func.pairs,
-        body.func.targets,
-        body.replay,
-        work64,
-        work32,
-        facts,
-        body.sizes,
-        k,
-    )
+    try_chain(body, work64, work32, facts, k)
 }
 
 // 1 if block x has a move, 0 if not; 200 and the number of a refusal; 300 where x is no block. Of a move, at the head of `out`, if it
