@@ -1,16 +1,16 @@
 // A function's records and operands beside the table of roles, and what the slots of one record do (01, "The call": `visit_mut` fixes
 // the roles): that is looked up in the table once, and then each slot goes by its place.
-ghost use Rattle.std.specs.Prelude.{◌≡◌, List, [], ◌++◌, get_or, ℕ, ◌+◌, ◌<◌};
+ghost use Rattle.std.specs.Prelude.{◌≡◌, List, [], ◌++◌, ℕ, ◌+◌, ◌<◌};
 ghost use Rattle.model.specs.Picture.{inst, kind, absent, list_of, reads, writes};
 ghost use Rattle.inst.specs.Table.{packed};
-ghost use Rattle.inst.specs.Record.{Known, Used, Listed, uses_of, asks_of, read_at, write_at, later, rest_reads, rest_writes};
+ghost use Rattle.inst.specs.Record.{Known, Used, Listed, read_at, write_at, later, rest_reads, rest_writes};
 ghost use Rattle.inst.specs.Firsts.{Heads};
 ghost use Rattle.inst.specs.Index.{reg_of};
 
 use crate::index::Reg;
 use crate::record::{form, kind, list_len, list_start, slot};
 use crate::scanned::Firsts;
-use crate::table::{Table, asks, two_bits};
+use crate::table::{Table, two_bits};
 use model::ABSENT;
 
 // What is looked at together: the table, the records and the operands.

@@ -1,6 +1,7 @@
 // The counting run (01, "Answers": Short is given before anything of the round is written): how many operands the walk of
-// walk.rt would append. Nothing but names is written. (It is no second use of that walk: what writes there would be a struct that
-// holds two `&mut` slices and is lent on in each turn, and such a one gets no proof.)
+// walk.rt would append. Nothing but names is written. (It is no second use of that walk. What writes there as a struct of `&mut` slices
+// that is lent on in each turn gets no proof. As a closure that one loop calls, it does, and so does the loop: but each caller then has
+// to show for every state that the closure may be in that the call can be made, and that each slice is still the one that was lent.)
 ghost use Rattle.std.specs.Prelude.{◌≡◌, ◌+◌, ◌*◌, ◌≤◌, length};
 ghost use Rattle.model.specs.Picture.{inst, absent};
 ghost use Rattle.model.specs.Move.{more_of, appended};
