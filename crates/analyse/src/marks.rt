@@ -8,9 +8,9 @@ ghost use Rattle.regfacts.specs.Written.{put_in, Fits, Written};
 ghost use Rattle.analyse.specs.Step.{stamp, marked, Forgot};
 
 use crate::look;
-use inst::scanned::Firsts;
 use inst::code::Slots;
 use inst::index::Reg;
+use inst::scanned::Firsts;
 use model::ABSENT;
 use regfacts::flags::FLAGS;
 use regfacts::written::{change, change_written};

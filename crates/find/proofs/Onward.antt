@@ -117,7 +117,7 @@ module _ {bounds recs ops pairs targets replay : List ℕ} {s : Sizes} {work64 w
         }
 
         -- it has none, and the next one is sought from the block behind it on
-        pub seeking : Finding bounds recs ops pairs targets replay s work64 work32 → Seeking bounds recs replay s work32'' × (k.x.0 < s.blocks) × (s.blocks ≤ 4096)
+        seeking : Finding bounds recs ops pairs targets replay s work64 work32 → Seeking bounds recs replay s work32'' × (k.x.0 < s.blocks) × (s.blocks ≤ 4096)
         seeking f =
             let g : Seeking bounds recs replay s work32'' = record { P = f.P; sees = sees f.P f.G f.shown f.begun } in
             (g, let h = (next_of f.P f.G f.shown f.begun).chosen.x_block in let e = f.shown.lists.blocks_are in omega arith, (rooms g).blocks)

@@ -1,5 +1,5 @@
-// Sweeps in turn until both drop nothing, or too few are left (01, "The legal set": unions of legal sets are legal, so a greatest one exists):
-// the loop, and what is decided between them.
+// Sweeps in turn until both drop nothing, or too few are left (01, "The legal set": unions of legal sets are legal, so a greatest one
+// exists): the loop, and what is decided between them.
 ghost use Rattle.std.specs.Prelude.{◌≡◌, false, ◌+◌, ◌≤◌, length};
 ghost use Rattle.plan.specs.Sweep.{is_start};
 ghost use Rattle.plan.specs.Cycle.{sweep_of, went, go_on, Readied, Choosable, Chose};
@@ -94,8 +94,7 @@ pub fn go_on(c: Cycle, phase: Phase, count: u32) -> Cycle
 }
 
 // The facts' marks become the greatest legal set, unless it has fewer members than `least`. Says how many are marked. The row of registers
-// needed elsewhere begins at word `o` of `work`; its words from `s` on, one a register, are written. How many sweeps it takes is told by
-// what they drop.
+// needed elsewhere begins at word `o` of `work`; its words from `s` on, one a register, are written.
 pub fn settle(
     given: &Given<'_>,
     work: &mut [u64],
@@ -107,6 +106,7 @@ pub fn settle(
     ensures { Chose given.now.code.recs.now given.now.code.ops.now given.now.regs.now z work.old facts.old work.new facts.new result }
 {
     let mut c = z;
+    // It ends by what the sweeps drop, not by a count of them.
     while let Some(phase) = c.next {
         let g = ready(work, lasts, c.span, phase, given.regs.len());
         let count = run(given, work, lasts, facts, g);

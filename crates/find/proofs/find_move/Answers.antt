@@ -1,6 +1,6 @@
 -- `find::find_move` meets its contract. Assumes nothing.
 use native.Mathlib.Omega.{arith}
-use Rattle.find.proofs.Onward.{looking, running_start, following, running_found, seeking, running_more, fewer, running_end}
+use Rattle.find.proofs.Onward.{looking, running_start, following, running_found, running_more, fewer, running_end}
 use Rattle.find.proofs.find_move.Goals as goal
 
 pub first_look-look-requires : goal.first_look-look-requires
@@ -14,9 +14,6 @@ try_chain-requires c = (following c.loop-look.invariant c.in-Some.is c.requires.
 
 pub returns-in-Some-try_chain : goal.returns-in-Some-try_chain
 returns-in-Some-try_chain c = running_found c.loop-look.invariant c.in-Some.is c.try_chain.ensures c.in-Some-try_chain.is
-
-pub seek-look-requires : goal.seek-look-requires
-seek-look-requires c = let s = seeking c.loop-look.invariant c.in-Some.is c.try_chain.ensures c.requires.0 in (s.0, omega (arith, c.number.ensures, s.1))
 
 pub loop-look-preserved : goal.loop-look-preserved
 loop-look-preserved c = running_more c.loop-look.invariant c.in-Some.is c.try_chain.ensures c.number.ensures c.seek-look.ensures c.in_default-try_chain.is

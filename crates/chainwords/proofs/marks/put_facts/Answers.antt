@@ -10,9 +10,6 @@ use Rattle.chainwords.proofs.marks.put_facts.Goals as goal
 pub loop-p-init : goal.loop-p-init
 loop-p-init c = facts_none _ _
 
-pub put_fact-requires : goal.put_fact-requires
-put_fact-requires c = let size = c.loop-p.invariant.size in omega arith
-
 pub loop-p-preserved : goal.loop-p-preserved
 loop-p-preserved c =
     let i = c.loop-p in

@@ -13,20 +13,8 @@ at_preds-p-requires c = few_lent c.requires
 pub all_rows-requires : goal.all_rows-requires
 all_rows-requires c = let p = c.requires in let z = rows_ask p _ refl in (z.0, z.1, z.2)
 
-pub overflow_add-a : goal.overflow_add-a
-overflow_add-a c = let k = c.requires in let r = rooms k in let a = c.at_regs-a.ensures in omega (arith, r.few_blocks, r.few_lent, a.1, regs_room k a.0, r.room32, c.at_preds-p.ensures)
-
-pub offset_bounds-work64-a : goal.offset_bounds-work64-a
-offset_bounds-work64-a c = let k = c.requires in let r = rooms k in let a = c.at_regs-a.ensures in omega (arith, r.few_blocks, r.few_lent, a.1, regs_room k a.0, r.room32, c.at_preds-p.ensures)
-
 pub find_facts-requires : goal.find_facts-requires
 find_facts-requires c = let p = c.requires in let z = facts_ask p _ c.all_rows.ensures.bits_len_unchanged _ (start_at p c.at_regs-a.ensures.0) in (z.0, z.1)
-
-pub overflow_add-p : goal.overflow_add-p
-overflow_add-p c = let k = c.requires in let r = rooms k in let a = c.at_regs-a.ensures in omega (arith, r.few_blocks, r.few_lent, a.1, regs_room k a.0, r.room32, c.at_preds-p.ensures)
-
-pub offset_bounds-work32-p : goal.offset_bounds-work32-p
-offset_bounds-work32-p c = let k = c.requires in let r = rooms k in let a = c.at_regs-a.ensures in omega (arith, r.few_blocks, r.few_lent, a.1, regs_room k a.0, r.room32, c.at_preds-p.ensures)
 
 pub find_preds-requires : goal.find_preds-requires
 find_preds-requires c = let p = c.requires in let z = preds_ask p _ c.at_preds-p.ensures in (z.0, z.1)

@@ -22,9 +22,6 @@ returns-then-size c = looked_short _ (omega (arith, c.past.ensures, c.start.ensu
 pub at_preds-p-requires : goal.at_preds-p-requires
 at_preds-p-requires c = (rooms c.requires.0).few
 
-pub offset_bounds-work32-p : goal.offset_bounds-work32-p
-offset_bounds-work32-p c = omega (arith, (rooms c.requires.0).few, c.at_preds-p.ensures)
-
 pub slice_bounds-find_chain-count : goal.slice_bounds-find_chain-count
 slice_bounds-find_chain-count c = omega (arith, (rooms c.requires.0).words32, c.at_preds-p.ensures)
 

@@ -1,14 +1,10 @@
 -- `search::find::seek` meets its contract. Assumes nothing.
 use mathlib.Core.Path.{sym}
-use native.Mathlib.Omega.{arith}
 use Rattle.search.proofs.Looked.{passing_start, passing_more, passing_found, passing_end}
 use Rattle.search.proofs.find.seek.Goals as goal
 
 pub loop-b-init : goal.loop-b-init
 loop-b-init c = passing_start c.requires.1
-
-pub look_from-requires : goal.look_from-requires
-look_from-requires c = (c.requires.0, omega (arith, c.known-x.ensures, c.loop-b-test.true))
 
 pub returns-in-Some : goal.returns-in-Some
 returns-in-Some c = passing_found c.loop-b.invariant _ (sym c.known-x.ensures) c.look_from.ensures c.in-Some.is

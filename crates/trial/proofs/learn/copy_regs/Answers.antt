@@ -9,15 +9,6 @@ use Rattle.trial.proofs.learn.copy_regs.Goals as goal
 pub loop-i-init : goal.loop-i-init
 loop-i-init c = copied_none _ _ _
 
-pub overflow_add-work32 : goal.overflow_add-work32
-overflow_add-work32 c = let p = c.requires in omega (arith, p.there)
-
-pub bounds-work64-a : goal.bounds-work64-a
-bounds-work64-a c = let p = c.requires in omega (arith, p.there)
-
-pub bounds-work32-i : goal.bounds-work32-i
-bounds-work32-i c = let p = c.requires in omega (arith, p.room, c.loop-i.invariant.size)
-
 pub loop-i-preserved : goal.loop-i-preserved
 loop-i-preserved c = let p = c.requires in copied_more c.loop-i.invariant (omega (arith, p.there)) (omega (arith, p.room))
 

@@ -9,17 +9,11 @@ use Rattle.trial.proofs.Aiming.{graph_lent, block_lent, block_in, row_lent, pred
 use mathlib.Core.Bool.{not}
 use Rattle.trial.proofs.target.take_aim.Goals as goal
 
-pub at_needed-o-requires : goal.at_needed-o-requires
-at_needed-o-requires c = let r = room c.requires.lists in (r.blocks, omega (arith, r.lent, r.few))
-
 pub at_stamps-st-requires : goal.at_stamps-st-requires
 at_stamps-st-requires c = let r = room c.requires.lists in (r.blocks, r.few)
 
 pub at_preds-k-requires : goal.at_preds-k-requires
 at_preds-k-requires c = (room c.requires.lists).few
-
-pub offset_bounds-work32-k : goal.offset_bounds-work32-k
-offset_bounds-work32-k c = let r = room c.requires.lists in omega (arith, r.few, c.at_preds-k.ensures)
 
 pub slice_bounds-is_target-count : goal.slice_bounds-is_target-count
 slice_bounds-is_target-count c = let r = room c.requires.lists in omega (arith, r.words32, c.at_preds-k.ensures)
@@ -37,9 +31,6 @@ pub returns-then-not-wanted : goal.returns-then-not-wanted
 returns-then-not-wanted c =
     let a = c.args in
     aim_off (record { is = λ P h. c.is_target.ensures P a.body.now.sizes.blocks (block_in c.requires.lists c.requires.into_block) (preds_from a.body.now.sizes a.work32.now P c.at_preds-k.ensures h) }) (not-true _ (ap not c.if-not-wanted.true)) c.at_needed-o.ensures.0 c.at_stamps-st.ensures.0 c.from_start.ensures
-
-pub width-requires : goal.width-requires
-width-requires c = let r = room c.requires.lists in omega (arith, r.lent, r.few)
 
 pub put_needed-requires : goal.put_needed-requires
 put_needed-requires c =
