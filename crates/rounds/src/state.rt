@@ -39,6 +39,7 @@ impl At {
 }
 
 // The lines with that of round i + 1.
+#[tactic(auto, using(words::proofs::Copying::put_sets))]
 fn put_line(lines: [u32; 48], i: u32, l: Line) -> [u32; 48]
     requires { (i < most_rounds) × (length lines ≡ 48) }
     ensures { result ≡ with_line i l lines }
