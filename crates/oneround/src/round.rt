@@ -14,47 +14,63 @@ use find::find_move;
 use inst::table::Table;
 use sizes::Sizes;
 
-// The slices that are written stay apart: a struct of `&mut` slices cannot be lent on twice. What is shared has one lifetime, as in `Body`.
-pub fn round<'a>(
-    t: &'a Table,
+// What no round of a call changes: the table of roles, the case tables, and the blocks that are run again.
+#[derive(Clone, Copy)]
+pub struct Fixed<'a> {
+    pub table: &'a Table,
+    pub pairs: &'a [u32],
+    pub targets: &'a [u32],
+    pub replay: &'a [u32],
+}
+
+// The slices that are written stay apart: a struct of `&mut` slices cannot be lent on twice.
+pub fn round(
+    fixed: &Fixed<'_>,
     bounds: &mut [u32],
     recs: &mut [u32],
     locs: &mut [u32],
     vias: &mut [u32],
     types: &mut [u32],
     ops: &mut [u32],
-    pairs: &'a [u32],
-    targets: &'a [u32],
-    replay: &'a [u32],
     work64: &mut [u64],
     work32: &mut [u32],
     facts: &mut [Fact],
     s: Sizes,
 ) -> Step
-    requires { let P = picture_of bounds.old recs.old locs.old vias.old types.old s.regs ops.old s.opers pairs.now targets.now replay.now in
+    requires { let P = picture_of bounds.old recs.old locs.old vias.old types.old s.regs ops.old s.opers fixed.now.pairs.now fixed.now.targets.now fixed.now.replay.now in
         Open P s work64.old work32.old × (800 ≤ length facts.old) }
-    ensures { let P = picture_of bounds.old recs.old locs.old vias.old types.old s.regs ops.old s.opers pairs.now targets.now replay.now in
-        let Q = picture_of bounds.new recs.new locs.new vias.new types.new (registers_then result s.regs) ops.new (operands_then result s.opers) pairs.now targets.now replay.now in
+    ensures { let P = picture_of bounds.old recs.old locs.old vias.old types.old s.regs ops.old s.opers fixed.now.pairs.now fixed.now.targets.now fixed.now.replay.now in
+        let Q = picture_of bounds.new recs.new locs.new vias.new types.new (registers_then result s.regs) ops.new (operands_then result s.opers) fixed.now.pairs.now fixed.now.targets.now fixed.now.replay.now in
         Stepped P work64.old work32.old result bounds.new recs.new locs.new vias.new types.new ops.new work64.new work32.new
         × StepKept P work64.old work32.old result Q }
 {
     let func = Func {
-        table: t,
+        table: fixed.table,
         bounds,
         recs,
-        pairs,
-        targets,
+        pairs: fixed.pairs,
+        targets: fixed.targets,
     };
     let body = Body {
         func,
         ops,
-        replay,
+        replay: fixed.replay,
         sizes: s,
     };
     let found = find_move(&body, work64, work32, facts);
     let r = weigh(&body, types, work64, work32, found);
     make(
-        t, bounds, recs, locs, vias, types, ops, work64, work32, s, r,
+        fixed.table,
+        bounds,
+        recs,
+        locs,
+        vias,
+        types,
+        ops,
+        work64,
+        work32,
+        s,
+        r,
     );
     r
 }

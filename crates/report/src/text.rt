@@ -48,18 +48,11 @@ pub fn put_answer(out: &mut Text, answer: Answer)
     requires { array_string_len out.old + 19 ≤ 640 }
     ensures { out.new.bytes ≡ out.old.bytes ++ last_line answer }
 {
-    match answer {
-        Answer::Done(u) => {
-            out.push_str("done ");
-            put_line(out, &[u.rounds]);
-        }
-        Answer::Short(u) => {
-            out.push_str("short ");
-            put_line(out, &[u.rounds]);
-        }
-        Answer::Refused(r) => {
-            out.push_str("refused ");
-            put_line(out, &[r.number()]);
-        }
-    }
+    let (word, n) = match answer {
+        Answer::Done(u) => ("done ", u.rounds),
+        Answer::Short(u) => ("short ", u.rounds),
+        Answer::Refused(r) => ("refused ", r.number()),
+    };
+    out.push_str(word);
+    put_number(out, n, '\n');
 }

@@ -39,6 +39,7 @@ impl At {
 }
 
 // The lines with that of round i + 1.
+#[tactic(auto, using(words::proofs::Copying::put_sets))]
 fn put_line(lines: [u32; 48], i: u32, l: Line) -> [u32; 48]
     requires { (i < most_rounds) × (length lines ≡ 48) }
     ensures { result ≡ with_line i l lines }
@@ -46,14 +47,14 @@ fn put_line(lines: [u32; 48], i: u32, l: Line) -> [u32; 48]
     let a = 6 * (i as usize);
     let mut r = lines;
     let m = l.moved;
-    let x = m.from;
-    let into = m.into;
-    r[a] = i + 1;
-    r[a + 1] = x.number();
-    r[a + 2] = into.number();
-    r[a + 3] = m.moved;
-    r[a + 4] = l.registers;
-    r[a + 5] = l.operands;
+    r[a..a + 6].copy_from_slice(&[
+        i + 1,
+        m.from.number(),
+        m.into.number(),
+        m.moved,
+        l.registers,
+        l.operands,
+    ]);
     r
 }
 

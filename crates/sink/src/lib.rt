@@ -15,7 +15,7 @@ ghost use Rattle.oneround.specs.Kept.{Kept};
 use acceptance::lent;
 use facts::Fact;
 use inst::table::Table;
-use oneround::round::round;
+use oneround::round::{Fixed, round};
 use rounds::start::start;
 use rounds::state::{At, Ran, advance};
 use sizes::InUse;
@@ -23,32 +23,28 @@ use std::ops::ControlFlow;
 
 // Round after round, until none is to be tried.
 fn run(
-    t: &Table,
+    fixed: &Fixed<'_>,
     bounds: &mut [u32],
     recs: &mut [u32],
     locs: &mut [u32],
     vias: &mut [u32],
     types: &mut [u32],
     ops: &mut [u32],
-    pairs: &[u32],
-    targets: &[u32],
-    replay: &[u32],
     work64: &mut [u64],
     work32: &mut [u32],
     facts: &mut [Fact],
     m: At,
 ) -> Ran
-    requires { let P = picture_of bounds.old recs.old locs.old vias.old types.old m.sizes.regs ops.old m.sizes.opers pairs.now targets.now replay.now in
+    requires { let P = picture_of bounds.old recs.old locs.old vias.old types.old m.sizes.regs ops.old m.sizes.opers fixed.now.pairs.now fixed.now.targets.now fixed.now.replay.now in
         Coming P m work64.old work32.old (length facts.old) }
-    ensures { let P = picture_of bounds.old recs.old locs.old vias.old types.old m.sizes.regs ops.old m.sizes.opers pairs.now targets.now replay.now in
+    ensures { let P = picture_of bounds.old recs.old locs.old vias.old types.old m.sizes.regs ops.old m.sizes.opers fixed.now.pairs.now fixed.now.targets.now fixed.now.replay.now in
         Finished P m work64.old work32.old facts.old result.answer result.lines bounds.new recs.new locs.new vias.new types.new ops.new work64.new work32.new facts.new }
 {
     let mut m = m;
     // It ends by what a round comes to, and not by a count.
     loop {
         let r = round(
-            t, bounds, recs, locs, vias, types, ops, pairs, targets, replay, work64, work32, facts,
-            m.sizes,
+            fixed, bounds, recs, locs, vias, types, ops, work64, work32, facts, m.sizes,
         );
         match advance(m, r) {
             ControlFlow::Continue(next) => m = next,
@@ -106,18 +102,21 @@ pub fn sink_all(
         targets,
         used: InUse { regs, opers },
     };
+    let fixed = Fixed {
+        table: &t,
+        pairs,
+        targets,
+        replay,
+    };
     match start(&t, lent, work64, work32, facts.len()) {
         ControlFlow::Continue(sizes) => run(
-            &t,
+            &fixed,
             bounds,
             recs,
             locs,
             vias,
             types,
             ops,
-            pairs,
-            targets,
-            replay,
             work64,
             work32,
             facts,

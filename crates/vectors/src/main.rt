@@ -5,15 +5,13 @@
 
 use host::virdzeba_sink;
 use input::read_full;
+use layout::PICTURE_BYTES;
 use std::io;
 use std::io::{Input, Read};
 use words::bytes::word_at;
 
 // The most cases that are replayed.
 const CASES: u32 = 4096;
-
-// The bytes lent for a result, which the largest picture fills.
-const RESULT_BYTES: usize = 53024;
 
 // What the result holds before a case.
 const FILL: u8 = 165;
@@ -53,23 +51,21 @@ fn get<'a>(input: &mut impl Read, out: &'a mut [u8], n: usize) -> io::Result<Opt
 
 // Whether the result is what is stored, and behind it as it was.
 fn is_stored(res: &[u8], stored: &[u8]) -> bool {
-    match res.strip_prefix(stored) {
-        Some(rest) => rest.iter().all(|b| *b == FILL),
-        None => false,
-    }
+    res.strip_prefix(stored)
+        .is_some_and(|rest| rest.iter().all(|b| *b == FILL))
 }
 
 // Whether the case comes out as stored, and is not cut short.
 fn replay(input: &mut impl Read, head: Head) -> io::Result<bool> {
-    let mut picture = [0; RESULT_BYTES];
+    let mut picture = [0; PICTURE_BYTES];
     let Some(picture) = get(input, &mut picture, head.picture_bytes)? else {
         return Ok(false);
     };
-    let mut stored = [0; RESULT_BYTES];
+    let mut stored = [0; PICTURE_BYTES];
     let Some(stored) = get(input, &mut stored, head.result_bytes)? else {
         return Ok(false);
     };
-    let mut result = [FILL; RESULT_BYTES];
+    let mut result = [FILL; PICTURE_BYTES];
     let number = virdzeba_sink(picture, &mut result, head.registers, head.operands);
     Ok(number == head.number && is_stored(&result, stored))
 }
@@ -78,7 +74,7 @@ fn main(rt: HostRuntime) -> io::Result<()> {
     let mut input = rt.reader();
     let mut right = 0u32;
     let mut wrong = 0u32;
-    for case in 0..CASES {
+    for _ in 0..CASES {
         let Some(head) = next(&mut input)? else {
             break;
         };
