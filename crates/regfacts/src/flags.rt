@@ -11,6 +11,7 @@ ghost use Rattle.regfacts.specs.Written.{put_in, Fits, Written};
 ghost use Rattle.regfacts.specs.Flags.{noted, many, Soles, flags_of, flags_in, is_length, sole_of, Found};
 
 use crate::written::{change, change_written};
+use effects::origin::{FRAME, RO, address};
 use inst::code::Code;
 use inst::constant::{Constant, decode};
 use inst::kinds::ADDR_OF;
@@ -70,7 +71,7 @@ fn find_soles(code: &Code, regs: &mut [u64], n: usize)
 fn is_small(z: i64) -> bool
     ensures { result ≡ small z }
 {
-    (LEAST <= z) & (z <= GREATEST)
+    (LEAST..=GREATEST).contains(&z)
 }
 
 fn is_positive(z: i64) -> bool
@@ -107,8 +108,8 @@ fn record_flags(recs: &[u32], q: usize) -> u64
     ensures { result ≡ flags_of (known (inst recs.now q)) }
 {
     if kind(recs, q) == ADDR_OF {
-        let f = form(recs, q);
-        return u64::from((f == 2) | (f == 4)) + 2 * u64::from(f == 0);
+        let o = address(form(recs, q));
+        return u64::from(o == RO) + 2 * u64::from(o == FRAME);
     }
     constant_flags(decode(recs, q))
 }
@@ -131,7 +132,7 @@ pub fn find_facts(code: &Code, regs: &mut [u64], n: usize)
     ensures { Found code.now.recs.now n (length regs.old) regs.new }
 {
     find_soles(code, regs, n);
-    for r in 0..regs.len() {
-        regs[r] = flags(code.recs, regs[r]);
+    for w in regs.iter_mut() {
+        *w = flags(code.recs, *w);
     }
 }
