@@ -24,7 +24,7 @@ use Rattle.effects.specs.Arms.{arm_of, leads}
 use Rattle.effects.specs.declared.arms.Arm.{Arm}
 use Rattle.effects.proofs.Origins.{class_kept}
 use Rattle.effects.specs.declared.arms.Effect.{Effect}
-use Rattle.effects.specs.declared.arms.Input.{Input}
+use Rattle.effects.specs.declared.input.Input.{Input}
 use Rattle.effects.specs.declared.origin.Value.{Value}
 use Rattle.regfacts.specs.Written.{Fits, Written, settle}
 use Rattle.regfacts.specs.Flags.{Seen}

@@ -8,10 +8,10 @@ ghost use Rattle.model.specs.Analyse.{known, small, positive};
 ghost use Rattle.inst.specs.Index.{word_of, Among};
 ghost use Rattle.inst.specs.Record.{Within, Used};
 ghost use Rattle.regfacts.specs.Written.{put_in, Fits, Written};
-ghost use Rattle.regfacts.specs.Flags.{noted, many, Soles, flags_of, flags_in, is_length, sole_of, Found};
+ghost use Rattle.regfacts.specs.Flags.{noted, many, Soles, flags_of, flags_in, origin_in, is_length, sole_of, Found};
 
 use crate::written::{change, change_written};
-use effects::origin::{FRAME, RO, address};
+use effects::origin::{FRAME, RO, UNKNOWN, address};
 use inst::code::Code;
 use inst::constant::{Constant, decode};
 use inst::kinds::ADDR_OF;
@@ -112,6 +112,20 @@ fn record_flags(recs: &[u32], q: usize) -> u64
         return u64::from(o == RO) + 2 * u64::from(o == FRAME);
     }
     constant_flags(decode(recs, q))
+}
+
+// Where a register with these flags points, as an origin's number.
+#[tactic(auto, unfolding(crate::specs::Flags::origin_in))]
+pub fn origin(f: u64) -> u32
+    ensures { result ≡ origin_in f }
+{
+    if f % 2 == 1 {
+        return RO;
+    }
+    if f / 2 % 2 == 1 {
+        return FRAME;
+    }
+    UNKNOWN
 }
 
 // The flags of a register by its writer's word.
