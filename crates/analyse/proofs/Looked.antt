@@ -9,7 +9,7 @@ use borrow.Author.Tests.{eq-eqb, ne_eqb}
 use lib.Dec.{eqb}
 use lib.ListN.{get_or, length, get_or-eq_default}
 use Rattle.model.specs.Picture.{absent}
-use Rattle.model.specs.Analyse.{Facts, Fact, Known, unknown, Org, Unknown, Ro, Frame, no_fact, last_writer, org_of, len_of, when_some, known_of, small, positive, Read}
+use Rattle.model.specs.Analyse.{Facts, Fact, Known, unknown, Unknown, Ro, Frame, no_fact, last_writer, org_of, len_of, when_some, known_of, small, positive, Read}
 use Rattle.inst.specs.Index.{reg_of, word_of, Among}
 use Rattle.inst.specs.declared.index.Reg.{Reg}
 use Rattle.inst.proofs.Indices.{reg_made, among_made}

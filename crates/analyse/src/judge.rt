@@ -15,11 +15,11 @@ use crate::look::{is_divisor, value_of};
 use effects::arms::{Arm, Effect};
 use effects::input::Input;
 use effects::origin::{UNKNOWN, memory};
-use inst::scanned::Firsts;
 use inst::constant::decode;
 use inst::index::Reg;
 use inst::kinds::CALL_NATIVE;
 use inst::record::{form, kind, word};
+use inst::scanned::Firsts;
 use inst::table::quiet;
 use regfacts::flags::is_length;
 

@@ -8,9 +8,9 @@ ghost use Rattle.regfacts.specs.Written.{put_in, Fits, Written};
 ghost use Rattle.analyse.specs.Step.{stamp, marked, Forgot};
 
 use crate::look::{LAYOUT, LENGTH, POSITIONS};
-use inst::scanned::Firsts;
 use inst::code::Slots;
 use inst::index::Reg;
+use inst::scanned::Firsts;
 use model::ABSENT;
 use regfacts::flags::FLAGS;
 use regfacts::written::{change, change_written};
@@ -20,8 +20,8 @@ pub(crate) fn forget(regs: &mut [u64], count: usize)
     requires { count ≤ length regs.old }
     ensures { Forgot count regs.old regs.new }
 {
-    for r in 0..count {
-        regs[r] %= FLAGS;
+    for w in regs[..count].iter_mut() {
+        *w %= FLAGS;
     }
 }
 
