@@ -14,7 +14,7 @@ use Rattle.std.proofs.lemmas.List.{length-take-le, take-append-drop, get_or-appe
 use Rattle.words.specs.Lists.{mem}
 use Rattle.model.specs.Analyse.{Fact, last_writer}
 use Rattle.effects.proofs.Origins.{num_le}
-use Rattle.regfacts.specs.Written.{settle}
+use Rattle.inst.specs.Written.{settle}
 use Rattle.effects.specs.Origin.{num}
 use Rattle.analyse.specs.State.{place_at, left_in, Ranges}
 use Rattle.analyse.specs.Step.{stamp, marked, Forgot}

@@ -4,16 +4,17 @@ ghost use Rattle.std.specs.Prelude.{◌≡◌, ◌≤◌, ◌<◌, length, get_o
 ghost use Rattle.model.specs.Picture.{inst, absent, writes};
 ghost use Rattle.inst.specs.Index.{word_of, Among};
 ghost use Rattle.inst.specs.Record.{Used};
-ghost use Rattle.regfacts.specs.Written.{put_in, Fits, Written};
+ghost use Rattle.inst.specs.Written.{put_in, Written};
+ghost use Rattle.regfacts.specs.Written.{Fits};
 ghost use Rattle.analyse.specs.Step.{stamp, marked, Forgot};
 
 use crate::look::{LAYOUT, LENGTH, POSITIONS};
 use inst::code::Slots;
 use inst::index::Reg;
 use inst::scanned::Firsts;
+use inst::written::{change, change_written};
 use model::ABSENT;
 use regfacts::flags::FLAGS;
-use regfacts::written::{change, change_written};
 
 // No register has a writer yet.
 pub(crate) fn forget(regs: &mut [u64], count: usize)

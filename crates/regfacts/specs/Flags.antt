@@ -6,7 +6,7 @@ use Rattle.model.specs.Analyse.{Known, unknown, known, from_writers, Facts, know
 use Rattle.inst.specs.declared.constant.Constant.{Constant}
 use Rattle.inst.specs.declared.constant.Constant.TheVariants.{Whole}
 use Rattle.effects.specs.Origin.{num}
-use Rattle.regfacts.specs.Written.{settle}
+use Rattle.inst.specs.Written.{settle}
 
 abbrev pub many : ℕ
 many = 4294967295

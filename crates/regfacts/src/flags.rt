@@ -7,15 +7,16 @@ ghost use Rattle.model.specs.Picture.{inst};
 ghost use Rattle.model.specs.Analyse.{known, small, positive};
 ghost use Rattle.inst.specs.Index.{word_of, Among};
 ghost use Rattle.inst.specs.Record.{Within, Used};
-ghost use Rattle.regfacts.specs.Written.{put_in, Fits, Written};
+ghost use Rattle.inst.specs.Written.{put_in, Written};
+ghost use Rattle.regfacts.specs.Written.{Fits};
 ghost use Rattle.regfacts.specs.Flags.{noted, many, Soles, flags_of, flags_in, origin_in, is_length, sole_of, Found};
 
-use crate::written::{change, change_written};
 use effects::origin::{FRAME, RO, UNKNOWN, address};
 use inst::code::Code;
 use inst::constant::{Constant, decode};
 use inst::kinds::ADDR_OF;
 use inst::record::{form, kind};
+use inst::written::{change, change_written};
 
 // A register's word counts what stands over its flags by this.
 pub const FLAGS: u64 = 16;
