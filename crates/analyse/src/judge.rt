@@ -5,7 +5,6 @@ ghost use Rattle.model.specs.Analyse.{Facts, Fact, fact, movable};
 ghost use Rattle.inst.specs.Table.{packed};
 ghost use Rattle.inst.specs.Record.{Within, Known};
 ghost use Rattle.inst.specs.Firsts.{Heads};
-ghost use Rattle.inst.specs.Constant.{constant_of};
 ghost use Rattle.effects.specs.Origin.{class_of, wrote_at};
 ghost use Rattle.regfacts.specs.Flags.{is_length};
 ghost use Rattle.regfacts.specs.Written.{Good};
@@ -18,7 +17,7 @@ use effects::origin::{UNKNOWN, memory};
 use inst::constant::decode;
 use inst::index::Reg;
 use inst::kinds::CALL_NATIVE;
-use inst::record::{form, kind, word};
+use inst::record::{form, kind, list_len};
 use inst::scanned::Firsts;
 use inst::table::quiet;
 use regfacts::flags::is_length;
@@ -34,7 +33,7 @@ pub(crate) fn ask(recs: &[u32], regs: &[u64], x: Firsts, g: usize, p: u32, count
     let v2 = value_of(regs, Reg::new(x.r2, count));
     Input {
         form: form(recs, g),
-        list: word(recs, g, 8),
+        list: list_len(recs, g),
         p,
         reads: [v0, v1, v2],
         divisor: is_divisor(regs, r1),

@@ -2,23 +2,23 @@
 // in the chain, or else from the facts of before round 1. A register's word has all of it, from the lowest bits up: 4 flags of
 // before round 1; 10 bits for the last writer's position and 1, or 0; and where there is a writer, what it left: 11 bits for
 // where that points, as an origin's number, 1 bit if it is a length, 1 bit if it points to a block whose maker is a layout.
-ghost use Rattle.std.specs.Prelude.{◌≡◌, cond, List, ℕ, ◌+◌, ◌*◌, ◌%◌, ◌≤◌, ◌<◌, length};
-ghost use Rattle.model.specs.Analyse.{Facts, Fact, Known, Unknown, Ro, Frame, when_some, positive, known_of};
+ghost use Rattle.std.specs.Prelude.{◌≡◌, List, ℕ, ◌+◌, ◌*◌, ◌%◌, ◌≤◌, ◌<◌, length};
+ghost use Rattle.model.specs.Analyse.{Facts, Fact, when_some, positive, known_of};
 ghost use Rattle.inst.specs.Index.{word_of, Among};
-ghost use Rattle.effects.specs.Origin.{org_at};
-ghost use Rattle.regfacts.specs.Flags.{flags_of, Seen};
+ghost use Rattle.regfacts.specs.Flags.{Seen};
 ghost use Rattle.analyse.specs.State.{Marked, Ranged, Valued, left_in};
 
 use effects::origin::{UNKNOWN, Value};
 use inst::index::Reg;
 use regfacts::flags::{FLAGS, origin};
 
-// What the last writer left stands over it and the flags, by this; in it whether that is a length stands over where it points, and
-// whether it points to a layout over that.
-pub const LEFT: u64 = FLAGS * POSITIONS;
-
+// A position and 1 is below this.
 pub(crate) const POSITIONS: u64 = 1024;
 
+// So what the last writer left stands over that and the flags by this.
+pub const LEFT: u64 = FLAGS * POSITIONS;
+
+// In what it left, whether that is a length stands over where it points by this, and whether it points to a layout by the next.
 pub(crate) const LENGTH: u64 = 2048;
 
 pub(crate) const LAYOUT: u64 = 2 * LENGTH;

@@ -2,9 +2,7 @@
 // word, over its flags (see look.rt).
 ghost use Rattle.std.specs.Prelude.{◌≡◌, ◌≤◌, ◌<◌, length, get_or};
 ghost use Rattle.model.specs.Picture.{inst, absent, writes};
-ghost use Rattle.inst.specs.Index.{word_of, Among};
-ghost use Rattle.inst.specs.Record.{Used};
-ghost use Rattle.inst.specs.Written.{put_in, Written};
+ghost use Rattle.inst.specs.Written.{Written};
 ghost use Rattle.regfacts.specs.Written.{Fits};
 ghost use Rattle.analyse.specs.Step.{stamp, marked, Forgot};
 

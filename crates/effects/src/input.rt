@@ -8,7 +8,7 @@ use crate::origin::Value;
 #[derive(Clone, Copy, PartialEq, Eq, Debug)]
 pub struct Input {
     pub form: u32,
-    pub list: u32,
+    pub list: usize,
     pub p: u32,
     pub reads: [Value; 3],
     pub divisor: bool,

@@ -31,7 +31,7 @@ pub fn temp(p: u32) -> u32
 }
 
 // Img p: the text that an image at position p returned.
-pub fn image(p: u32) -> u32
+pub(crate) fn image(p: u32) -> u32
     requires { p < 1000 }
     ensures { result ≡ 5 + 2 * p }
 {

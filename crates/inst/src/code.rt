@@ -7,9 +7,9 @@ ghost use Rattle.inst.specs.Record.{Known, Used, Listed, uses_of, asks_of, read_
 ghost use Rattle.inst.specs.Firsts.{Heads};
 ghost use Rattle.inst.specs.Index.{reg_of};
 
+use crate::scanned::Firsts;
 use crate::index::Reg;
 use crate::record::{form, kind, list_len, list_start, slot};
-use crate::scanned::Firsts;
 use crate::table::{Table, asks, two_bits};
 use model::ABSENT;
 

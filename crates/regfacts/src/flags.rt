@@ -2,12 +2,11 @@
 // writer"), four bits in a word of 64 a register: 1 read-only, 2 frame, 4 a constant that is a length, 8 a constant above 0.
 // The words past the registers in use are set to 0: a new register has no facts. The words are a lent slice's, which `analyse` puts last
 // writers into, so they stay words.
-ghost use Rattle.std.specs.Prelude.{◌≡◌, ◌⊎◌, ℕ, ◌*◌, ◌≤◌, ◌<◌, length, get_or};
+ghost use Rattle.std.specs.Prelude.{◌≡◌, ◌⊎◌, ℕ, ◌*◌, ◌≤◌, ◌<◌, length};
 ghost use Rattle.model.specs.Picture.{inst};
 ghost use Rattle.model.specs.Analyse.{known, small, positive};
-ghost use Rattle.inst.specs.Index.{word_of, Among};
-ghost use Rattle.inst.specs.Record.{Within, Used};
-ghost use Rattle.inst.specs.Written.{put_in, Written};
+ghost use Rattle.inst.specs.Record.{Within};
+ghost use Rattle.inst.specs.Written.{Written};
 ghost use Rattle.regfacts.specs.Written.{Fits};
 ghost use Rattle.regfacts.specs.Flags.{noted, many, Soles, flags_of, flags_in, origin_in, is_length, sole_of, Found};
 
