@@ -13,7 +13,7 @@ use Rattle.effects.specs.Arms.{arm_of, read_at, leads}
 use Rattle.effects.specs.declared.arms.Arm.{Arm}
 use Rattle.effects.specs.declared.arms.Arm.TheVariants.{Const, ConstF, AddrOf, Move, Select, Truth, Bin, Index, Check, DopeLen, Load, Alloc, LayoutOf, Signal, Fills, Store, Cat, Native, Stops, Deref, Writes, Other}
 use Rattle.effects.specs.declared.arms.Effect.{Effect}
-use Rattle.effects.specs.declared.arms.Input.{Input}
+use Rattle.effects.specs.declared.input.Input.{Input}
 use Rattle.analyse.proofs.Layouts.{After}
 
 module _ (i : Inst) (p : ℕ) (list : List Org) (k : Bool) (o : ℕ → Org) (l : ℕ → Bool) (y y' : ℕ → Bool) (x : Input) (e : Effect) (e0 : sized (λ j. (read_at x 0).layout) (o 0) ≡ sized y (o 0)) (e1 : sized (λ j. (read_at x 1).layout) (o 1) ≡ sized y (o 1)) where

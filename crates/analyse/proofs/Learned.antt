@@ -24,9 +24,10 @@ use Rattle.effects.specs.Arms.{arm_of, leads}
 use Rattle.effects.specs.declared.arms.Arm.{Arm}
 use Rattle.effects.proofs.Origins.{class_kept}
 use Rattle.effects.specs.declared.arms.Effect.{Effect}
-use Rattle.effects.specs.declared.arms.Input.{Input}
+use Rattle.effects.specs.declared.input.Input.{Input}
 use Rattle.effects.specs.declared.origin.Value.{Value}
-use Rattle.regfacts.specs.Written.{Fits, Written, settle}
+use Rattle.inst.specs.Written.{Written, settle}
+use Rattle.regfacts.specs.Written.{Fits}
 use Rattle.regfacts.specs.Flags.{Seen}
 use Rattle.analyse.specs.State.{Stands, place_at, left_in, Left, Marked, Ranges, Ranged, Asked, Low, Judged}
 use Rattle.analyse.specs.Step.{stamp, marked, more, fact_of, Learnable, Sized, Learned}

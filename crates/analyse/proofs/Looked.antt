@@ -9,14 +9,14 @@ use borrow.Author.Tests.{eq-eqb, ne_eqb}
 use lib.Dec.{eqb}
 use lib.ListN.{get_or, length, get_or-eq_default}
 use Rattle.model.specs.Picture.{absent}
-use Rattle.model.specs.Analyse.{Facts, Fact, Known, unknown, Org, Unknown, Ro, Frame, no_fact, last_writer, org_of, len_of, when_some, known_of, small, positive, Read}
+use Rattle.model.specs.Analyse.{Facts, Fact, Known, unknown, Unknown, Ro, Frame, no_fact, last_writer, org_of, len_of, when_some, known_of, small, positive, Read}
 use Rattle.inst.specs.Index.{reg_of, word_of, Among}
 use Rattle.inst.specs.declared.index.Reg.{Reg}
 use Rattle.inst.proofs.Indices.{reg_made, among_made}
 use Rattle.effects.specs.Origin.{org_at, num}
 use Rattle.effects.proofs.Origins.{num_le}
 use Rattle.effects.specs.declared.origin.Value.{Value}
-use Rattle.regfacts.specs.Flags.{flags_of, Seen}
+use Rattle.regfacts.specs.Flags.{flags_of, origin_in, Seen}
 use Rattle.analyse.specs.State.{place_at, left_in, Left, Marked, Ranges, Ranged, org_reg, len_reg, Reg?, Valued}
 use Rattle.analyse.proofs.Layouts.{lay_low}
 
@@ -44,24 +44,23 @@ module _ (k : Known) (f : ℕ) (e : f % 16 ≡ flags_of k) where
   pub positive_bit : eqb (f / 8 % 2) 1 ≡ when_some positive k.konst
   positive_bit = num_bit (when_some positive k.konst) (f / 8 % 2) (omega (arith, parts, num_le k.ro, num_le k.frame, num_le (when_some small k.konst), num_le (when_some positive k.konst)))
 
-  abbrev points : Bool → Bool → Org
-  points x y = cond x Ro (cond y Frame Unknown)
+  pub origin_is : org_at (origin_in f) ≡ cond k.ro Ro (cond k.frame Frame Unknown)
+  unfolding origin_in org_at
+  origin_is = ap (λ (b : Bool). org_at (cond b 1 (cond (eqb (f / 2 % 2) 1) 3 0))) ro_bit ∙ ap (λ (b : Bool). org_at (cond k.ro 1 (cond b 3 0))) frame_bit ∙ go k.ro k.frame
+    where
+      go : (x y : Bool) → org_at (cond x 1 (cond y 3 0)) ≡ cond x Ro (cond y Frame Unknown)
+      go true y = refl
+      go false true = refl
+      go false false = refl
 
-  pub flags_ro : f % 2 ≡ 1 → org_at 1 ≡ cond k.ro Ro (cond k.frame Frame Unknown)
-  unfolding org_at
-  flags_ro t = ap (λ (x : Bool). points x k.frame) (sym (eq-eqb (f % 2) 1 t) ∙ ro_bit)
-
-  module _ (n : f % 2 ≡ 1 → ⊥) where
-    not_ro : false ≡ k.ro
-    not_ro = sym (ne_eqb (f % 2) 1 n) ∙ ro_bit
-
-    pub flags_frame : f / 2 % 2 ≡ 1 → org_at 3 ≡ cond k.ro Ro (cond k.frame Frame Unknown)
-    unfolding org_at
-    flags_frame t = ap (λ (y : Bool). points false y) (sym (eq-eqb (f / 2 % 2) 1 t) ∙ frame_bit) ∙ ap (λ (x : Bool). points x k.frame) not_ro
-
-    pub flags_none : (f / 2 % 2 ≡ 1 → ⊥) → org_at 0 ≡ cond k.ro Ro (cond k.frame Frame Unknown)
-    unfolding org_at
-    flags_none t = ap (λ (y : Bool). points false y) (sym (ne_eqb (f / 2 % 2) 1 t) ∙ frame_bit) ∙ ap (λ (x : Bool). points x k.frame) not_ro
+pub origin_low : {o : ℕ} (f : ℕ) → o ≡ origin_in f → o < 4
+unfolding origin_in
+origin_low f e = subst (λ (x : ℕ). x < 4) (sym e) (go (eqb (f % 2) 1) (eqb (f / 2 % 2) 1))
+  where
+    go : (x y : Bool) → cond x 1 (cond y 3 0) < 4
+    go true y = omega arith
+    go false true = omega arith
+    go false false = omega arith
 
 -- ---- a register
 
@@ -109,11 +108,11 @@ module _ {G : Facts} {past : List Fact} {R : ℕ} {regs : List ℕ} (s : Marked 
   nobody l = let z : v / 16 % 1024 ≡ 0 = omega arith in sym writer_at ∙ ap place_at z
 
   -- by the flags
-  pub valued_flags : (o : ℕ) → o < 4 → v < 16 → ((k : Known) → v % 16 ≡ flags_of k → org_at o ≡ cond k.ro Ro (cond k.frame Frame Unknown)) → Valued G past r (record { org = o; len = eqb (v / 4 % 2) 1; layout = false })
-  valued_flags o b l f = record {
-    org = f (known_of G r) flags_at ∙ sym (org_by G past r n None (nobody l));
+  pub valued_flags : (o : ℕ) → o ≡ origin_in v → v < 16 → Valued G past r (record { org = o; len = eqb (v / 4 % 2) 1; layout = false })
+  valued_flags o e l = record {
+    org = ap org_at e ∙ origin_is (known_of G r) v flags_at ∙ sym (org_by G past r n None (nobody l));
     len = small_bit (known_of G r) v flags_at ∙ sym (len_by G past r n None (nobody l));
-    layout = lay_low past o b;
+    layout = lay_low past o (origin_low v e);
   }
 
   -- by what the last writer left

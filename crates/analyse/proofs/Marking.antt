@@ -2,18 +2,19 @@
 use Rattle.std.specs.Prelude.{Option, None, Some}
 use mathlib.Core.Bool.{Bool, true, false, cond}
 use mathlib.Core.List.{List, [], ◌∷◌, ◌++◌}
-use mathlib.Core.Path.{◌≡◌, refl, sym, ap, ◌∙◌}
+use mathlib.Core.Path.{◌≡◌, refl, sym, ap, ◌∙◌, subst}
 use Prim.Native.Nat.{ℕ, suc, ◌+◌, ◌*◌, ◌/◌, ◌%◌, ◌≤◌, ◌<◌}
 use native.Mathlib.Decide.{ℕ_discrete}
 use native.Mathlib.Nat.{not-suc-le-zero, add-zero, add-suc, suc-add}
 use native.Mathlib.Omega.{arith}
 use lib.Dec.{eqb}
-use lib.ListN.{get_or, length, set, length-set}
+use lib.ListN.{get_or, length, take, drop, set, length-set, length-append, get_or-append}
 use lib.Seq.{get_or-set_same, get_or-set_other}
+use Rattle.std.proofs.lemmas.List.{length-take-le, take-append-drop, get_or-append_right}
 use Rattle.words.specs.Lists.{mem}
 use Rattle.model.specs.Analyse.{Fact, last_writer}
 use Rattle.effects.proofs.Origins.{num_le}
-use Rattle.regfacts.specs.Written.{settle}
+use Rattle.inst.specs.Written.{settle}
 use Rattle.effects.specs.Origin.{num}
 use Rattle.analyse.specs.State.{place_at, left_in, Ranges}
 use Rattle.analyse.specs.Step.{stamp, marked, Forgot}
@@ -98,8 +99,8 @@ pub record Forgetting (R r : ℕ) (before now : List ℕ) : Type 0 where
 pub forgetting_none : (R : ℕ) (xs : List ℕ) → Forgetting R 0 xs xs
 forgetting_none R xs = record { upto = omega arith; size = refl; done = λ k h. absurd (not-suc-le-zero h); todo = λ k h. refl }
 
-pub forgetting_more : {R r : ℕ} {xs ys : List ℕ} → R ≤ length xs → Forgetting R r xs ys → r < R → Forgetting R (r + 1) xs (set ys r (get_or ys r 0 % 16))
-forgetting_more {R} {r} {xs} {ys} l f h = record {
+pub forgetting_more : {r : ℕ} {xs ys : List ℕ} → Forgetting (length xs) r xs ys → r < length xs → Forgetting (length xs) (r + 1) xs (set ys r (get_or ys r 0 % 16))
+forgetting_more {r} {xs} {ys} f h = record {
   upto = omega arith;
   size = length-set ys r (get_or ys r 0 % 16) ∙ f.size;
   done = λ k q. go k q (ℕ_discrete k r);
@@ -112,5 +113,15 @@ forgetting_more {R} {r} {xs} {ys} l f h = record {
         ∙ ap (λ (x : ℕ). x % 16) (f.todo r (omega arith)) ∙ ap (λ (x : ℕ). get_or xs x 0 % 16) (sym e)
     go k q (no e) = get_or-set_other ys r k (get_or ys r 0 % 16) 0 e ∙ f.done k (omega arith)
 
-pub forgetting_end : {R r : ℕ} {xs ys : List ℕ} → Forgetting R r xs ys → R ≤ r → Forgot R xs ys
-forgetting_end f h = record { size = f.size; low = λ k q. f.done k (omega arith); high = λ k q. f.todo k (omega (arith, f.upto)) }
+-- the words behind them are as they were
+pub forgetting_end : {n r : ℕ} (xs : List ℕ) {ys : List ℕ} → n ≤ length xs → Forgetting (length (take n xs)) r (take n xs) ys → length (take n xs) ≤ r → Forgot n xs (ys ++ drop n xs)
+forgetting_end {n} {r} xs {ys} l f h =
+    let e = length-take-le n xs l in
+    let bs = drop n xs in
+    subst (λ (zs : List ℕ). Forgot n zs (ys ++ bs)) (take-append-drop n xs) (record {
+      size = let a = length-append ys bs in let b = length-append (take n xs) bs in omega (arith, a, b, f.size);
+      low = λ k q.
+          get_or-append ys bs 0 k (omega (arith, f.size, e)) ∙ f.done k (omega (arith, e))
+          ∙ ap (λ (x : ℕ). x % 16) (sym (get_or-append (take n xs) bs 0 k (omega (arith, e))));
+      high = λ k q. get_or-append_right ys bs n k 0 (f.size ∙ e) q ∙ sym (get_or-append_right (take n xs) bs n k 0 e q);
+    })

@@ -28,7 +28,7 @@ use Rattle.effects.specs.Arms.{arm_of, does, read_at, asked, Right, leads}
 use Rattle.effects.specs.declared.arms.Arm.{Arm}
 use Rattle.effects.specs.declared.arms.Arm.TheVariants.{Const}
 use Rattle.effects.specs.declared.arms.Effect.{Effect}
-use Rattle.effects.specs.declared.arms.Input.{Input}
+use Rattle.effects.specs.declared.input.Input.{Input}
 use Rattle.regfacts.specs.Flags.{is_length}
 use Rattle.regfacts.specs.Written.{Good}
 use Rattle.analyse.specs.State.{org_reg, len_reg, Reg?, Below, Asked, Low, Judged, fill_in}

@@ -11,7 +11,7 @@ unfoldable pub use Rattle.effects.specs.Origin.{place_at}
 use Rattle.facts.specs.declared.Fact as F
 use Rattle.facts.specs.Marks.{fact_in}
 use Rattle.effects.specs.Arms.{read_at}
-use Rattle.effects.specs.declared.arms.Input.{Input}
+use Rattle.effects.specs.declared.input.Input.{Input}
 use Rattle.effects.specs.declared.arms.Effect.{Effect}
 use Rattle.regfacts.specs.Flags.{Seen, is_length}
 use Rattle.effects.specs.declared.origin.Value.{Value}

@@ -35,9 +35,9 @@ fn more(x: Firsts) -> bool
 }
 
 // Record g's fact: its effect, whether it may suspend, and what it writes and reads.
-fn fact_of(g: usize, e: Effect, stops: bool, x: Firsts) -> Fact
+fn fact_of(g: usize, e: Effect, suspends: bool, x: Firsts) -> Fact
     requires { g < 32768 }
-    ensures { result ≡ fact_of g e stops x }
+    ensures { result ≡ fact_of g e suspends x }
 {
     Fact {
         rec: g as u32,
@@ -53,13 +53,13 @@ fn fact_of(g: usize, e: Effect, stops: bool, x: Firsts) -> Fact
         layout: e.layout,
         creates: e.creates,
         barrier: e.barrier,
-        suspends: stops,
+        suspends,
         member: false,
     }
 }
 
 // Position p: record g.
-pub fn learn_one(code: &Code, regs: &mut [u64], g: usize, p: u32, count: usize) -> Fact
+pub(crate) fn learn_one(code: &Code, regs: &mut [u64], g: usize, p: u32, count: usize) -> Fact
     requires { Ranged count p regs.old × Learnable code.now.recs.now code.now.ops.now count g × (p + 1 < 1000) }
     ensures { Learned code.now.recs.now code.now.ops.now regs.old regs.new p count g result }
 {

@@ -2,37 +2,26 @@
 // in the chain, or else from the facts of before round 1. A register's word has all of it, from the lowest bits up: 4 flags of
 // before round 1; 10 bits for the last writer's position and 1, or 0; and where there is a writer, what it left: 11 bits for
 // where that points, as an origin's number, 1 bit if it is a length, 1 bit if it points to a block whose maker is a layout.
-ghost use Rattle.std.specs.Prelude.{◌≡◌, cond, List, ℕ, ◌+◌, ◌*◌, ◌%◌, ◌≤◌, ◌<◌, length};
-ghost use Rattle.model.specs.Analyse.{Facts, Fact, Known, Unknown, Ro, Frame, when_some, positive, known_of};
+ghost use Rattle.std.specs.Prelude.{◌≡◌, List, ℕ, ◌+◌, ◌*◌, ◌%◌, ◌≤◌, ◌<◌, length};
+ghost use Rattle.model.specs.Analyse.{Facts, Fact, when_some, positive, known_of};
 ghost use Rattle.inst.specs.Index.{word_of, Among};
-ghost use Rattle.effects.specs.Origin.{org_at};
-ghost use Rattle.regfacts.specs.Flags.{flags_of, Seen};
+ghost use Rattle.regfacts.specs.Flags.{Seen};
 ghost use Rattle.analyse.specs.State.{Marked, Ranged, Valued, left_in};
 
-use effects::origin::Value;
+use effects::origin::{UNKNOWN, Value};
 use inst::index::Reg;
-use regfacts::flags::FLAGS;
+use regfacts::flags::{FLAGS, origin};
 
-// What the last writer left stands over it and the flags, by this; in it whether that is a length stands over where it points, and
-// whether it points to a layout over that.
-pub const LEFT: u64 = 16384;
+// A position and 1 is below this.
+pub(crate) const POSITIONS: u64 = 1024;
 
-pub const LENGTH: u64 = 2048;
+// So what the last writer left stands over that and the flags by this.
+pub const LEFT: u64 = FLAGS * POSITIONS;
 
-pub const LAYOUT: u64 = 4096;
+// In what it left, whether that is a length stands over where it points by this, and whether it points to a layout by the next.
+pub(crate) const LENGTH: u64 = 2048;
 
-// Where a register with these flags points.
-fn flags_org(f: u64) -> u32
-    ensures { (result < 4) × ((k : Known) → f % 16 ≡ flags_of k → org_at result ≡ cond k.ro Ro (cond k.frame Frame Unknown)) }
-{
-    if f % 2 == 1 {
-        return 1;
-    }
-    if f / 2 % 2 == 1 {
-        return 3;
-    }
-    0
-}
+pub(crate) const LAYOUT: u64 = 2 * LENGTH;
 
 // What a register's word says, where there is a writer.
 fn left_in(v: u64) -> Value
@@ -47,13 +36,13 @@ fn left_in(v: u64) -> Value
 }
 
 // What is known of the value of register r, if that is one.
-pub fn value_of(regs: &[u64], r: Option<Reg>) -> Value
+pub(crate) fn value_of(regs: &[u64], r: Option<Reg>) -> Value
     requires { Among (length regs.now) r }
     ensures { (count n : ℕ) → Among count r → Ranged count n regs.now → (result.org < 4 + 2 * n) × ((G : Facts) (past : List Fact) → length past ≡ n → Marked G past count regs.now → Valued G past (word_of r) result) }
 {
     let Some(k) = r else {
         return Value {
-            org: 0,
+            org: UNKNOWN,
             len: false,
             layout: false,
         };
@@ -61,7 +50,7 @@ pub fn value_of(regs: &[u64], r: Option<Reg>) -> Value
     let v = regs[k.at()];
     if v < FLAGS {
         return Value {
-            org: flags_org(v),
+            org: origin(v),
             len: v / 4 % 2 == 1,
             layout: false,
         };
@@ -70,7 +59,7 @@ pub fn value_of(regs: &[u64], r: Option<Reg>) -> Value
 }
 
 // Is register r a constant above 0?
-pub fn is_divisor(regs: &[u64], r: Option<Reg>) -> bool
+pub(crate) fn is_divisor(regs: &[u64], r: Option<Reg>) -> bool
     requires { Among (length regs.now) r }
     ensures { (G : Facts) (count : ℕ) → Among count r → count ≤ 65536 → Seen G count regs.now → result ≡ when_some positive (known_of G (word_of r)).konst }
 {

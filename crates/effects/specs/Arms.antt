@@ -1,15 +1,16 @@
 -- An effect as a struct of numbers, and when it is what `model`'s `arm` says. Assumes nothing.
-use Rattle.std.specs.Prelude.{Bool, false, ◌⊎◌, ◌≡◌, List, ℕ, ◌+◌, ◌*◌, ◌≤◌, ◌<◌, get_or}
+use Rattle.std.specs.Prelude.{Bool, ◌⊎◌, ◌≡◌, List, ℕ, ◌+◌, ◌*◌, ◌≤◌, ◌<◌, get_or}
 use Rattle.model.specs.Kinds as K
 use Rattle.model.specs.Picture.{Inst, form}
 use Rattle.model.specs.Analyse as M
 use Rattle.model.specs.Analyse.{Org, eff, arm, pieces, small, whole}
 use Rattle.effects.specs.Origin.{org_at, class_of, wrote_at, from_at}
+use Rattle.effects.specs.Input.{value_at}
 use Rattle.effects.specs.declared.arms.Arm.{Arm}
 use Rattle.effects.specs.declared.arms.Arm.TheVariants.{Const, ConstF, AddrOf, Move, Select, Truth, Bin, Index, Check, DopeLen, Load, Alloc, LayoutOf, Signal, Fills, Store, Cat, Native, Stops, Deref, Writes, Other}
 use Rattle.effects.specs.declared.arms.Class.{Class}
 use Rattle.effects.specs.declared.arms.Effect.{Effect}
-use Rattle.effects.specs.declared.arms.Input.{Input}
+use Rattle.effects.specs.declared.input.Input.{Input}
 use Rattle.effects.specs.declared.origin.Value.{Value}
 
 -- `model`'s arm
@@ -47,7 +48,7 @@ does e ps = eff (class_of e.class) (from_at e.from ps) e.creates (wrote_at e.wro
 
 -- the k-th register read; past the third, nothing is known
 abbrev pub read_at : Input → ℕ → Value
-read_at x k = get_or x.reads k (record { org = 0; len = false; layout = false })
+read_at x k = value_at x.reads k
 
 -- the instruction i of arm a, by the numbers of what it reads
 unfoldable pub asked : Inst → Arm → Input → List Org → M.Effect
@@ -60,12 +61,6 @@ pub record Right (r : Effect) (a : Arm) (x : Input) : Type 0 where
   pub wrote : r.wrote ≤ 2004
   pub from : (r.from ≤ 2004) ⊎ ((r.from ≡ 4294967295) × (arm_of a ≡ K.cat))
   pub right : (i : Inst) (list : List Org) → form i ≡ x.form → get_or i 8 0 ≡ x.list → (a ≡ Const → small (whole i) ≡ x.small) → does r (pieces (get_or i 9 0) list) ≡ asked i a x list
-
--- the position is small, and origins are of earlier ones
-pub record Small (x : Input) : Type 0 where
-  pub place : x.p < 1000
-  pub first : (read_at x 0).org < 4 + 2 * x.p
-  pub second : (read_at x 1).org < 4 + 2 * x.p
 
 -- does the value of an instruction of arm a point to a layout: what Move and Index read first, what Select reads second, or else
 -- its own block

@@ -4,16 +4,17 @@ ghost use Rattle.std.specs.Prelude.{◌≡◌, true, false};
 ghost use Rattle.inst.specs.Table.{arm_at, arm};
 ghost use Rattle.model.specs.Analyse.{movable};
 ghost use Rattle.effects.specs.Origin.{class_of, class_code};
-ghost use Rattle.effects.specs.Arms.{effect_of, arm_of, Right, Small, leads};
+ghost use Rattle.effects.specs.Arms.{effect_of, arm_of, Right, leads};
 
-use crate::origin::{HEAP, UNKNOWN, Value, address, agree, inside, is_sized};
+use crate::input::Input;
+use crate::origin::{HEAP, UNKNOWN, address, agree, image, inside, is_sized, memory, temp};
 use inst::table::arm;
 
 // What stands for the pieces that a Cat reads, to be looked up again.
 pub const PIECES: u32 = 4294967295;
 
 // The arms, in the order of their numbers in the table of kinds.
-#[derive(Clone, Copy, PartialEq, Eq)]
+#[derive(Clone, Copy, PartialEq, Eq, Debug)]
 pub enum Arm {
     Const,
     ConstF,
@@ -66,7 +67,7 @@ static ARMS: [Arm; 22] = [
 ];
 
 // Whether an instruction may move: never, if it is in the legal set, or wherever its value is needed.
-#[derive(Clone, Copy, PartialEq, Eq)]
+#[derive(Clone, Copy, PartialEq, Eq, Debug)]
 pub enum Class {
     No,
     Movable,
@@ -91,8 +92,8 @@ impl Class {
 }
 
 // What an instruction does. The memory written and the memory read are as a Fact has them, of which this is the most: 0 for none, an
-// origin and 1, or PIECES.
-#[derive(Clone, Copy)]
+// origin and 1, or PIECES. The flags are as there too: each is a fact of its own, and none is the lack of another field.
+#[derive(Clone, Copy, PartialEq, Eq, Debug)]
 pub struct Effect {
     pub class: Class,
     pub org: u32,
@@ -102,18 +103,6 @@ pub struct Effect {
     pub wrote: u32,
     pub barrier: bool,
     pub from: u32,
-}
-
-// What an arm asks: form, length of the list, position; the first three registers read; whether the second of them is a constant
-// above 0; whether its own constant is a length.
-#[derive(Clone, Copy)]
-pub struct Input {
-    pub form: u32,
-    pub list: u32,
-    pub p: u32,
-    pub reads: [Value; 3],
-    pub divisor: bool,
-    pub small: bool,
 }
 
 // It cannot move, and does nothing that the legal set looks at.
@@ -191,7 +180,6 @@ fn stops() -> Effect
 
 // A sum, difference or product of lengths, or a length over a constant above 0.
 fn bin(x: Input) -> Effect
-    requires { Small x }
     ensures { Right result Arm.Bin x }
 {
     let [first, second, _] = x.reads;
@@ -204,7 +192,6 @@ fn bin(x: Input) -> Effect
 
 // The check of a length.
 fn check(x: Input) -> Effect
-    requires { Small x }
     ensures { Right result Arm.Check x }
 {
     let [first, _, _] = x.reads;
@@ -216,7 +203,6 @@ fn check(x: Input) -> Effect
 
 // A word read from memory.
 fn load(x: Input) -> Effect
-    requires { Small x }
     ensures { Right result Arm.Load x }
 {
     let [first, _, _] = x.reads;
@@ -224,7 +210,7 @@ fn load(x: Input) -> Effect
         return PLAIN;
     }
     reads(
-        first.org + 1,
+        memory(first.org),
         inside(first.org),
         is_sized(first.org, first.layout),
     )
@@ -232,70 +218,60 @@ fn load(x: Input) -> Effect
 
 // A block, which can move if its length is one.
 fn alloc(x: Input) -> Effect
-    requires { Small x }
     ensures { Right result Arm.Alloc x }
 {
     let [first, _, _] = x.reads;
     if first.len {
-        return makes(4 + 2 * x.p, false, 0);
+        return makes(temp(x.p), false, 0);
     }
-    value(Class::No, 4 + 2 * x.p, false)
+    value(Class::No, temp(x.p), false)
 }
 
 // A layout.
 fn layout_of(x: Input) -> Effect
-    requires { Small x }
     ensures { Right result Arm.LayoutOf x }
 {
     let [first, _, _] = x.reads;
     if x.form == 0 {
-        return makes(4 + 2 * x.p, true, first.org + 1);
+        return makes(temp(x.p), true, memory(first.org));
     }
     PLAIN
 }
 
 // A word written to memory.
 fn store(x: Input) -> Effect
-    requires { Small x }
     ensures { Right result Arm.Store x }
 {
     let [first, _, _] = x.reads;
     if x.form == 4 {
         return PLAIN;
     }
-    writes(Class::Movable, first.org + 1, 0)
+    writes(Class::Movable, memory(first.org), 0)
 }
 
 // CallNative: an image, a light call, or a barrier.
 fn native(x: Input) -> Effect
-    requires { Small x }
     ensures { Right result Arm.Native x }
 {
     if (x.form == 1) & (x.list == 1) {
-        return makes(5 + 2 * x.p, false, 0);
+        return makes(image(x.p), false, 0);
     }
     if x.form == 2 {
-        return value(Class::No, 4 + 2 * x.p, false);
+        return value(Class::No, temp(x.p), false);
     }
     stops()
 }
 
 impl Arm {
     // The arm of a kind with this row in the table.
-    #[tactic(auto, using(crate::proofs::Rows::arm_found))]
     pub fn of(row: u32) -> Self
         ensures { arm_of result ≡ arm_at (arm row) }
     {
-        let n = arm(row) as usize;
-        if n < ARMS.len() {
-            return ARMS[n];
-        }
-        Arm::Other
+        ARMS.get(arm(row) as usize).copied().unwrap_or(Arm::Other)
     }
 
     // What an instruction of this arm does.
     pub fn effect(self, x: Input) -> Effect
-        requires { Small x }
         ensures { Right result self x }
     {
         let [first, second, third] = x.reads;
@@ -313,18 +289,18 @@ impl Arm {
             Arm::Bin => bin(x),
             Arm::Index => value(Class::Movable, first.org, false),
             Arm::Check => check(x),
-            Arm::DopeLen => reads(first.org + 1, UNKNOWN, true),
+            Arm::DopeLen => reads(memory(first.org), UNKNOWN, true),
             Arm::Load => load(x),
             Arm::Alloc => alloc(x),
             Arm::LayoutOf => layout_of(x),
             Arm::Signal => value(Class::Movable, UNKNOWN, false),
-            Arm::Fills => writes(Class::Movable, first.org + 1, 0),
+            Arm::Fills => writes(Class::Movable, memory(first.org), 0),
             Arm::Store => store(x),
-            Arm::Cat => writes(Class::Movable, first.org + 1, PIECES),
+            Arm::Cat => writes(Class::Movable, memory(first.org), PIECES),
             Arm::Native => native(x),
             Arm::Stops => stops(),
             Arm::Deref => value(Class::No, HEAP, false),
-            Arm::Writes => writes(Class::No, first.org + 1, 0),
+            Arm::Writes => writes(Class::No, memory(first.org), 0),
             Arm::Other => PLAIN,
         }
     }

@@ -11,3 +11,4 @@ pub mod Firsts
 pub mod Constants
 pub mod Indices
 pub mod Ends
+pub mod Writing

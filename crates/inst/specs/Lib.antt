@@ -4,3 +4,4 @@ pub mod Record
 pub mod Constant
 pub mod Index
 pub mod Firsts
+pub mod Written

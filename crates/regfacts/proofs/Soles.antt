@@ -15,7 +15,7 @@ use Rattle.words.specs.Lists.{mem, filter, upto}
 use Rattle.words.proofs.Lists.{made_snoc, filter_append}
 use Rattle.model.specs.Picture.{Inst, inst, writes}
 use Rattle.model.specs.Analyse.{unknown, known, from_writers}
-use Rattle.regfacts.specs.Written.{settle, Written}
+use Rattle.inst.specs.Written.{settle, Written}
 use Rattle.regfacts.specs.Flags.{many, noted, sole, Soles, sole_of, known_from}
 
 noted_by : (p v : ℕ) (a b : Bool) → eqb v 0 ≡ a → eqb v (p + 1) ≡ b → p < 32768 → noted p (cond a (p + 1) (cond b v many)) ≡ cond a (p + 1) (cond b v many)

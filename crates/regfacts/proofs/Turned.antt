@@ -1,6 +1,8 @@
 -- The facts on registers as flags: a constant's, a record's, and of every register. Assumes nothing.
 use Rattle.std.specs.Prelude.{Option, None, Some}
-use mathlib.Core.Bool.{Bool, true, false, cond, ◌||◌, ◌&&◌, and-true}
+use Rattle.std.specs.Ordering.{is_le}
+use Rattle.std.specs.declared.cmp.Ordering.TheVariants.{Less, Equal, Greater}
+use mathlib.Core.Bool.{Bool, true, false, cond, not, ◌||◌, ◌&&◌, and-true}
 use mathlib.Core.List.{List}
 use mathlib.Core.Logic.{◌⊎◌, inl, inr, ⊎_elim}
 use mathlib.Core.Path.{◌≡◌, refl, sym, ap, ◌∙◌, subst}
@@ -8,35 +10,72 @@ use Prim.Native.Nat.{ℕ, zero, suc, ◌+◌, ◌*◌, ◌-◌, ◌≤◌, ◌<�
 use native.Mathlib.Decide.{ℕ_discrete}
 use native.Mathlib.Nat.{not-suc-le-zero}
 use native.Mathlib.Omega.{arith}
-use borrow.Author.Tests.{ne_eqb, eqb-false, leb-true, leb-false, le-leb, lt-leb}
-use lib.Dec.{eqb, leb}
+use borrow.Author.Tests.{ne_eqb, eqb-false, leb-true, leb-false, ltb-true, le-leb, lt-leb}
+use lib.Dec.{eqb, leb, ltb}
 use lib.Ieee.{binary64, nan_bits}
 use lib.IntN.{ℤ, pos, negsuc}
-use lib.Signed.{le_z}
+use lib.Signed.{lt_z}
 use lib.ListN.{get_or, length, set, length-set}
 use lib.Seq.{get_or-set_same, get_or-set_other}
 use Rattle.model.specs.Kinds.{Const, ConstF}
 use Rattle.model.specs.Picture.{Inst, inst, is_kind}
-use Rattle.model.specs.Analyse.{whole, unknown, known, small, positive, when_some}
+use Rattle.model.specs.Analyse.{Org, Unknown, Ro, Frame, same_org, whole, unknown, known, small, positive, when_some}
 use Rattle.inst.specs.Constant.{bits_of, constant_of}
 use Rattle.inst.specs.Record.{Within}
 use Rattle.inst.proofs.Constants.{constant_by}
 use Rattle.regfacts.specs.Written.{Fits}
-use Rattle.effects.specs.Origin.{num}
+use Rattle.words.proofs.Bools.{and_no}
+use Rattle.effects.specs.Origin.{org_at, num}
+use Rattle.effects.proofs.Origins.{same_at}
 use Rattle.regfacts.specs.Flags.{many, sole, Soles, flags_of, flags_in, sole_of, known_from, Found}
 use Rattle.regfacts.proofs.Soles.{sole_writer, sole_small}
 
 -- ---- a constant
 
-pub small_is : (z : ℤ) → le_z (negsuc 1099511627775) z && le_z z (pos 1099511627776) ≡ small z
-small_is (pos n) = refl
-small_is (negsuc n) = and-true (leb n 1099511627775) ∙ go (leb n 1099511627775) refl
+-- what a range asks of one bound
+at_most : (a b : ℕ) → is_le (cond (ltb a b) Less (cond (ltb b a) Greater Equal)) ≡ leb a b
+at_most a b = go (ltb a b) (ltb b a) (leb a b) refl refl refl
+  where
+    go : (x y z : Bool) → ltb a b ≡ x → ltb b a ≡ y → leb a b ≡ z → is_le (cond x Less (cond y Greater Equal)) ≡ z
+    go true y true p q r = refl
+    go true y false p q r = let h = ltb-true a b p in let k = leb-false a b r in absurd (omega (arith, h, k))
+    go false true true p q r = let h = ltb-true b a q in let k = leb-true a b r in absurd (omega (arith, h, k))
+    go false true false p q r = refl
+    go false false true p q r = refl
+    go false false false p q r = let h = leb-false (suc b) a q in let k = leb-false a b r in absurd (omega (arith, h, k))
+
+abbrev lies : ℤ → ℤ → Bool
+lies a b = is_le (cond (lt_z a b) Less (cond (lt_z b a) Greater Equal))
+
+pub small_is : (z : ℤ) → lies (negsuc 1099511627775) z && lies z (pos 1099511627776) ≡ small z
+small_is (pos n) = at_most n 1099511627776
+small_is (negsuc n) = and-true (lies (negsuc 1099511627775) (negsuc n)) ∙ at_most n 1099511627775 ∙ go (leb n 1099511627775) refl
   where
     go : (b : Bool) → leb n 1099511627775 ≡ b → b ≡ leb (suc n) 1099511627776
     go true e = let h = leb-true n 1099511627775 e in sym (le-leb (suc n) 1099511627776 (omega (arith, h)))
     go false e = let h = leb-false n 1099511627775 e in sym (lt-leb (suc n) 1099511627776 (omega (arith, h)))
 
 -- ---- a record
+
+-- an address by the origin that it has
+addresses : (o f : ℕ) → org_at o ≡ cond (eqb f 2 || eqb f 4) Ro (cond (eqb f 0) Frame Unknown) → (eqb o 1 ≡ (eqb f 2 || eqb f 4)) × (eqb o 3 ≡ eqb f 0)
+unfolding org_at
+addresses o f e =
+    (sym (same_at o 1) ∙ ap (λ (x : Org). same_org x Ro) e ∙ is_ro (eqb f 2 || eqb f 4) (eqb f 0), sym (same_at o 3) ∙ ap (λ (x : Org). same_org x Frame) e ∙ is_frame (eqb f 2 || eqb f 4) (eqb f 0) ∙ apart f)
+  where
+    is_ro : (a b : Bool) → same_org (cond a Ro (cond b Frame Unknown)) Ro ≡ a
+    is_ro true b = refl
+    is_ro false true = refl
+    is_ro false false = refl
+
+    is_frame : (a b : Bool) → same_org (cond a Ro (cond b Frame Unknown)) Frame ≡ (not a && b)
+    is_frame true b = refl
+    is_frame false true = refl
+    is_frame false false = refl
+
+    apart : (f : ℕ) → (not (eqb f 2 || eqb f 4) && eqb f 0) ≡ eqb f 0
+    apart zero = refl
+    apart (suc f) = and_no (not (eqb (suc f) 2 || eqb (suc f) 4)) (ne_eqb (suc f) 0 (λ q. omega arith)) ∙ sym (ne_eqb (suc f) 0 (λ q. omega arith))
 
 abbrev packed : Bool → Bool → Bool → Inst → ℕ
 packed a f c i =
@@ -49,12 +88,12 @@ flags_by i a c ea ec =
     ap (λ (x : Bool). packed x x (eqb (get_or i 0 0) 0) i) ea ∙ ap (λ (x : Bool). packed a a x i) ec
 
 module _ (i : Inst) where
-  pub address_flags : {k f a b : ℕ} → k ≡ get_or i 0 0 → k ≡ 3 → f ≡ get_or i 1 0 → a ≡ num (eqb f 2 || eqb f 4) → b ≡ num (eqb f 0) → a + 2 * b ≡ flags_of (known i)
+  pub address_flags : {k f a b : ℕ} (o : ℕ) → k ≡ get_or i 0 0 → k ≡ 3 → f ≡ get_or i 1 0 → org_at o ≡ cond (eqb f 2 || eqb f 4) Ro (cond (eqb f 0) Frame Unknown) → a ≡ num (eqb o 1) → b ≡ num (eqb o 3) → a + 2 * b ≡ flags_of (known i)
   unfolding num
-  address_flags {k} {f} {a} {b} ek e ef ea eb =
+  address_flags {k} {f} {a} {b} o ek e ef eo ea eb =
       let h = flags_by i true false (ap (λ (n : ℕ). eqb n 3) (sym ek ∙ e)) (ap (λ (n : ℕ). eqb n 0) (sym ek ∙ e)) in
-      let ga : a ≡ num (eqb (get_or i 1 0) 2 || eqb (get_or i 1 0) 4) = ea ∙ ap (λ (n : ℕ). num (eqb n 2 || eqb n 4)) ef in
-      let gb : b ≡ num (eqb (get_or i 1 0) 0) = eb ∙ ap (λ (n : ℕ). num (eqb n 0)) ef in
+      let ga : a ≡ num (eqb (get_or i 1 0) 2 || eqb (get_or i 1 0) 4) = ea ∙ ap num (addresses o f eo).0 ∙ ap (λ (n : ℕ). num (eqb n 2 || eqb n 4)) ef in
+      let gb : b ≡ num (eqb (get_or i 1 0) 0) = eb ∙ ap num (addresses o f eo).1 ∙ ap (λ (n : ℕ). num (eqb n 0)) ef in
       omega (arith, h, ga, gb)
 
   constant_by_kind : (c : Bool) → is_kind Const i ≡ c → packed false false c i ≡ flags_in (constant_of i)

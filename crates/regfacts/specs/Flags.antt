@@ -1,12 +1,12 @@
 -- 01, "A round", the facts on registers: the only writer of a register as a number, and the facts as flags. Assumes nothing.
-use Rattle.std.specs.Prelude.{◌≡◌, Bool, false, cond, List, map, ℕ, zero, suc, ◌+◌, ◌*◌, ◌%◌, ◌≤◌, ◌<◌, eqb, get_or, length, Option, Some}
+use Rattle.std.specs.Prelude.{◌≡◌, Bool, false, cond, List, map, ℕ, zero, suc, ◌+◌, ◌*◌, ◌/◌, ◌%◌, ◌≤◌, ◌<◌, eqb, get_or, length, Option, Some}
 use Rattle.words.specs.Lists.{mem, filter, upto}
 use Rattle.model.specs.Picture.{inst, writes}
 use Rattle.model.specs.Analyse.{Known, unknown, known, from_writers, Facts, known_of, when_some, small, positive}
 use Rattle.inst.specs.declared.constant.Constant.{Constant}
 use Rattle.inst.specs.declared.constant.Constant.TheVariants.{Whole}
 use Rattle.effects.specs.Origin.{num}
-use Rattle.regfacts.specs.Written.{settle}
+use Rattle.inst.specs.Written.{settle}
 
 abbrev pub many : ℕ
 many = 4294967295
@@ -29,6 +29,10 @@ pub record Soles (recs : List ℕ) (n K : ℕ) (words : List ℕ) : Type 0 where
 -- read-only 1, frame 2, a length 4, above zero 8
 unfoldable pub flags_of : Known → ℕ
 flags_of k = num k.ro + 2 * num k.frame + 4 * num (when_some small k.konst) + 8 * num (when_some positive k.konst)
+
+-- where a register with these flags points, as an origin's number
+unfoldable pub origin_in : ℕ → ℕ
+origin_in f = cond (eqb (f % 2) 1) 1 (cond (eqb (f / 2 % 2) 1) 3 0)
 
 -- a constant that is a length
 unfoldable pub is_length : Option Constant → Bool

@@ -2,19 +2,20 @@
 // writer"), four bits in a word of 64 a register: 1 read-only, 2 frame, 4 a constant that is a length, 8 a constant above 0.
 // The words past the registers in use are set to 0: a new register has no facts. The words are a lent slice's, which `analyse` puts last
 // writers into, so they stay words.
-ghost use Rattle.std.specs.Prelude.{◌≡◌, ◌⊎◌, ℕ, ◌*◌, ◌≤◌, ◌<◌, length, get_or};
+ghost use Rattle.std.specs.Prelude.{◌≡◌, ◌⊎◌, ℕ, ◌*◌, ◌≤◌, ◌<◌, length};
 ghost use Rattle.model.specs.Picture.{inst};
 ghost use Rattle.model.specs.Analyse.{known, small, positive};
-ghost use Rattle.inst.specs.Index.{word_of, Among};
-ghost use Rattle.inst.specs.Record.{Within, Used};
-ghost use Rattle.regfacts.specs.Written.{put_in, Fits, Written};
-ghost use Rattle.regfacts.specs.Flags.{noted, many, Soles, flags_of, flags_in, is_length, sole_of, Found};
+ghost use Rattle.inst.specs.Record.{Within};
+ghost use Rattle.inst.specs.Written.{Written};
+ghost use Rattle.regfacts.specs.Written.{Fits};
+ghost use Rattle.regfacts.specs.Flags.{noted, many, Soles, flags_of, flags_in, origin_in, is_length, sole_of, Found};
 
-use crate::written::{change, change_written};
+use effects::origin::{FRAME, RO, UNKNOWN, address};
 use inst::code::Code;
 use inst::constant::{Constant, decode};
 use inst::kinds::ADDR_OF;
 use inst::record::{form, kind};
+use inst::written::{change, change_written};
 
 // A register's word counts what stands over its flags by this.
 pub const FLAGS: u64 = 16;
@@ -70,7 +71,7 @@ fn find_soles(code: &Code, regs: &mut [u64], n: usize)
 fn is_small(z: i64) -> bool
     ensures { result ≡ small z }
 {
-    (LEAST <= z) & (z <= GREATEST)
+    (LEAST..=GREATEST).contains(&z)
 }
 
 fn is_positive(z: i64) -> bool
@@ -107,10 +108,24 @@ fn record_flags(recs: &[u32], q: usize) -> u64
     ensures { result ≡ flags_of (known (inst recs.now q)) }
 {
     if kind(recs, q) == ADDR_OF {
-        let f = form(recs, q);
-        return u64::from((f == 2) | (f == 4)) + 2 * u64::from(f == 0);
+        let o = address(form(recs, q));
+        return u64::from(o == RO) + 2 * u64::from(o == FRAME);
     }
     constant_flags(decode(recs, q))
+}
+
+// Where a register with these flags points, as an origin's number.
+#[tactic(auto, unfolding(crate::specs::Flags::origin_in))]
+pub fn origin(f: u64) -> u32
+    ensures { result ≡ origin_in f }
+{
+    if f % 2 == 1 {
+        return RO;
+    }
+    if f / 2 % 2 == 1 {
+        return FRAME;
+    }
+    UNKNOWN
 }
 
 // The flags of a register by its writer's word.
@@ -131,7 +146,7 @@ pub fn find_facts(code: &Code, regs: &mut [u64], n: usize)
     ensures { Found code.now.recs.now n (length regs.old) regs.new }
 {
     find_soles(code, regs, n);
-    for r in 0..regs.len() {
-        regs[r] = flags(code.recs, regs[r]);
+    for w in regs.iter_mut() {
+        *w = flags(code.recs, *w);
     }
 }

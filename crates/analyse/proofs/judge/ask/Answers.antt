@@ -18,6 +18,18 @@ pub is_divisor-requires : goal.is_divisor-requires
 is_divisor-requires c =
     read_reg c.requires.0 _ c.new-r1.ensures
 
+pub invariant_of-result : goal.invariant_of-result
+invariant_of-result c =
+    let ranged = c.requires.0 in
+    let in_use = c.requires.2 in
+    record {
+      low = record {
+        place = ranged.few;
+        first = (c.value_of-v0.ensures _ _ (made_reg ranged _ in_use.r0 c.new.ensures).0 ranged).0;
+        second = (c.value_of-v1.ensures _ _ (made_reg ranged _ in_use.r1 c.new-r1.ensures).0 ranged).0;
+      };
+    }
+
 pub returns : goal.returns
 returns c =
     let ranged = c.requires.0 in
@@ -28,7 +40,6 @@ returns c =
     let v0 = c.value_of-v0.ensures _ _ m0.0 ranged in
     let v1 = c.value_of-v1.ensures _ _ m1.0 ranged in
     let v2 = c.value_of-v2.ensures _ _ m2.0 ranged in (
-      record { place = ranged.few; first = v0.0; second = v1.0 },
       refl,
       λ ops G past h e s.
           let k0 = v0.1 G past e s in
@@ -39,7 +50,7 @@ returns c =
           let r2 = m2.1 ∙ h.r2 in
           record {
             form = sym c.form.ensures;
-            list = sym c.word.ensures;
+            list = sym c.list_len.ensures;
             small = sym (c.is_length.ensures ∙ ap is_length c.decode.ensures);
             p = sym e;
             o0 = rw r0 at k0.org;

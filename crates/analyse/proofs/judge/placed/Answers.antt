@@ -10,4 +10,4 @@ pub returns-then-is_movable-e : goal.returns-then-is_movable-e
 returns-then-is_movable-e c = (placed_none c.args.e _ _ c.if-e-ne0.false (rw c.is_movable.ensures at c.if-is_movable-e.true), λ h. omega arith)
 
 pub returns : goal.returns
-returns c = (placed_unknown c.args.e _ _ c.if-e-ne0.false (rw c.is_movable.ensures at c.if-is_movable-e.false), λ h. omega arith)
+returns c = (rw c.memory.ensures (placed_unknown c.args.e _ _ c.if-e-ne0.false (rw c.is_movable.ensures at c.if-is_movable-e.false)), λ h. omega (arith, c.memory.ensures))

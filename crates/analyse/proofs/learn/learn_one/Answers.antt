@@ -32,6 +32,6 @@ returns c =
     let scanned = rw c.slots-slots.ensures.place at c.scan-x.ensures in
     rw c.fact_of.ensures
     (learned _ _ c.judge-e.result c.may_suspend.result c.ask-y.result c.of.result c.requires.0 c.requires.2 c.requires.1 (c.of.ensures ∙ ap (λ (m : ℕ). arm_at (T.arm m)) c.row-m.ensures)
-    (rw c.ask-y.ensures.1 at c.judge-e.ensures.0) scanned (rw (c.stamp-d.ensures.0, c.leads.ensures, c.slots-slots.ensures.recs, c.slots-slots.ensures.place) at c.mark_record.ensures) c.may_suspend.ensures
-    (λ G past el s. c.ask-y.ensures.2 _ G past scanned el s)
+    (rw c.ask-y.ensures.0 at c.judge-e.ensures.0) scanned (rw (c.stamp-d.ensures.0, c.leads.ensures, c.slots-slots.ensures.recs, c.slots-slots.ensures.place) at c.mark_record.ensures) c.may_suspend.ensures
+    (λ G past el s. c.ask-y.ensures.1 _ G past scanned el s)
     (λ G past z. c.judge-e.ensures.1 _ G past _ (omega (arith, c.requires.0.in_use, c.requires.0.lent)) c.requires.1.good z))

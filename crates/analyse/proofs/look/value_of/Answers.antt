@@ -5,7 +5,7 @@ use native.Mathlib.Omega.{arith}
 use lib.ListN.{get_or}
 use Rattle.inst.specs.Index.{word_of}
 use Rattle.inst.proofs.Indices.{a_reg}
-use Rattle.analyse.proofs.Looked.{valued_none, valued_flags, valued_left, a_writer, left_org}
+use Rattle.analyse.proofs.Looked.{valued_none, valued_flags, valued_left, a_writer, left_org, origin_low}
 use Rattle.analyse.proofs.look.value_of.Goals as goal
 
 pub returns-in_default : goal.returns-in_default
@@ -21,8 +21,7 @@ pub returns-then-v-lt-FLAGS : goal.returns-then-v-lt-FLAGS
 returns-then-v-lt-FLAGS c =
     let is = c.in-Some.is in
     let v = ap (λ (k : ℕ). get_or c.args.regs.now k 0) (c.at.ensures ∙ sym (ap word_of is)) in
-    let org = c.flags_org.ensures in
-    λ count n a g. (omega (arith, org.0), λ G past e s. let h = a_reg is a in valued_flags s _ h.1 h.0 _ v _ org.0 c.if-v-lt-FLAGS.true org.1)
+    λ count n a g. (let h = origin_low (get_or c.args.regs.now c.at.result 0) c.origin.ensures in omega (arith, h), λ G past e s. let h = a_reg is a in valued_flags s _ h.1 h.0 _ v _ c.origin.ensures c.if-v-lt-FLAGS.true)
 
 pub returns : goal.returns
 returns c =

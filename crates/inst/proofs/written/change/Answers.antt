@@ -1,8 +1,8 @@
--- `regfacts::written::change` meets its contract. Assumes nothing.
+-- `inst::written::change` meets its contract. Assumes nothing.
 use mathlib.Core.Path.{ap, subst}
 use Rattle.inst.specs.Index.{word_of, Among}
-use Rattle.regfacts.proofs.Writing.{put_at, put_none}
-use Rattle.regfacts.proofs.written.change.Goals as goal
+use Rattle.inst.proofs.Writing.{put_at, put_none}
+use Rattle.inst.proofs.written.change.Goals as goal
 
 pub returns-in_default : goal.returns-in_default
 returns-in_default g c = λ f' m. put_none _ _ (ap word_of c.in_default.is)

@@ -1,11 +1,12 @@
 // A word a register, changed at each register that a record writes.
-ghost use Rattle.std.specs.Prelude.{◌≡◌, ℕ, length};
-ghost use Rattle.model.specs.Picture.{inst};
+ghost use Rattle.std.specs.Prelude.{◌≡◌, ℕ, ◌≤◌, ◌<◌, length};
+ghost use Rattle.model.specs.Picture.{inst, absent};
 ghost use Rattle.inst.specs.Index.{word_of, Among};
-ghost use Rattle.regfacts.specs.Written.{put_in, Fits, Written, Makes};
+ghost use Rattle.inst.specs.Record.{write_at};
+ghost use Rattle.inst.specs.Written.{put_in, Written, Makes};
 
-use inst::code::Slots;
-use inst::index::Reg;
+use crate::code::Slots;
+use crate::index::Reg;
 
 // The word of register r, if it is one, becomes what f makes of it.
 pub fn change<F: Fn(u64) -> u64>(words: &mut [u64], r: Option<Reg>, f: F)
@@ -22,7 +23,8 @@ pub fn change<F: Fn(u64) -> u64>(words: &mut [u64], r: Option<Reg>, f: F)
 
 // So does the word of each register that the slots write, one by one; f makes no more of what it made.
 pub fn change_written<F: Fn(u64) -> u64>(slots: &Slots, words: &mut [u64], f: F)
-    requires fits { Fits slots.now.recs.now (length words.old) slots.now.p }
+    requires few { length words.old ≤ absent }
+    requires by_index { (s : ℕ) → s < 5 → (write_at (inst slots.now.recs.now slots.now.p) s ≡ absent → ⊥) → write_at (inst slots.now.recs.now slots.now.p) s < length words.old }
     requires can { F.IsAlwaysCallable f }
     ensures { (g : ℕ → ℕ) → Makes (F.post f) g → ((v : ℕ) → g (g v) ≡ g v) → Written g (inst slots.now.recs.now slots.now.p) words.old words.new }
 {
