@@ -12,7 +12,7 @@ use effects::arms::PIECES;
 use facts::Fact;
 use inst::code::Code;
 use inst::index::Reg;
-use summary::notes::MEMBER;
+use summary::notes::Lasts;
 use summary::reads::all_read;
 use summary::stamps::{AWAITED, MEMBER_AT, ORIGIN, WRITER};
 
@@ -29,7 +29,7 @@ pub struct Fences {
 pub struct Kept<'a> {
     pub regs: &'a [u32],
     pub st: &'a [u64],
-    pub lasts: &'a [u32; 2008],
+    pub lasts: &'a Lasts,
     pub fences: Fences,
     ghost near: { Near st.now },
     ghost alike: { length regs.now ≡ length st.now },
@@ -72,14 +72,14 @@ impl Kept<'_> {
     // Rule 5 for the origin of number o.
     fn org_ok(&self, p: usize, o: u32) -> bool
         requires { (o < 2005) × (p < 800) }
-        ensures { result ≡ org_test self.now.lasts.now self.now.fences.bar p o }
+        ensures { result ≡ org_test self.now.lasts.now.writes self.now.fences.bar p o }
     {
         let e = p as u32 + 1;
         let k = o as usize + 1;
         ((o == 1) | (3 <= o))
             & ((self.fences.bar <= e) | (o == 1))
-            & (self.lasts[1] % MEMBER <= e)
-            & ((o <= 2) | (self.lasts[k] % MEMBER <= e))
+            & (self.lasts.write(1) <= e)
+            & ((o <= 2) | (self.lasts.write(k) <= e))
     }
 
     // Where register r points that is read at this place.
@@ -104,7 +104,7 @@ impl Kept<'_> {
     // Rule 5 for a Cat's piece, if its bit says that it is an address.
     fn piece_ok(&self, p: usize, sc: u32, r: Reg) -> bool
         requires { (r.0 < length self.now.st.now) × (p < 800) }
-        ensures { result ≡ (not (eqb (sc % 2) 0) || piece_test self.now.regs.now self.now.st.now self.now.lasts.now self.now.fences.bar p r.0) }
+        ensures { result ≡ (not (eqb (sc % 2) 0) || piece_test self.now.regs.now self.now.st.now self.now.lasts.now.writes self.now.fences.bar p r.0) }
     {
         if sc % 2 != 0 {
             return true;
@@ -115,7 +115,7 @@ impl Kept<'_> {
     // Rule 5 for all of a Cat's pieces, the registers xs.
     fn pieces_ok(&self, xs: &[u32], p: usize, scalars: u32) -> bool
         requires { ((k : ℕ) → k < length xs.now → get_or xs.now k 0 < length self.now.st.now) × (p < 800) }
-        ensures { result ≡ all (piece_test self.now.regs.now self.now.st.now self.now.lasts.now self.now.fences.bar p) (picked scalars xs.now) }
+        ensures { result ≡ all (piece_test self.now.regs.now self.now.st.now self.now.lasts.now.writes self.now.fences.bar p) (picked scalars xs.now) }
     {
         let mut rest = xs;
         let mut sc = scalars;
@@ -135,7 +135,7 @@ impl Kept<'_> {
     // Rule 5 for all that position p reads.
     fn froms_ok(&self, code: &Code, f: Fact, p: usize) -> bool
         requires { Good code.now.recs.now code.now.ops.now (length self.now.st.now) f.rec × (p < 800) × ((f.from ≤ 2004) ⊎ (f.from ≡ 4294967295)) }
-        ensures { result ≡ from_test self.now.regs.now code.now.ops.now (inst code.now.recs.now f.rec) self.now.st.now self.now.lasts.now self.now.fences.bar f.from p }
+        ensures { result ≡ from_test self.now.regs.now code.now.ops.now (inst code.now.recs.now f.rec) self.now.st.now self.now.lasts.now.writes self.now.fences.bar f.from p }
     {
         let x = f.from;
         if x == 0 {
@@ -160,7 +160,7 @@ impl Kept<'_> {
     // reads; and p's reads are Ro, Frame, Img or Temp.
     pub fn rule5(&self, code: &Code, f: Fact, p: usize) -> bool
         requires { Good code.now.recs.now code.now.ops.now (length self.now.st.now) f.rec × (p < 800) × ((f.from ≤ 2004) ⊎ (f.from ≡ 4294967295)) }
-        ensures { result ≡ memory_test code.now.recs.now code.now.ops.now self.now.regs.now self.now.st.now self.now.lasts.now f self.now.fences.bar p }
+        ensures { result ≡ memory_test code.now.recs.now code.now.ops.now self.now.regs.now self.now.st.now self.now.lasts.now.writes f self.now.fences.bar p }
     {
         if !self.still(f, p) {
             return false;
@@ -171,8 +171,8 @@ impl Kept<'_> {
     // Rule 6: the memory that the position of fact f writes is Temp of a member.
     pub fn rule6(&self, f: Fact) -> bool
         requires { f.wrote ≤ 2004 }
-        ensures { result ≡ own_test self.now.lasts.now f.wrote }
+        ensures { result ≡ own_test self.now.lasts.now.writes f.wrote }
     {
-        (f.wrote == 0) | (MEMBER <= self.lasts[f.wrote as usize])
+        (f.wrote == 0) | self.lasts.is_placed(f.wrote as usize)
     }
 }

@@ -1,12 +1,13 @@
 -- The invariant of the loop over sweeps (`settle::settle`), turn by turn, and what it says at the end. Assumes nothing.
+use Rattle.summary.specs.declared.notes.Lasts.{Lasts}
 use Rattle.std.specs.Prelude.{Option, Some, None}
 use mathlib.Core.Path.{◌≡◌, refl, sym, ap, ap₂, ◌∙◌, subst}
 use mathlib.Core.Bool.{Bool, true, false, not, ◌&&◌, cond}
 use mathlib.Core.List.{List}
-use Prim.Native.Nat.{ℕ, ◌+◌, ◌*◌, ◌-◌, ◌%◌, ◌≤◌, ◌<◌}
+use Prim.Native.Nat.{ℕ, ◌+◌, ◌*◌, ◌-◌, ◌≤◌, ◌<◌}
 use native.Mathlib.Omega.{arith}
 use lib.Dec.{eqb, leb}
-use lib.ListN.{get_or, length}
+use lib.ListN.{length}
 use Rattle.words.specs.Lists.{member, count}
 use Rattle.words.specs.Bits.{is_in}
 use Rattle.words.proofs.Bools.{clash}
@@ -32,7 +33,7 @@ use Rattle.plan.proofs.Sweeping.{swept_bare, swept_long}
 use Rattle.plan.proofs.Turning.{marks_long, started, pass_back, pass_forth, around_on, swept_around, summed_near}
 
 -- before a turn: c and the slices came from z and those at the entry
-pub record Looping (recs ops regs : List ℕ) (z : Cycle) (work₀ : List ℕ) (fs₀ : List Fact) (c : Cycle) (work ls : List ℕ) (fs : List Fact) : Type 0 where
+pub record Looping (recs ops regs : List ℕ) (z : Cycle) (work₀ : List ℕ) (fs₀ : List Fact) (c : Cycle) (work : List ℕ) (ls : Lasts) (fs : List Fact) : Type 0 where
   pub span : c.span ≡ z.span
   pub least : c.least ≡ z.least
   pub bare_same : bare fs ≡ bare fs₀
@@ -40,7 +41,7 @@ pub record Looping (recs ops regs : List ℕ) (z : Cycle) (work₀ : List ℕ) (
   pub around : Around z.span.s (length regs) work₀ work
   pub stands : Standing recs ops regs (bare fs₀) work₀ c work ls fs c.next
 
-pub looping_none : {recs ops regs work ls : List ℕ} {fs : List Fact} {z : Cycle} → Choosable recs ops regs work fs z → Looping recs ops regs z work fs z work ls fs
+pub looping_none : {recs ops regs work : List ℕ} {ls : Lasts} {fs : List Fact} {z : Cycle} → Choosable recs ops regs work fs z → Looping recs ops regs z work fs z work ls fs
 looping_none {recs} {ops} {regs} {work} {ls} {fs} {z} h =
     let e : work ≡ work = refl in
     record {
@@ -87,7 +88,7 @@ least_on c Start k = refl
 least_on c Back k = refl
 least_on c Forth k = refl
 
-module _ {recs ops regs work₀ work ls : List ℕ} {fs₀ fs : List Fact} {z c : Cycle} (h : Choosable recs ops regs work₀ fs₀ z) (i : Looping recs ops regs z work₀ fs₀ c work ls fs) where
+module _ {recs ops regs work₀ work : List ℕ} {ls : Lasts} {fs₀ fs : List Fact} {z c : Cycle} (h : Choosable recs ops regs work₀ fs₀ z) (i : Looping recs ops regs z work₀ fs₀ c work ls fs) where
   abbrev At : Phase → Type 0
   At p = Standing recs ops regs (bare fs₀) work₀ c work ls fs (Some p)
 
@@ -114,7 +115,7 @@ module _ {recs ops regs work₀ work ls : List ℕ} {fs₀ fs : List Fact} {z c 
   left_is Back e t = t.settling.count
   left_is Forth e t = t.settling.count
 
-  module _ {work' ls' : List ℕ} where
+  module _ {work' : List ℕ} {ls' : Lasts} where
     may : (p : Phase) → At p → Readied (length regs) c.span p work ls work' ls' → Sweepable recs ops regs work' fs (sweep_of c.span p ls)
     may p t r =
         let x = r.around.size in
@@ -136,7 +137,7 @@ module _ {recs ops regs work₀ work ls : List ℕ} {fs₀ fs : List Fact} {z c 
         turns true = in_x
         turns false = omega arith
 
-    module _ {work'' ls'' : List ℕ} {fs'' : List Fact} {k : ℕ} where
+    module _ {work'' : List ℕ} {ls'' : Lasts} {fs'' : List Fact} {k : ℕ} where
       -- what was dropped
       passed : (p : Phase) → is_start p ≡ false → At p → Readied (length regs) c.span p work ls work' ls' → Swept recs ops regs (sweep_of c.span p ls) work' ls' fs (sweep_of c.span p ls).k work'' ls'' fs'' k
           → Passed (pass_ok (view recs ops (bare fs₀) regs) c.span.n (is_forth p)) 0 c.span.m (marks c.span.n fs) (marks c.span.n fs'') k
@@ -147,8 +148,8 @@ module _ {recs ops regs work₀ work ls : List ℕ} {fs₀ fs : List Fact} {z c 
           let y = r.ahead refl refl in (
             pass_forth (may Forth t r) i.bare_same in_x refl refl
                 (subst (λ (q : List ℕ). Summed recs (bare fs₀) c.span.n 0 (part c.span.s (length regs) q) ls' (marks c.span.n fs)) (sym y.0)
-                (subst (λ (q : List ℕ). Summed recs (bare fs₀) c.span.n 0 (part c.span.s (length regs) work) q (marks c.span.n fs)) (sym y.1) (t.sum refl)))
-                (ap (λ (q : List ℕ). get_or q 2007 0 % 1024) (sym y.1)) (ap (λ (q : List ℕ). get_or q 2006 0 % 1024) (sym y.1)) refl s,
+                (subst (λ (q : Lasts). Summed recs (bare fs₀) c.span.n 0 (part c.span.s (length regs) work) q (marks c.span.n fs)) (sym y.1) (t.sum refl)))
+                (ap (λ (q : Lasts). q.suspension) (sym y.1)) (ap (λ (q : Lasts). q.barrier) (sym y.1)) refl s,
             λ u. clash refl u,
           )
 
@@ -175,12 +176,12 @@ module _ {recs ops regs work₀ work ls : List ℕ} {fs₀ fs : List Fact} {z c 
     at : At p
     at = subst (Standing recs ops regs (bare fs₀) work₀ c work ls fs) e i.stands
 
-    module _ {work' ls' : List ℕ} (r : Readied (length regs) c.span p work ls work' ls') where
+    module _ {work' : List ℕ} {ls' : Lasts} (r : Readied (length regs) c.span p work ls work' ls') where
       -- the sweep may be made
       pub sweep_may : Sweepable recs ops regs work' fs (sweep_of c.span p ls)
       sweep_may = may p at r
 
-      module _ {work'' ls'' : List ℕ} {fs'' : List Fact} {k : ℕ} (s : Swept recs ops regs (sweep_of c.span p ls) work' ls' fs (sweep_of c.span p ls).k work'' ls'' fs'' k) where
+      module _ {work'' : List ℕ} {ls'' : Lasts} {fs'' : List Fact} {k : ℕ} (s : Swept recs ops regs (sweep_of c.span p ls) work' ls' fs (sweep_of c.span p ls).k work'' ls'' fs'' k) where
         pub go_on_may : is_start p ≡ false → k ≤ c.left
         go_on_may u = let a = (passed p u at r s).0.count in let b = left_is p u at in omega arith
 

@@ -8,7 +8,7 @@ use crate::sweep::{Phase, Span, Sweep, run};
 use facts::Fact;
 use legality::forward::Given;
 use legality::kept::Fences;
-use summary::notes::{BARRIER, MEMBER, SUSPENSION};
+use summary::notes::Lasts;
 
 // The sweep that comes next, if one does. `quiet`: the last one dropped nothing. `left` members are left; with fewer than `least` no more
 // sweeps are made.
@@ -22,7 +22,7 @@ pub struct Cycle {
 }
 
 // The sweep of this phase.
-fn sweep_of(span: Span, phase: Phase, lasts: &[u32; 2008]) -> Sweep
+fn sweep_of(span: Span, phase: Phase, lasts: &Lasts) -> Sweep
     ensures { result ≡ sweep_of span phase lasts.now }
 {
     Sweep {
@@ -33,8 +33,8 @@ fn sweep_of(span: Span, phase: Phase, lasts: &[u32; 2008]) -> Sweep
             _ => span.n,
         },
         fences: Fences {
-            sus: lasts[SUSPENSION] % MEMBER,
-            bar: lasts[BARRIER] % MEMBER,
+            sus: lasts.suspension,
+            bar: lasts.barrier,
         },
     }
 }
@@ -42,7 +42,7 @@ fn sweep_of(span: Span, phase: Phase, lasts: &[u32; 2008]) -> Sweep
 // Before a sweep backward the words of the `regs` registers and the notes are cleared. Says which sweep comes.
 pub fn ready(
     work: &mut [u64],
-    lasts: &mut [u32; 2008],
+    lasts: &mut Lasts,
     span: Span,
     phase: Phase,
     regs: usize,
@@ -54,7 +54,7 @@ pub fn ready(
     match phase {
         Phase::Back => {
             work[span.s..span.s + regs].fill(0);
-            *lasts = [0u32; 2008];
+            lasts.clear();
             g
         }
         _ => g,
@@ -99,7 +99,7 @@ pub fn go_on(c: Cycle, phase: Phase, count: u32) -> Cycle
 pub fn settle(
     given: &Given<'_>,
     work: &mut [u64],
-    lasts: &mut [u32; 2008],
+    lasts: &mut Lasts,
     facts: &mut [Fact],
     z: Cycle,
 ) -> u32

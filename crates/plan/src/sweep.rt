@@ -10,6 +10,7 @@ use legality::forward::{Given, forth};
 use legality::kept::Fences;
 use legality::rules::Elsewhere;
 use legality::start::begins_in;
+use summary::notes::Lasts;
 
 // What a sweep does: it marks the positions to begin with, or drops members, by rule 1 from the last position back or by rules 3 to 6
 // from the first one forth.
@@ -69,7 +70,7 @@ fn back_in(
     f: Fact,
     work: &mut [u64],
     s: usize,
-    lasts: &mut [u32; 2008],
+    lasts: &mut Lasts,
     p: usize,
 ) -> bool
     requires { Written given.now.code.recs.now (length given.now.regs.now) f.rec f.def f.more × Readable given.now.code.recs.now given.now.code.ops.now (length given.now.regs.now) f × Small f × (p < 800) × (s + length given.now.regs.now ≤ length work.old) }
@@ -85,7 +86,7 @@ fn forth_in(
     f: Fact,
     work: &mut [u64],
     g: Sweep,
-    lasts: &mut [u32; 2008],
+    lasts: &mut Lasts,
     p: usize,
 ) -> bool
     requires { Written given.now.code.recs.now (length given.now.regs.now) f.rec f.def f.more × Readable given.now.code.recs.now given.now.code.ops.now (length given.now.regs.now) f × Small f × Near (part g.span.s (length given.now.regs.now) work.old) × (p < 800) × (g.span.s + length given.now.regs.now ≤ length work.old) }
@@ -100,7 +101,7 @@ fn forth_in(
 fn visit(
     given: &Given<'_>,
     work: &mut [u64],
-    lasts: &mut [u32; 2008],
+    lasts: &mut Lasts,
     g: Sweep,
     f: Fact,
     p: usize,
@@ -129,7 +130,7 @@ fn counts(phase: Phase, f: Fact, stays: bool) -> bool
 pub fn run(
     given: &Given<'_>,
     work: &mut [u64],
-    lasts: &mut [u32; 2008],
+    lasts: &mut Lasts,
     facts: &mut [Fact],
     g: Sweep,
 ) -> u32
