@@ -12,7 +12,7 @@ use summary::notes::Lasts;
 
 // The sweep that comes next, if one does. `quiet`: the last one dropped nothing. `left` members are left; with fewer than `least` no more
 // sweeps are made.
-#[derive(Clone, Copy)]
+#[derive(Clone, Copy, Debug, PartialEq, Eq)]
 pub struct Cycle {
     pub next: Option<Phase>,
     pub quiet: bool,
@@ -40,7 +40,7 @@ fn sweep_of(span: Span, phase: Phase, lasts: &Lasts) -> Sweep
 }
 
 // Before a sweep backward the words of the `regs` registers and the notes are cleared. Says which sweep comes.
-pub fn ready(
+pub(crate) fn ready(
     work: &mut [u64],
     lasts: &mut Lasts,
     span: Span,
@@ -77,7 +77,7 @@ fn went(c: Cycle, count: u32, phase: Phase) -> Cycle
 }
 
 // After a sweep of this phase that counted `count`.
-pub fn go_on(c: Cycle, phase: Phase, count: u32) -> Cycle
+pub(crate) fn go_on(c: Cycle, phase: Phase, count: u32) -> Cycle
     requires { is_start phase ≡ false → count ≤ c.left }
     ensures { result ≡ go_on c phase count }
 {
@@ -96,7 +96,7 @@ pub fn go_on(c: Cycle, phase: Phase, count: u32) -> Cycle
 // The facts' marks become the greatest legal set, unless it has fewer members than `least`. Says how many are marked. The row of registers
 // needed elsewhere begins at word `o` of `work`; its words from `s` on, one a register, are written. How many sweeps it takes is told by
 // what they drop.
-pub fn settle(
+pub(crate) fn settle(
     given: &Given<'_>,
     work: &mut [u64],
     lasts: &mut Lasts,

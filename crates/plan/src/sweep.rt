@@ -14,7 +14,7 @@ use summary::notes::Lasts;
 
 // What a sweep does: it marks the positions to begin with, or drops members, by rule 1 from the last position back or by rules 3 to 6
 // from the first one forth.
-#[derive(Clone, Copy)]
+#[derive(Clone, Copy, Debug, PartialEq, Eq)]
 pub enum Phase {
     Start,
     Back,
@@ -23,7 +23,7 @@ pub enum Phase {
 
 // What all sweeps are over: the row of registers needed elsewhere begins at word `o` of the work, the words of the registers at `s`; `n`
 // positions, of which the first `m` are in x.
-#[derive(Clone, Copy)]
+#[derive(Clone, Copy, Debug, PartialEq, Eq)]
 pub struct Span {
     pub o: usize,
     pub s: usize,
@@ -32,7 +32,7 @@ pub struct Span {
 }
 
 // Which sweep it is, and over what; `k` turns; the last kept suspension and barrier.
-#[derive(Clone, Copy)]
+#[derive(Clone, Copy, Debug, PartialEq, Eq)]
 pub struct Sweep {
     pub phase: Phase,
     pub span: Span,
@@ -127,7 +127,7 @@ fn counts(phase: Phase, f: Fact, stays: bool) -> bool
 }
 
 // A whole sweep. Says how many begin in the set, or are dropped.
-pub fn run(
+pub(crate) fn run(
     given: &Given<'_>,
     work: &mut [u64],
     lasts: &mut Lasts,

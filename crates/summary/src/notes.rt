@@ -1,17 +1,20 @@
-// What the kept positions of a set do, noted from behind (01, "The legal set": "kept" is outside the set in the whole chain).
+// What the kept positions of a set do, noted from behind (01, "The legal set": "kept" is outside the set in the whole chain). Memory goes
+// by its number in a Fact: 0 for none, else its origin and 1.
+// (A position stays a number here and in what goes by the notes, and `q < 800` is asked beside it: in a type of its own, with the bound
+// inside, each loop over positions would have to show the bound again where it makes one, and to take the number out to count with it.)
 ghost use Rattle.std.specs.Prelude.{◌≡◌, ◌+◌, ◌*◌, ◌%◌, ◌<◌, ◌≤◌, leb, get_or};
 ghost use Rattle.summary.specs.Passes.{later_in, noting, blank, kept_in, forgotten};
 
 use facts::Fact;
 
-// More than the numbers of memory, which go up to 2004.
+// The numbers of memory go up to 2004.
 const WRITES: usize = 2006;
 
 // Above a position and 1.
 const MEMBER: u32 = 1024;
 
-// The last kept write of each memory, the last kept barrier and the last kept position that may suspend, each and 1. The word of Temp
-// of a member, as memory written, has MEMBER besides.
+// The last kept write of each memory, the last kept barrier and the last kept position that may suspend, each and 1, or 0 for none. The
+// word of a member's Temp has MEMBER besides.
 #[derive(Drop)]
 pub struct Lasts {
     pub writes: [u32; WRITES],
@@ -19,7 +22,7 @@ pub struct Lasts {
     pub suspension: u32,
 }
 
-// The word of Temp of position q, as memory written.
+// The number of memory of position q's Temp.
 fn temp(q: usize) -> usize
     requires { q < 800 }
     ensures { result ≡ 2 * q + 5 }
@@ -49,14 +52,14 @@ impl Lasts {
     }
 
     // The last kept write of memory o, and 1.
-    pub fn write(&self, o: usize) -> u32
+    pub fn last_write(&self, o: usize) -> u32
         requires { o < 2006 }
         ensures { result ≡ get_or self.now.writes o 0 % 1024 }
     {
         self.writes[o] % MEMBER
     }
 
-    // Is memory o Temp of a member?
+    // Is memory o a member's Temp?
     pub fn is_placed(&self, o: usize) -> bool
         requires { o < 2006 }
         ensures { result ≡ leb 1024 (get_or self.now.writes o 0) }
@@ -64,7 +67,7 @@ impl Lasts {
         MEMBER <= self.writes[o]
     }
 
-    // What position q, of fact f, does is noted, unless a later one does it.
+    // What position q, of fact f, does is noted, unless a later one does so too.
     fn note_kept(&mut self, f: Fact, q: usize)
         requires { (q < 800) × (f.wrote ≤ 2004) }
         ensures { self.new ≡ kept_in f q self.old }

@@ -23,7 +23,7 @@ pub const MEMBER_AT: u64 = 4096;
 pub const ORIGIN: u64 = 8192;
 
 // The number v; what stood there below `keep`, or `lo` if that is more, stays beside it.
-#[derive(Clone, Copy)]
+#[derive(Clone, Copy, Debug, PartialEq, Eq)]
 pub struct Stamp {
     pub keep: u64,
     pub lo: u64,
