@@ -15,7 +15,7 @@ use inst::code::Code;
 use inst::index::Reg;
 use legality::rules::{Elsewhere, unneeded_slots};
 use model::RECORDS;
-use summary::reads::{SLOTS, read_place};
+use summary::reads::Reads;
 use summary::stamps::{Stamp, put_slots};
 
 // Position q reads register r, if it is one: r's writer has a reader.
@@ -39,10 +39,8 @@ fn note_places(code: &Code, g: usize, st: &[u64], lasts: &mut [u32; RECORDS], q:
     requires { Good code.now.recs.now code.now.ops.now (length st.now) g × ((x : ℕ) → x < length st.now → get_or st.now x 0 ≤ 800) × (length lasts.old ≡ 800) }
     ensures { Noticed st.now (reads code.now.ops.now (inst code.now.recs.now g)) q lasts.old lasts.new }
 {
-    let slots = code.slots(g);
-    let xs = code.list(g);
-    for k in 0..SLOTS + xs.len() {
-        note(st, lasts, read_place(&slots, xs, k, st.len()), q);
+    for r in Reads::new(code, g, st.len()) {
+        note(st, lasts, r, q);
     }
 }
 

@@ -3,7 +3,7 @@
 use mathlib.Core.Path.{◌≡◌, ◌∙◌}
 use mathlib.Core.Bool.{Bool, true}
 use mathlib.Core.List.{List}
-use Prim.Native.Nat.{ℕ, ◌+◌, ◌%◌, ◌<◌}
+use Prim.Native.Nat.{ℕ, ◌+◌, ◌<◌}
 use lib.Dec.{leb}
 use lib.ListN.{get_or, length}
 use Rattle.words.specs.Lists.{all}
@@ -15,6 +15,7 @@ use Rattle.legalset.specs.Chain.{view, defs_of, reads_of, Safe, Told}
 use Rattle.legalset.specs.Marks.{in_set}
 use Rattle.legalset.specs.Rules.{own_ok}
 use Rattle.legalset.proofs.Lawful.{rule1_is, rule2_is, rule3_is, rule4_is, rule5_is, rule6_is}
+use Rattle.summary.specs.declared.notes.Lasts.{Lasts}
 use Rattle.summary.specs.Passes.{Awaits, Ended, Row, Summed, result_test, read_test, memory_test, own_test, Shows}
 use Rattle.summary.proofs.Backing.{back_is}
 use Rattle.legality.proofs.Starting.{results_are}
@@ -32,16 +33,16 @@ module _ {recs ops : List ℕ} {w : List F.Fact} {regs : List ℕ} {n p : ℕ} (
   rule2_tests {bits} {o} d k = results_are bits o s h d ∙ results_row regs s h k ∙ rule2_is (view recs ops w regs) n run t.stands needed (in_set marks) p h
 
   -- rules 3 to 6: the summary of the marks, and the writers before p
-  module _ {st lasts : List ℕ} (e : length st ≡ length regs) (z : Summed recs w n p st lasts marks) where
+  module _ {st : List ℕ} {lasts : Lasts} (e : length st ≡ length regs) (z : Summed recs w n p st lasts marks) where
     pub rule3_tests : all (read_test st p) (reads_of recs ops w p) ≡ get_or (tests run needed (in_set marks) p) 2 true
     rule3_tests = reads_are regs marks s h e z.stamps z.writes z.barrier z.suspension z.flags ∙ rule3_is (view recs ops w regs) n run t.stands needed (in_set marks) p h
 
-    pub rule4_tests : leb (get_or lasts 2007 0 % 1024) (p + 1) ≡ get_or (tests run needed (in_set marks) p) 3 true
+    pub rule4_tests : leb lasts.suspension (p + 1) ≡ get_or (tests run needed (in_set marks) p) 3 true
     rule4_tests = suspends_are regs marks s h e z.stamps z.writes z.barrier z.suspension z.flags ∙ rule4_is (view recs ops w regs) n run t.stands needed (in_set marks) p h
 
-    pub rule5_tests : {f : F.Fact} → Shows w p f → memory_test recs ops regs st lasts f (get_or lasts 2006 0 % 1024) p ≡ get_or (tests run needed (in_set marks) p) 4 true
+    pub rule5_tests : {f : F.Fact} → Shows w p f → memory_test recs ops regs st lasts.writes f lasts.barrier p ≡ get_or (tests run needed (in_set marks) p) 4 true
     rule5_tests d = memory_are regs marks s h e z.stamps z.writes z.barrier z.suspension z.flags d ∙ rule5_is (view recs ops w regs) n run t.stands needed (in_set marks) p h
 
-    pub rule6_tests : own_test lasts (fact_in w p).wrote ≡ get_or (tests run needed (in_set marks) p) 5 true
+    pub rule6_tests : own_test lasts.writes (fact_in w p).wrote ≡ get_or (tests run needed (in_set marks) p) 5 true
     unfolding own_ok
     rule6_tests = own_is regs marks s h e z.stamps z.writes z.barrier z.suspension z.flags ∙ rule6_is (view recs ops w regs) n run t.stands needed (in_set marks) p h

@@ -10,11 +10,11 @@ use crate::known::back_known;
 use crate::rules::rule1;
 use facts::Fact;
 use inst::code::Code;
-use summary::notes::note_at;
+use summary::notes::Lasts;
 use summary::stamps::{Stamp, put_reads, put_writes};
 
 // q and 1, if q is kept.
-pub fn kept_at(member: bool, q: usize) -> u64
+pub(crate) fn kept_at(member: bool, q: usize) -> u64
     requires { q < 800 }
     ensures { result ≡ kept_word member q }
 {
@@ -25,12 +25,12 @@ pub fn kept_at(member: bool, q: usize) -> u64
 }
 
 // The step at position q, of fact f, by its record.
-fn back_looked(code: &Code, f: Fact, st: &mut [u64], lasts: &mut [u32; 2008], q: usize) -> bool
+fn back_looked(code: &Code, f: Fact, st: &mut [u64], lasts: &mut Lasts, q: usize) -> bool
     requires { Written code.now.recs.now (length st.old) f.rec f.def f.more × Readable code.now.recs.now code.now.ops.now (length st.old) f × Small f × (q < 800) }
     ensures { Backed code.now.recs.now code.now.ops.now f q st.old lasts.old st.new lasts.new result }
 {
     let stays = f.member && rule1(code, f, st);
-    note_at(f, stays, lasts, q);
+    lasts.note(f, stays, q);
     put_writes(code, f, st, Stamp::kept(kept_at(stays, q)));
     if !stays {
         put_reads(code, f, st, Stamp::awaited());
@@ -40,7 +40,7 @@ fn back_looked(code: &Code, f: Fact, st: &mut [u64], lasts: &mut [u32; 2008], q:
 
 // Position q, of fact f: dropped if it is a member that writes what is awaited. Says whether it is in the set. Whether the fact has all is
 // asked once: of most positions it has, and then the loop of a sweep holds nothing that only a record needs.
-pub fn back(code: &Code, f: Fact, st: &mut [u64], lasts: &mut [u32; 2008], q: usize) -> bool
+pub fn back(code: &Code, f: Fact, st: &mut [u64], lasts: &mut Lasts, q: usize) -> bool
     requires { Written code.now.recs.now (length st.old) f.rec f.def f.more × Readable code.now.recs.now code.now.ops.now (length st.old) f × Small f × (q < 800) }
     ensures { Backed code.now.recs.now code.now.ops.now f q st.old lasts.old st.new lasts.new result }
 {

@@ -5,7 +5,7 @@ ghost use Rattle.summary.specs.Passes.{fact_word, stay_test, Near, Forwarded, Wr
 use crate::kept::{Fences, Kept};
 use facts::Fact;
 use inst::code::Code;
-use summary::notes::forget;
+use summary::notes::Lasts;
 use summary::stamps::{MEMBER_AT, ORIGIN, Stamp, WRITER, put_writes};
 
 // What a sweep looks at and does not change: the records, and a word for each register in use, with what was known of it before round 1
@@ -22,7 +22,7 @@ const IN_SET: u64 = WRITER + MEMBER_AT;
 // A member that keeps rules 3 to 6, the cheap ones first.
 fn may_stay(code: &Code, f: Fact, kept: &Kept, p: usize) -> bool
     requires { Readable code.now.recs.now code.now.ops.now (length kept.now.st.now) f × Small f × (p < 800) }
-    ensures { result ≡ (f.member && stay_test code.now.recs.now code.now.ops.now kept.now.regs.now kept.now.st.now kept.now.lasts.now f kept.now.fences.sus kept.now.fences.bar p) }
+    ensures { result ≡ (f.member && stay_test code.now.recs.now code.now.ops.now kept.now.regs.now kept.now.st.now kept.now.lasts.now.writes f kept.now.fences.sus kept.now.fences.bar p) }
 {
     f.member && kept.rule4(p) && kept.rule6(f) && kept.rule5(code, f, p) && kept.rule3(code, f, p)
 }
@@ -44,7 +44,7 @@ pub fn forth(
     given: &Given<'_>,
     f: Fact,
     st: &mut [u64],
-    lasts: &mut [u32; 2008],
+    lasts: &mut Lasts,
     fences: Fences,
     p: usize,
 ) -> bool
@@ -58,7 +58,9 @@ pub fn forth(
         fences,
     };
     let stays = may_stay(&given.code, f, &kept, p);
-    forget(lasts, f.member & !stays, p);
+    if f.member & !stays {
+        lasts.forget(p);
+    }
     let d = Stamp {
         keep: WRITER,
         lo: 0,

@@ -9,15 +9,19 @@ ghost use Rattle.legalset.specs.Rules.{still_fine};
 ghost use Rattle.summary.specs.Passes.{read_test, place_test, word_org, org_test, piece_test, from_test, memory_test, own_test, Near, Readable};
 
 use effects::arms::PIECES;
+use effects::origin::{FRAME, RO, UNKNOWN};
 use facts::Fact;
 use inst::code::Code;
 use inst::index::Reg;
-use summary::notes::MEMBER;
+use summary::notes::Lasts;
 use summary::reads::all_read;
 use summary::stamps::{AWAITED, MEMBER_AT, ORIGIN, WRITER};
 
+// Memory of an origin that is not known, which may be any.
+const ANY: usize = UNKNOWN as usize + 1;
+
 // The last kept suspension and the last kept barrier, each and 1.
-#[derive(Clone, Copy)]
+#[derive(Clone, Copy, Debug, PartialEq, Eq)]
 pub struct Fences {
     pub sus: u32,
     pub bar: u32,
@@ -26,11 +30,11 @@ pub struct Fences {
 // What rules 3 to 6 ask: of each register in use what was known of it before round 1, and what is stamped of it; what the kept
 // positions do, and of that the fences.
 #[derive(Clone, Copy)]
-pub struct Kept<'a> {
-    pub regs: &'a [u32],
-    pub st: &'a [u64],
-    pub lasts: &'a [u32; 2008],
-    pub fences: Fences,
+pub(crate) struct Kept<'a> {
+    pub(crate) regs: &'a [u32],
+    pub(crate) st: &'a [u64],
+    pub(crate) lasts: &'a Lasts,
+    pub(crate) fences: Fences,
     ghost near: { Near st.now },
     ghost alike: { length regs.now ≡ length st.now },
 }
@@ -49,7 +53,7 @@ fn read_ok(st: &[u64], r: Option<Reg>, p: usize) -> bool
 
 impl Kept<'_> {
     // Rule 3: each register that position p reads has its writer in the set, or is written by no kept position after p.
-    pub fn rule3(&self, code: &Code, f: Fact, p: usize) -> bool
+    pub(crate) fn rule3(&self, code: &Code, f: Fact, p: usize) -> bool
         requires { Readable code.now.recs.now code.now.ops.now (length self.now.st.now) f × (p < 800) }
         ensures { result ≡ all (read_test self.now.st.now p) (reads code.now.ops.now (inst code.now.recs.now f.rec)) }
     {
@@ -62,24 +66,24 @@ impl Kept<'_> {
     }
 
     // Rule 4: no kept position after p may suspend.
-    pub fn rule4(&self, p: usize) -> bool
+    pub(crate) fn rule4(&self, p: usize) -> bool
         requires { p < 800 }
         ensures { result ≡ leb self.now.fences.sus (p + 1) }
     {
         self.fences.sus <= p as u32 + 1
     }
 
-    // Rule 5 for the origin of number o.
+    // Rule 5 for the origin of number o. It asks of writes only from Frame on.
     fn org_ok(&self, p: usize, o: u32) -> bool
         requires { (o < 2005) × (p < 800) }
-        ensures { result ≡ org_test self.now.lasts.now self.now.fences.bar p o }
+        ensures { result ≡ org_test self.now.lasts.now.writes self.now.fences.bar p o }
     {
         let e = p as u32 + 1;
         let k = o as usize + 1;
-        ((o == 1) | (3 <= o))
-            & ((self.fences.bar <= e) | (o == 1))
-            & (self.lasts[1] % MEMBER <= e)
-            & ((o <= 2) | (self.lasts[k] % MEMBER <= e))
+        ((o == RO) | (FRAME <= o))
+            & ((self.fences.bar <= e) | (o == RO))
+            & (self.lasts.last_write(ANY) <= e)
+            & ((o <= 2) | (self.lasts.last_write(k) <= e))
     }
 
     // Where register r points that is read at this place.
@@ -93,18 +97,18 @@ impl Kept<'_> {
             return (v / ORIGIN) as u32;
         }
         if self.regs[k] % 2 == 1 {
-            return 1;
+            return RO;
         }
         if self.regs[k] / 2 % 2 == 1 {
-            return 3;
+            return FRAME;
         }
-        0
+        UNKNOWN
     }
 
     // Rule 5 for a Cat's piece, if its bit says that it is an address.
     fn piece_ok(&self, p: usize, sc: u32, r: Reg) -> bool
         requires { (r.0 < length self.now.st.now) × (p < 800) }
-        ensures { result ≡ (not (eqb (sc % 2) 0) || piece_test self.now.regs.now self.now.st.now self.now.lasts.now self.now.fences.bar p r.0) }
+        ensures { result ≡ (not (eqb (sc % 2) 0) || piece_test self.now.regs.now self.now.st.now self.now.lasts.now.writes self.now.fences.bar p r.0) }
     {
         if sc % 2 != 0 {
             return true;
@@ -115,7 +119,7 @@ impl Kept<'_> {
     // Rule 5 for all of a Cat's pieces, the registers xs.
     fn pieces_ok(&self, xs: &[u32], p: usize, scalars: u32) -> bool
         requires { ((k : ℕ) → k < length xs.now → get_or xs.now k 0 < length self.now.st.now) × (p < 800) }
-        ensures { result ≡ all (piece_test self.now.regs.now self.now.st.now self.now.lasts.now self.now.fences.bar p) (picked scalars xs.now) }
+        ensures { result ≡ all (piece_test self.now.regs.now self.now.st.now self.now.lasts.now.writes self.now.fences.bar p) (picked scalars xs.now) }
     {
         let mut rest = xs;
         let mut sc = scalars;
@@ -135,7 +139,7 @@ impl Kept<'_> {
     // Rule 5 for all that position p reads.
     fn froms_ok(&self, code: &Code, f: Fact, p: usize) -> bool
         requires { Good code.now.recs.now code.now.ops.now (length self.now.st.now) f.rec × (p < 800) × ((f.from ≤ 2004) ⊎ (f.from ≡ 4294967295)) }
-        ensures { result ≡ from_test self.now.regs.now code.now.ops.now (inst code.now.recs.now f.rec) self.now.st.now self.now.lasts.now self.now.fences.bar f.from p }
+        ensures { result ≡ from_test self.now.regs.now code.now.ops.now (inst code.now.recs.now f.rec) self.now.st.now self.now.lasts.now.writes self.now.fences.bar f.from p }
     {
         let x = f.from;
         if x == 0 {
@@ -158,9 +162,9 @@ impl Kept<'_> {
 
     // Rule 5: after p no kept barrier if p creates, writes memory, or reads other than Ro or Heap; no kept write that may alias what p
     // reads; and p's reads are Ro, Frame, Img or Temp.
-    pub fn rule5(&self, code: &Code, f: Fact, p: usize) -> bool
+    pub(crate) fn rule5(&self, code: &Code, f: Fact, p: usize) -> bool
         requires { Good code.now.recs.now code.now.ops.now (length self.now.st.now) f.rec × (p < 800) × ((f.from ≤ 2004) ⊎ (f.from ≡ 4294967295)) }
-        ensures { result ≡ memory_test code.now.recs.now code.now.ops.now self.now.regs.now self.now.st.now self.now.lasts.now f self.now.fences.bar p }
+        ensures { result ≡ memory_test code.now.recs.now code.now.ops.now self.now.regs.now self.now.st.now self.now.lasts.now.writes f self.now.fences.bar p }
     {
         if !self.still(f, p) {
             return false;
@@ -169,10 +173,10 @@ impl Kept<'_> {
     }
 
     // Rule 6: the memory that the position of fact f writes is Temp of a member.
-    pub fn rule6(&self, f: Fact) -> bool
+    pub(crate) fn rule6(&self, f: Fact) -> bool
         requires { f.wrote ≤ 2004 }
-        ensures { result ≡ own_test self.now.lasts.now f.wrote }
+        ensures { result ≡ own_test self.now.lasts.now.writes f.wrote }
     {
-        (f.wrote == 0) | (MEMBER <= self.lasts[f.wrote as usize])
+        (f.wrote == 0) | self.lasts.is_placed(f.wrote as usize)
     }
 }

@@ -7,16 +7,16 @@ ghost use Rattle.summary.specs.Passes.{Awaited, Backed, Written, Readable, Small
 use crate::backward::kept_at;
 use crate::rules::def_free;
 use facts::Fact;
-use summary::notes::note_at;
+use summary::notes::Lasts;
 use summary::stamps::{Stamp, put_def, put_uses};
 
 // The step at position q, of fact f, whatever the records of which f has all.
-pub fn back_known(f: Fact, st: &mut [u64], lasts: &mut [u32; 2008], q: usize) -> bool
+pub(crate) fn back_known(f: Fact, st: &mut [u64], lasts: &mut Lasts, q: usize) -> bool
     requires { (length st.old ≤ 65536) × Small f × (q < 800) }
     ensures { (recs ops : List ℕ) → Written recs (length st.old) f.rec f.def f.more → Readable recs ops (length st.old) f → f.more ≡ false → Backed recs ops f q st.old lasts.old st.new lasts.new result }
 {
     let stays = f.member && def_free(f, st);
-    note_at(f, stays, lasts, q);
+    lasts.note(f, stays, q);
     put_def(f, st, Stamp::kept(kept_at(stays, q)));
     if !stays {
         put_uses(f, st, Stamp::awaited());

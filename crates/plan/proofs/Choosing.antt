@@ -1,4 +1,5 @@
 -- The loop over sweeps: the marks to begin with, and what is left of them, until the greatest legal set is left. Assumes nothing.
+use Rattle.summary.specs.declared.notes.Lasts.{Lasts}
 use Rattle.std.specs.Prelude.{Option, Some, None}
 use mathlib.Core.Path.{◌≡◌, refl, sym, ◌∙◌, subst}
 use mathlib.Core.Bool.{Bool, true, false, not, ◌&&◌}
@@ -25,7 +26,7 @@ use Rattle.plan.specs.Cycle.{went, go_on}
 use Rattle.legality.proofs.Chosen.{chosen}
 
 -- after the start, before a sweep of phase p: S are the marks to begin with; bits has the row of registers needed elsewhere
-pub record Choosing (recs ops regs : List ℕ) (w : List Fact) (bits : List ℕ) (c : Cycle) (p : Phase) (work ls : List ℕ) (fs : List Fact) : Type 0 where
+pub record Choosing (recs ops regs : List ℕ) (w : List Fact) (bits : List ℕ) (c : Cycle) (p : Phase) (work : List ℕ) (ls : Lasts) (fs : List Fact) : Type 0 where
   pub S : List ℕ
   pub begun : (q : ℕ) → in_set S q ≡ begins (view recs ops w regs) c.span.n (λ z. eqb (fact_in w z).class 1) c.span.m (λ r. is_in bits (64 * c.span.o + r)) q
   pub size : length S ≡ c.span.n
@@ -33,7 +34,7 @@ pub record Choosing (recs ops regs : List ℕ) (w : List Fact) (bits : List ℕ)
   pub sum : is_forth p ≡ true → Summed recs w c.span.n 0 (part c.span.s (length regs) work) ls (marks c.span.n fs)
 
 -- where the sweeps stand, by which comes next: the start, one that drops members, or none
-abbrev pub Standing : (recs ops regs : List ℕ) (w : List Fact) (bits : List ℕ) (c : Cycle) (work ls : List ℕ) (fs : List Fact) → Option Phase → Type 0
+abbrev pub Standing : (recs ops regs : List ℕ) (w : List Fact) (bits : List ℕ) (c : Cycle) (work : List ℕ) (ls : Lasts) (fs : List Fact) → Option Phase → Type 0
 Standing recs ops regs w bits c work ls fs (Some Start) = work ≡ bits
 Standing recs ops regs w bits c work ls fs (Some Back) = Choosing recs ops regs w bits c Back work ls fs
 Standing recs ops regs w bits c work ls fs (Some Forth) = Choosing recs ops regs w bits c Forth work ls fs
@@ -41,7 +42,7 @@ Standing recs ops regs w bits c work ls fs None = Greatest recs ops w regs bits 
 
 module _ {recs ops : List ℕ} (regs : List ℕ) {w : List Fact} (bits : List ℕ) (c : Cycle) (safe : Safe recs ops w c.span.n (length regs)) (h : c.span.m ≤ c.span.n) where
   -- one of phase p comes next, unless nothing was dropped twice, or too few are left
-  standing : (work ls : List ℕ) (fs : List Fact) {S : List ℕ} {z : Bool} (p : Phase) → is_start p ≡ false
+  standing : (work : List ℕ) (ls : Lasts) (fs : List Fact) {S : List ℕ} {z : Bool} (p : Phase) → is_start p ≡ false
       → ((q : ℕ) → in_set S q ≡ begins (view recs ops w regs) c.span.n (λ y. eqb (fact_in w y).class 1) c.span.m (λ r. is_in bits (64 * c.span.o + r)) q) → length S ≡ c.span.n
       → Settling (view recs ops w regs) c.span.n c.span.m S (marks c.span.n fs) (is_forth p) c.quiet z c.left
       → (is_forth p ≡ true → Summed recs w c.span.n 0 (part c.span.s (length regs) work) ls (marks c.span.n fs))
@@ -60,13 +61,13 @@ module _ {recs ops : List ℕ} (regs : List ℕ) {w : List Fact} (bits : List �
 
 module _ {recs ops : List ℕ} (regs : List ℕ) {w : List Fact} (bits : List ℕ) (c : Cycle) {count : ℕ} (safe : Safe recs ops w c.span.n (length regs)) (h : c.span.m ≤ c.span.n) where
   -- the start
-  pub choosing_first : (work ls : List ℕ) (fs : List Fact) → count ≡ members (marks c.span.n fs) → length (marks c.span.n fs) ≡ c.span.n
+  pub choosing_first : (work : List ℕ) (ls : Lasts) (fs : List Fact) → count ≡ members (marks c.span.n fs) → length (marks c.span.n fs) ≡ c.span.n
       → ((p : ℕ) → in_set (marks c.span.n fs) p ≡ begins (view recs ops w regs) c.span.n (λ q. eqb (fact_in w q).class 1) c.span.m (λ r. is_in bits (64 * c.span.o + r)) p)
       → Standing recs ops regs w bits (go_on c Start count) work ls fs (go_on c Start count).next
   choosing_first work ls fs k l b = standing regs bits (go_on c Start count) safe h work ls fs Back refl b l (settling_start (view recs ops w regs) c.span.n c.span.m k) (λ u. clash u refl)
 
   -- a sweep of phase p, after which q may come
-  pub choosing_more : {work ls : List ℕ} {fs : List Fact} (work' ls' : List ℕ) (fs' : List Fact) (p q : Phase) → is_start q ≡ false → is_forth q ≡ not (is_forth p) → Choosing recs ops regs w bits c p work ls fs
+  pub choosing_more : {work : List ℕ} {ls : Lasts} {fs : List Fact} (work' : List ℕ) (ls' : Lasts) (fs' : List Fact) (p q : Phase) → is_start q ≡ false → is_forth q ≡ not (is_forth p) → Choosing recs ops regs w bits c p work ls fs
       → Passed (pass_ok (view recs ops w regs) c.span.n (is_forth p)) 0 c.span.m (marks c.span.n fs) (marks c.span.n fs') count
       → (is_forth p ≡ false → Summed recs w c.span.n 0 (part c.span.s (length regs) work') ls' (marks c.span.n fs'))
       → Standing recs ops regs w bits (went c count q) work' ls' fs' (went c count q).next

@@ -1,12 +1,13 @@
 -- The invariant of the loop over sweeps (`settle::settle`), turn by turn, and what it says at the end. Assumes nothing.
+use Rattle.summary.specs.declared.notes.Lasts.{Lasts}
 use Rattle.std.specs.Prelude.{Option, Some, None}
 use mathlib.Core.Path.{◌≡◌, refl, sym, ap, ap₂, ◌∙◌, subst}
 use mathlib.Core.Bool.{Bool, true, false, not, ◌&&◌, cond}
 use mathlib.Core.List.{List}
-use Prim.Native.Nat.{ℕ, ◌+◌, ◌*◌, ◌-◌, ◌%◌, ◌≤◌, ◌<◌}
+use Prim.Native.Nat.{ℕ, ◌+◌, ◌*◌, ◌-◌, ◌≤◌, ◌<◌}
 use native.Mathlib.Omega.{arith}
 use lib.Dec.{eqb, leb}
-use lib.ListN.{get_or, length}
+use lib.ListN.{length}
 use Rattle.words.specs.Lists.{member, count}
 use Rattle.words.specs.Bits.{is_in}
 use Rattle.words.proofs.Bools.{clash}
@@ -32,7 +33,7 @@ use Rattle.plan.proofs.Sweeping.{swept_bare, swept_long}
 use Rattle.plan.proofs.Turning.{marks_long, started, pass_back, pass_forth, around_on, swept_around, summed_near}
 
 -- before a turn: c and the slices came from z and those at the entry
-pub record Looping (recs ops regs : List ℕ) (z : Cycle) (work₀ : List ℕ) (fs₀ : List Fact) (c : Cycle) (work ls : List ℕ) (fs : List Fact) : Type 0 where
+pub record Looping (recs ops regs : List ℕ) (z : Cycle) (work₀ : List ℕ) (fs₀ : List Fact) (c : Cycle) (work : List ℕ) (ls : Lasts) (fs : List Fact) : Type 0 where
   pub span : c.span ≡ z.span
   pub least : c.least ≡ z.least
   pub bare_same : bare fs ≡ bare fs₀
@@ -40,7 +41,7 @@ pub record Looping (recs ops regs : List ℕ) (z : Cycle) (work₀ : List ℕ) (
   pub around : Around z.span.s (length regs) work₀ work
   pub stands : Standing recs ops regs (bare fs₀) work₀ c work ls fs c.next
 
-pub looping_none : {recs ops regs work ls : List ℕ} {fs : List Fact} {z : Cycle} → Choosable recs ops regs work fs z → Looping recs ops regs z work fs z work ls fs
+pub looping_none : {recs ops regs work : List ℕ} {ls : Lasts} {fs : List Fact} {z : Cycle} → Choosable recs ops regs work fs z → Looping recs ops regs z work fs z work ls fs
 looping_none {recs} {ops} {regs} {work} {ls} {fs} {z} h =
     let e : work ≡ work = refl in
     record {
@@ -77,13 +78,6 @@ first_less n S false h = omega arith
 
 -- ---- a turn
 
--- the sweep of phase p ran, and counted k
-record Ran (recs ops regs : List ℕ) (s : Span) (p : Phase) (work ls : List ℕ) (fs : List Fact) (work'' ls'' : List ℕ) (fs'' : List Fact) (k : ℕ) : Type 0 where
-  work' : List ℕ
-  ls' : List ℕ
-  ready : Readied (length regs) s p work ls work' ls'
-  swept : Swept recs ops regs (sweep_of s p ls) work' ls' fs (sweep_of s p ls).k work'' ls'' fs'' k
-
 span_on : (c : Cycle) (p : Phase) (k : ℕ) → (go_on c p k).span ≡ c.span
 span_on c Start k = refl
 span_on c Back k = refl
@@ -94,7 +88,7 @@ least_on c Start k = refl
 least_on c Back k = refl
 least_on c Forth k = refl
 
-module _ {recs ops regs work₀ work ls : List ℕ} {fs₀ fs : List Fact} {z c : Cycle} (h : Choosable recs ops regs work₀ fs₀ z) (i : Looping recs ops regs z work₀ fs₀ c work ls fs) where
+module _ {recs ops regs work₀ work : List ℕ} {ls : Lasts} {fs₀ fs : List Fact} {z c : Cycle} (h : Choosable recs ops regs work₀ fs₀ z) (i : Looping recs ops regs z work₀ fs₀ c work ls fs) where
   abbrev At : Phase → Type 0
   At p = Standing recs ops regs (bare fs₀) work₀ c work ls fs (Some p)
 
@@ -121,77 +115,75 @@ module _ {recs ops regs work₀ work ls : List ℕ} {fs₀ fs : List Fact} {z c 
   left_is Back e t = t.settling.count
   left_is Forth e t = t.settling.count
 
-  may : {work' ls' : List ℕ} (p : Phase) → At p → Readied (length regs) c.span p work ls work' ls' → Sweepable recs ops regs work' fs (sweep_of c.span p ls)
-  may {work'} p t r =
-      let x = r.around.size in
-      let y = i.around.size in
-      let eo = ap (λ (s : Span). s.o) i.span in
-      let row = h.row in
-      let room = ready_may in
-      record {
-        safe = subst (λ (w : List Fact). Safe recs ops w c.span.n (length regs)) (sym i.bare_same) safe;
-        brief = subst (λ (w : List Fact). Brief recs ops w c.span.n) (sym i.bare_same) (subst (λ (s : Span). Brief recs ops (bare fs₀) s.n) (sym i.span) h.brief);
-        near = λ u v. subst (λ (q : List ℕ). Near (part c.span.s (length regs) q)) (sym (r.ahead u v).0) (near p t v);
-        row = omega arith;
-        room = omega arith;
-        long = long;
-        turns = turns (is_forth p);
-      }
-    where
-      turns : (b : Bool) → cond b c.span.m c.span.n ≤ c.span.n
-      turns true = in_x
-      turns false = omega arith
+  module _ {work' : List ℕ} {ls' : Lasts} where
+    may : (p : Phase) → At p → Readied (length regs) c.span p work ls work' ls' → Sweepable recs ops regs work' fs (sweep_of c.span p ls)
+    may p t r =
+        let x = r.around.size in
+        let y = i.around.size in
+        let eo = ap (λ (s : Span). s.o) i.span in
+        let row = h.row in
+        let room = ready_may in
+        record {
+          safe = subst (λ (w : List Fact). Safe recs ops w c.span.n (length regs)) (sym i.bare_same) safe;
+          brief = subst (λ (w : List Fact). Brief recs ops w c.span.n) (sym i.bare_same) (subst (λ (s : Span). Brief recs ops (bare fs₀) s.n) (sym i.span) h.brief);
+          near = λ u v. subst (λ (q : List ℕ). Near (part c.span.s (length regs) q)) (sym (r.ahead u v).0) (near p t v);
+          row = omega arith;
+          room = omega arith;
+          long = long;
+          turns = turns (is_forth p);
+        }
+      where
+        turns : (b : Bool) → cond b c.span.m c.span.n ≤ c.span.n
+        turns true = in_x
+        turns false = omega arith
 
-  module _ {work'' ls'' : List ℕ} {fs'' : List Fact} {k : ℕ} where
-    -- what was dropped
-    passed : (p : Phase) → is_start p ≡ false → At p → Ran recs ops regs c.span p work ls fs work'' ls'' fs'' k
-        → Passed (pass_ok (view recs ops (bare fs₀) regs) c.span.n (is_forth p)) 0 c.span.m (marks c.span.n fs) (marks c.span.n fs'') k
-        × (is_forth p ≡ false → Summed recs (bare fs₀) c.span.n 0 (part c.span.s (length regs) work'') ls'' (marks c.span.n fs''))
-    passed Start e t x = clash refl e
-    passed Back e t x = let y = x.ready.back refl refl in let d = pass_back (may Back t x.ready) i.bare_same in_x refl refl y.0 y.1 x.swept in (d.0, λ u. d.1)
-    passed Forth e t x =
-        let y = x.ready.ahead refl refl in (
-          pass_forth (may Forth t x.ready) i.bare_same in_x refl refl
-              (subst (λ (q : List ℕ). Summed recs (bare fs₀) c.span.n 0 (part c.span.s (length regs) q) x.ls' (marks c.span.n fs)) (sym y.0)
-              (subst (λ (q : List ℕ). Summed recs (bare fs₀) c.span.n 0 (part c.span.s (length regs) work) q (marks c.span.n fs)) (sym y.1) (t.sum refl)))
-              (ap (λ (q : List ℕ). get_or q 2007 0 % 1024) (sym y.1)) (ap (λ (q : List ℕ). get_or q 2006 0 % 1024) (sym y.1)) refl x.swept,
-          λ u. clash refl u,
-        )
+    module _ {work'' : List ℕ} {ls'' : Lasts} {fs'' : List Fact} {k : ℕ} where
+      -- what was dropped
+      passed : (p : Phase) → is_start p ≡ false → At p → Readied (length regs) c.span p work ls work' ls' → Swept recs ops regs (sweep_of c.span p ls) work' ls' fs (sweep_of c.span p ls).k work'' ls'' fs'' k
+          → Passed (pass_ok (view recs ops (bare fs₀) regs) c.span.n (is_forth p)) 0 c.span.m (marks c.span.n fs) (marks c.span.n fs'') k
+          × (is_forth p ≡ false → Summed recs (bare fs₀) c.span.n 0 (part c.span.s (length regs) work'') ls'' (marks c.span.n fs''))
+      passed Start e t r s = clash refl e
+      passed Back e t r s = let y = r.back refl refl in let d = pass_back (may Back t r) i.bare_same in_x refl refl y.0 y.1 s in (d.0, λ u. d.1)
+      passed Forth e t r s =
+          let y = r.ahead refl refl in (
+            pass_forth (may Forth t r) i.bare_same in_x refl refl
+                (subst (λ (q : List ℕ). Summed recs (bare fs₀) c.span.n 0 (part c.span.s (length regs) q) ls' (marks c.span.n fs)) (sym y.0)
+                (subst (λ (q : Lasts). Summed recs (bare fs₀) c.span.n 0 (part c.span.s (length regs) work) q (marks c.span.n fs)) (sym y.1) (t.sum refl)))
+                (ap (λ (q : Lasts). q.suspension) (sym y.1)) (ap (λ (q : Lasts). q.barrier) (sym y.1)) refl s,
+            λ u. clash refl u,
+          )
 
-    on : (p : Phase) → At p → Ran recs ops regs c.span p work ls fs work'' ls'' fs'' k
-        → Standing recs ops regs (bare fs₀) work₀ (go_on c p k) work'' ls'' fs'' (go_on c p k).next
-    on Start t x =
-        let d = subst (λ (w : List Fact). Ended recs w c.span.n regs) (sym i.bare_same) (subst (λ (s : Span). Ended recs (bare fs₀) s.n regs) (sym i.span) h.ended) in
-        let q = started (may Start t x.ready) d refl refl in_x x.swept in
-        choosing_first regs work₀ c safe in_x work'' ls'' fs'' q.1 (marks_long c.span.n fs'' (let l = swept_long x.swept in let m = long in omega arith))
-        (λ p. q.2 p ∙ ap₂ (λ (w : List Fact) (bits : List ℕ). begins (view recs ops w regs) c.span.n (λ y. eqb (fact_in w y).class 1) c.span.m (λ r₁. is_in bits (64 * c.span.o + r₁)) p) i.bare_same ((x.ready.kept refl).0 ∙ t))
-    on Back t x = let d = passed Back refl t x in choosing_more regs work₀ c safe in_x work'' ls'' fs'' Back Forth refl refl t d.0 d.1
-    on Forth t x = let d = passed Forth refl t x in choosing_more regs work₀ c safe in_x work'' ls'' fs'' Forth Back refl refl t d.0 d.1
+      on : (p : Phase) → At p → Readied (length regs) c.span p work ls work' ls' → Swept recs ops regs (sweep_of c.span p ls) work' ls' fs (sweep_of c.span p ls).k work'' ls'' fs'' k
+          → Standing recs ops regs (bare fs₀) work₀ (go_on c p k) work'' ls'' fs'' (go_on c p k).next
+      on Start t r s =
+          let d = subst (λ (w : List Fact). Ended recs w c.span.n regs) (sym i.bare_same) (subst (λ (s : Span). Ended recs (bare fs₀) s.n regs) (sym i.span) h.ended) in
+          let q = started (may Start t r) d refl refl in_x s in
+          choosing_first regs work₀ c safe in_x work'' ls'' fs'' q.1 (marks_long c.span.n fs'' (let l = swept_long s in let m = long in omega arith))
+          (λ p. q.2 p ∙ ap₂ (λ (w : List Fact) (bits : List ℕ). begins (view recs ops w regs) c.span.n (λ y. eqb (fact_in w y).class 1) c.span.m (λ r₁. is_in bits (64 * c.span.o + r₁)) p) i.bare_same ((r.kept refl).0 ∙ t))
+      on Back t r s = let d = passed Back refl t r s in choosing_more regs work₀ c safe in_x work'' ls'' fs'' Back Forth refl refl t d.0 d.1
+      on Forth t r s = let d = passed Forth refl t r s in choosing_more regs work₀ c safe in_x work'' ls'' fs'' Forth Back refl refl t d.0 d.1
 
-    less : (p : Phase) → At p → Ran recs ops regs c.span p work ls fs work'' ls'' fs'' k
-        → to_come (go_on c p k) fs'' < to_come_of c.span.n (marks c.span.n fs) c.quiet (Some p)
-    less Start t x =
-        let e = marks_long c.span.n fs'' (let l = swept_long x.swept in let m = long in omega arith) in
-        let l = members_low (marks c.span.n fs'') in
-        back_less c.span.n (marks c.span.n fs'') false (leb c.least k) (first_less c.span.n (marks c.span.n fs'') (leb c.least k) (omega arith))
-    less Back t x = forth_less c.span.n (marks c.span.n fs'') (eqb k 0) (not (c.quiet && eqb k 0) && leb c.least (c.left - k)) (to_go_less (marks c.span.n fs) (marks c.span.n fs'') c.quiet (leb c.least (c.left - k)) k (passed Back refl t x).0.count)
-    less Forth t x = back_less c.span.n (marks c.span.n fs'') (eqb k 0) (not (c.quiet && eqb k 0) && leb c.least (c.left - k)) (to_go_less (marks c.span.n fs) (marks c.span.n fs'') c.quiet (leb c.least (c.left - k)) k (passed Forth refl t x).0.count)
+      less : (p : Phase) → At p → Readied (length regs) c.span p work ls work' ls' → Swept recs ops regs (sweep_of c.span p ls) work' ls' fs (sweep_of c.span p ls).k work'' ls'' fs'' k
+          → to_come (go_on c p k) fs'' < to_come_of c.span.n (marks c.span.n fs) c.quiet (Some p)
+      less Start t r s =
+          let e = marks_long c.span.n fs'' (let l = swept_long s in let m = long in omega arith) in
+          let l = members_low (marks c.span.n fs'') in
+          back_less c.span.n (marks c.span.n fs'') false (leb c.least k) (first_less c.span.n (marks c.span.n fs'') (leb c.least k) (omega arith))
+      less Back t r s = forth_less c.span.n (marks c.span.n fs'') (eqb k 0) (not (c.quiet && eqb k 0) && leb c.least (c.left - k)) (to_go_less (marks c.span.n fs) (marks c.span.n fs'') c.quiet (leb c.least (c.left - k)) k (passed Back refl t r s).0.count)
+      less Forth t r s = back_less c.span.n (marks c.span.n fs'') (eqb k 0) (not (c.quiet && eqb k 0) && leb c.least (c.left - k)) (to_go_less (marks c.span.n fs) (marks c.span.n fs'') c.quiet (leb c.least (c.left - k)) k (passed Forth refl t r s).0.count)
 
   module _ {p : Phase} (e : c.next ≡ Some p) where
     at : At p
     at = subst (Standing recs ops regs (bare fs₀) work₀ c work ls fs) e i.stands
 
-    module _ {work' ls' : List ℕ} (r : Readied (length regs) c.span p work ls work' ls') where
+    module _ {work' : List ℕ} {ls' : Lasts} (r : Readied (length regs) c.span p work ls work' ls') where
       -- the sweep may be made
       pub sweep_may : Sweepable recs ops regs work' fs (sweep_of c.span p ls)
       sweep_may = may p at r
 
-      module _ {work'' ls'' : List ℕ} {fs'' : List Fact} {k : ℕ} (s : Swept recs ops regs (sweep_of c.span p ls) work' ls' fs (sweep_of c.span p ls).k work'' ls'' fs'' k) where
-        ran : Ran recs ops regs c.span p work ls fs work'' ls'' fs'' k
-        ran = record { work' = work'; ls' = ls'; ready = r; swept = s }
-
+      module _ {work'' : List ℕ} {ls'' : Lasts} {fs'' : List Fact} {k : ℕ} (s : Swept recs ops regs (sweep_of c.span p ls) work' ls' fs (sweep_of c.span p ls).k work'' ls'' fs'' k) where
         pub go_on_may : is_start p ≡ false → k ≤ c.left
-        go_on_may u = let a = (passed p u at ran).0.count in let b = left_is p u at in omega arith
+        go_on_may u = let a = (passed p u at r s).0.count in let b = left_is p u at in omega arith
 
         pub looping_more : {t : Cycle} → t ≡ go_on c p k → Looping recs ops regs z work₀ fs₀ t work'' ls'' fs''
         looping_more {t} et = subst (λ (t : Cycle). Looping recs ops regs z work₀ fs₀ t work'' ls'' fs'') (sym et) (record {
@@ -200,14 +192,14 @@ module _ {recs ops regs work₀ work ls : List ℕ} {fs₀ fs : List Fact} {z c 
           bare_same = swept_bare s ∙ i.bare_same;
           long = swept_long s ∙ i.long;
           around = around_on i.around (subst (λ (q : Span). Around q.s (length regs) work work'') i.span (around_on r.around (swept_around s)));
-          stands = on p at ran;
+          stands = on p at r s;
         })
 
         -- fewer sweeps are to come
         pub looping_less : {t : Cycle} → t ≡ go_on c p k → to_come t fs'' < to_come c fs
         looping_less {t} et =
             subst (λ (t : Cycle). to_come t fs'' < to_come c fs) (sym et)
-            (subst (λ (o : Option Phase). to_come (go_on c p k) fs'' < to_come_of c.span.n (marks c.span.n fs) c.quiet o) (sym e) (less p at ran))
+            (subst (λ (o : Option Phase). to_come (go_on c p k) fs'' < to_come_of c.span.n (marks c.span.n fs) c.quiet o) (sym e) (less p at r s))
 
   -- no sweep is to come
   pub looping_end : c.next ≡ None → Chose recs ops regs z work₀ fs₀ work fs c.left

@@ -5,6 +5,7 @@ use mathlib.Core.List.{List}
 use Prim.Native.Nat.{ℕ, ◌+◌, ◌*◌, ◌-◌, ◌/◌, ◌%◌, ◌≤◌, ◌<◌, max}
 use native.Mathlib.Omega.{arith}
 use lib.ListN.{get_or, length, length-set}
+use Rattle.summary.specs.declared.notes.Lasts.{Lasts}
 use Rattle.words.specs.Lists.{hit, mem}
 use Rattle.words.proofs.Bools.{hit_le}
 use Rattle.facts.specs.declared.Fact.{Fact}
@@ -38,33 +39,33 @@ near_next {f} {l} {st} {st'} b m k d = record { org = λ r h. let u = subst (λ 
     go true x h = let o = m.org in let z = hit_le b in omega arith
     go false x h = h
 
-module _ {recs ops regs work ls : List ℕ} {fs : List Fact} {g : Sweep} where
-  pub swept_bare : {i : ℕ} {work' ls' : List ℕ} {fs' : List Fact} {count : ℕ} → Swept recs ops regs g work ls fs i work' ls' fs' count → bare fs' ≡ bare fs
+module _ {recs ops regs work : List ℕ} {ls : Lasts} {fs : List Fact} {g : Sweep} where
+  pub swept_bare : {i : ℕ} {work' : List ℕ} {ls' : Lasts} {fs' : List Fact} {count : ℕ} → Swept recs ops regs g work ls fs i work' ls' fs' count → bare fs' ≡ bare fs
   swept_bare none = refl
   swept_bare (more i work' ls' work'' ls'' fs' count keep s v) = bare_marked fs' (place g i) keep ∙ swept_bare s
 
-  pub swept_long : {i : ℕ} {work' ls' : List ℕ} {fs' : List Fact} {count : ℕ} → Swept recs ops regs g work ls fs i work' ls' fs' count → length fs' ≡ length fs
+  pub swept_long : {i : ℕ} {work' : List ℕ} {ls' : Lasts} {fs' : List Fact} {count : ℕ} → Swept recs ops regs g work ls fs i work' ls' fs' count → length fs' ≡ length fs
   swept_long none = refl
   swept_long (more i work' ls' work'' ls'' fs' count keep s v) = length-set fs' (place g i) (marked (get_or fs' (place g i) no_fact) keep) ∙ swept_long s
 
-  pub swept_size : {i : ℕ} {work' ls' : List ℕ} {fs' : List Fact} {count : ℕ} → Swept recs ops regs g work ls fs i work' ls' fs' count → length work' ≡ length work
+  pub swept_size : {i : ℕ} {work' : List ℕ} {ls' : Lasts} {fs' : List Fact} {count : ℕ} → Swept recs ops regs g work ls fs i work' ls' fs' count → length work' ≡ length work
   swept_size none = refl
   swept_size (more i work' ls' work'' ls'' fs' count keep s v) = v.size ∙ swept_size s
 
-  pub swept_count : {i : ℕ} {work' ls' : List ℕ} {fs' : List Fact} {count : ℕ} → Swept recs ops regs g work ls fs i work' ls' fs' count → count ≤ i
+  pub swept_count : {i : ℕ} {work' : List ℕ} {ls' : Lasts} {fs' : List Fact} {count : ℕ} → Swept recs ops regs g work ls fs i work' ls' fs' count → count ≤ i
   swept_count none = omega arith
   swept_count (more i work' ls' work'' ls'' fs' count keep s v) = let x = swept_count s in let z = hit_le (counts g.phase (get_or fs' (place g i) no_fact) keep) in omega arith
 
   module _ (r : Sweepable recs ops regs work fs g) where
-    says : {i : ℕ} {work' ls' : List ℕ} {fs' : List Fact} {count : ℕ} → Swept recs ops regs g work ls fs i work' ls' fs' count → (p : ℕ) → Shows (bare fs) p (get_or fs' p no_fact)
+    says : {i : ℕ} {work' : List ℕ} {ls' : Lasts} {fs' : List Fact} {count : ℕ} → Swept recs ops regs g work ls fs i work' ls' fs' count → (p : ℕ) → Shows (bare fs) p (get_or fs' p no_fact)
     says {fs' = fs'} s p = subst (λ (w : List Fact). Shows w p (get_or fs' p no_fact)) (swept_bare s) (shown fs' p)
 
-    swept_near : {i : ℕ} {work' ls' : List ℕ} {fs' : List Fact} {count : ℕ} → i ≤ g.k → (is_start g.phase) ≡ false → (is_forth g.phase) ≡ true → Swept recs ops regs g work ls fs i work' ls' fs' count → Near (part g.span.s (length regs) work')
+    swept_near : {i : ℕ} {work' : List ℕ} {ls' : Lasts} {fs' : List Fact} {count : ℕ} → i ≤ g.k → (is_start g.phase) ≡ false → (is_forth g.phase) ≡ true → Swept recs ops regs g work ls fs i work' ls' fs' count → Near (part g.span.s (length regs) work')
     swept_near h e u none = r.near e u
     swept_near h e u (more i work' ls' work'' ls'' fs' count keep s v) =
         let t = r.turns in near_next keep (small r.safe (place_low g i (omega arith)) (says s (place g i))) (swept_near (omega arith) e u s) (v.forwarded e u).stamped
 
-    pub visitable : {i : ℕ} {work' ls' : List ℕ} {fs' : List Fact} {count : ℕ} → i < g.k → Swept recs ops regs g work ls fs i work' ls' fs' count → Visitable recs ops regs work' g (get_or fs' (place g i) no_fact) (place g i)
+    pub visitable : {i : ℕ} {work' : List ℕ} {ls' : Lasts} {fs' : List Fact} {count : ℕ} → i < g.k → Swept recs ops regs g work ls fs i work' ls' fs' count → Visitable recs ops regs work' g (get_or fs' (place g i) no_fact) (place g i)
     visitable {i} {fs' = fs'} h s =
         let t = r.turns in
         let p = place_low g i (omega arith) in

@@ -4,12 +4,13 @@ use mathlib.Core.Path.{◌≡◌, refl, sym, ap, ◌∙◌, subst}
 use mathlib.Core.Bool.{Bool, true, false, not, ◌&&◌}
 use mathlib.Core.Logic.{◌⊎◌, inl, inr, ⊎_elim}
 use mathlib.Core.List.{List, [], ◌∷◌}
-use Prim.Native.Nat.{ℕ, zero, suc, ◌+◌, ◌*◌, ◌-◌, ◌%◌, ◌≤◌, ◌<◌}
+use Prim.Native.Nat.{ℕ, zero, suc, ◌+◌, ◌*◌, ◌-◌, ◌≤◌, ◌<◌}
 use native.Mathlib.Omega.{arith}
 use borrow.Author.Tests.{le-ltb}
 use lib.Dec.{T, eqb, ltb}
 use lib.ListN.{get_or, length, set, take, drop, drop_of_length-le, replicate, length-set, length-map}
 use lib.Seq.{get_or-take, take-set-lt, length-take-le, drop-cons, drop-set-lt, get_or-set_same, get_or-set_other}
+use Rattle.summary.specs.declared.notes.Lasts.{Lasts}
 use Rattle.words.specs.Lists.{hit}
 use Rattle.words.specs.Bits.{is_in}
 use Rattle.words.specs.Last.{last_below}
@@ -22,7 +23,7 @@ use Rattle.legalset.specs.Marks.{in_set, members, own, Inside, Passed}
 use Rattle.legalset.specs.Rules.{backward_ok, forward_ok, result_ok, begins, pass_ok}
 use Rattle.legalset.proofs.Settling.{ahead_passed, back_passed}
 use Rattle.plan.specs.declared.sweep.Sweep.{Sweep}
-use Rattle.summary.specs.Passes.{writer_word, begin_test, Summed, Ended, Shows, Near, Around}
+use Rattle.summary.specs.Passes.{blank, writer_word, begin_test, Summed, Ended, Shows, Near, Around}
 use Rattle.plan.specs.Sweep.{part, place, counts, Visit, Sweepable, Swept, none, more, marks_of, marks, is_start, is_forth}
 use Rattle.summary.proofs.Backing.{Backing, GoneBack, backing_none, backing_more, backing_end, gone_back}
 use Rattle.summary.proofs.Forwarding.{Going, GoneOn, going_none, going_more, going_end, gone_on, now_in}
@@ -70,17 +71,17 @@ module _ {recs ops regs work : List ℕ} {fs : List Fact} {g : Sweep} (r : Sweep
   safe : Safe recs ops (bare fs) g.span.n (length st₀)
   safe = safe_len r.safe same_len
 
-  module _ {ls : List ℕ} where
-    says : {i : ℕ} {work' ls' : List ℕ} {fs' : List Fact} {count : ℕ} → Swept recs ops regs g work ls fs i work' ls' fs' count → (p : ℕ) → Shows (bare fs) p (get_or fs' p no_fact)
+  module _ {ls : Lasts} where
+    says : {i : ℕ} {work' : List ℕ} {ls' : Lasts} {fs' : List Fact} {count : ℕ} → Swept recs ops regs g work ls fs i work' ls' fs' count → (p : ℕ) → Shows (bare fs) p (get_or fs' p no_fact)
     says {fs' = fs'} s p = subst (λ (w : List Fact). Shows w p (get_or fs' p no_fact)) (swept_bare s) (shown fs' p)
 
-    marks_size : {i : ℕ} {work' ls' : List ℕ} {fs' : List Fact} {count : ℕ} → Swept recs ops regs g work ls fs i work' ls' fs' count → length (marks g.span.n fs') ≡ g.span.n
+    marks_size : {i : ℕ} {work' : List ℕ} {ls' : Lasts} {fs' : List Fact} {count : ℕ} → Swept recs ops regs g work ls fs i work' ls' fs' count → length (marks g.span.n fs') ≡ g.span.n
     marks_size {fs' = fs'} s = let l = r.long in let z = swept_long s in marks_long g.span.n fs' (omega arith)
 
     -- ---- backward
 
-    module _ (e : (is_start g.phase) ≡ false) (u : (is_forth g.phase) ≡ false) (clear : st₀ ≡ replicate (length st₀) 0) (new : ls ≡ replicate 2008 0) where
-      pub swept_back : {i : ℕ} {work' ls' : List ℕ} {fs' : List Fact} {count : ℕ} → i ≤ g.span.n → Swept recs ops regs g work ls fs i work' ls' fs' count
+    module _ (e : (is_start g.phase) ≡ false) (u : (is_forth g.phase) ≡ false) (clear : st₀ ≡ replicate (length st₀) 0) (new : ls ≡ blank) where
+      pub swept_back : {i : ℕ} {work' : List ℕ} {ls' : Lasts} {fs' : List Fact} {count : ℕ} → i ≤ g.span.n → Swept recs ops regs g work ls fs i work' ls' fs' count
           → Backing recs ops (bare fs) g.span.n (g.span.n - i) st₀ (marks g.span.n fs) (part g.span.s (length regs) work') ls' (marks g.span.n fs') count
       swept_back h none = let z : g.span.n - 0 ≡ g.span.n = omega arith in
           subst (λ (q : ℕ). Backing recs ops (bare fs) g.span.n q st₀ (marks g.span.n fs) st₀ ls (marks g.span.n fs) 0) (sym z)
@@ -99,15 +100,15 @@ module _ {recs ops regs work : List ℕ} {fs : List Fact} {g : Sweep} (r : Sweep
           (subst (Backing recs ops (bare fs) g.span.n (g.span.n - i - 1) st₀ (marks g.span.n fs) (part g.span.s (length regs) work'') ls'' (set (marks g.span.n fs') (place g i) (num keep))) (sym (ap (λ (x : Bool). count + hit x) (counts_dropped g.phase (get_or fs' (place g i) no_fact) keep e)))
           (backing_more safe (omega arith) (omega arith) b (subst (λ (q : ℕ). GoneBack (bare fs) (defs_of recs (bare fs)) (reads_of recs ops (bare fs)) q (part g.span.s (length regs) work') ls' (marks g.span.n fs') (part g.span.s (length regs) work'') ls'' (set (marks g.span.n fs') (place g i) (num keep)) (hit ((get_or fs' (place g i) no_fact).member && not keep))) (sym p) k))))
 
-      pub passed_back : {work' ls' : List ℕ} {fs' : List Fact} {count : ℕ} → Swept recs ops regs g work ls fs g.span.n work' ls' fs' count
+      pub passed_back : {work' : List ℕ} {ls' : Lasts} {fs' : List Fact} {count : ℕ} → Swept recs ops regs g work ls fs g.span.n work' ls' fs' count
           → Passed (backward_ok (defs_of recs (bare fs)) (reads_of recs ops (bare fs)) g.span.n) 0 g.span.n (marks g.span.n fs) (marks g.span.n fs') count × (length (part g.span.s (length regs) work') ≡ length st₀)
           × Summed recs (bare fs) g.span.n 0 (part g.span.s (length regs) work') ls' (marks g.span.n fs')
       passed_back s = backing_end safe (swept_back (omega arith) s) (omega arith)
 
     -- ---- forward, by the summary that the sweep backward left
 
-    module _ (e : (is_start g.phase) ≡ false) (u : (is_forth g.phase) ≡ true) (z : Summed recs (bare fs) g.span.n 0 st₀ ls (marks g.span.n fs)) (sus : g.fences.sus ≡ get_or ls 2007 0 % 1024) (bar : g.fences.bar ≡ get_or ls 2006 0 % 1024) where
-      pub swept_forth : {i : ℕ} {work' ls' : List ℕ} {fs' : List Fact} {count : ℕ} → i ≤ g.span.n → Swept recs ops regs g work ls fs i work' ls' fs' count
+    module _ (e : (is_start g.phase) ≡ false) (u : (is_forth g.phase) ≡ true) (z : Summed recs (bare fs) g.span.n 0 st₀ ls (marks g.span.n fs)) (sus : g.fences.sus ≡ ls.suspension) (bar : g.fences.bar ≡ ls.barrier) where
+      pub swept_forth : {i : ℕ} {work' : List ℕ} {ls' : Lasts} {fs' : List Fact} {count : ℕ} → i ≤ g.span.n → Swept recs ops regs g work ls fs i work' ls' fs' count
           → Going recs ops (bare fs) regs g.span.n i st₀ ls (marks g.span.n fs) (part g.span.s (length regs) work') ls' (marks g.span.n fs') count
       swept_forth h none = going_none z
       swept_forth h (more i work' ls' work'' ls'' fs' count keep s v) =
@@ -120,10 +121,10 @@ module _ {recs ops regs work : List ℕ} {fs : List Fact} {g : Sweep} (r : Sweep
           (subst (λ (S : List ℕ). Going recs ops (bare fs) regs g.span.n (i + 1) st₀ ls (marks g.span.n fs) (part g.span.s (length regs) work'') ls'' S (count + hit (counts g.phase (get_or fs' i no_fact) keep))) (sym (marks_set g.span.n fs' i keep l))
           (subst (Going recs ops (bare fs) regs g.span.n (i + 1) st₀ ls (marks g.span.n fs) (part g.span.s (length regs) work'') ls'' (set (marks g.span.n fs') i (num keep))) (sym (ap (λ (x : Bool). count + hit x) (counts_dropped g.phase (get_or fs' i no_fact) keep e)))
           (going_more safe l z b (says s i) (let x = marks_long g.span.n fs r.long in omega arith)
-          (subst (λ (x : ℕ). GoneOn recs ops (bare fs) regs (get_or fs' i no_fact) x (get_or ls 2006 0 % 1024) i (part g.span.s (length regs) work') ls' (marks g.span.n fs') (part g.span.s (length regs) work'') ls'' (set (marks g.span.n fs') i (num keep)) (hit ((get_or fs' i no_fact).member && not keep))) sus
+          (subst (λ (x : ℕ). GoneOn recs ops (bare fs) regs (get_or fs' i no_fact) x ls.barrier i (part g.span.s (length regs) work') ls' (marks g.span.n fs') (part g.span.s (length regs) work'') ls'' (set (marks g.span.n fs') i (num keep)) (hit ((get_or fs' i no_fact).member && not keep))) sus
           (subst (λ (x : ℕ). GoneOn recs ops (bare fs) regs (get_or fs' i no_fact) g.fences.sus x i (part g.span.s (length regs) work') ls' (marks g.span.n fs') (part g.span.s (length regs) work'') ls'' (set (marks g.span.n fs') i (num keep)) (hit ((get_or fs' i no_fact).member && not keep))) bar k)))))
 
-      pub passed_forth : {work' ls' : List ℕ} {fs' : List Fact} {count : ℕ} → Swept recs ops regs g work ls fs g.k work' ls' fs' count
+      pub passed_forth : {work' : List ℕ} {ls' : Lasts} {fs' : List Fact} {count : ℕ} → Swept recs ops regs g work ls fs g.k work' ls' fs' count
           → Passed (own (forward_ok (view recs ops (bare fs) regs) g.span.n)) 0 g.k (marks g.span.n fs) (marks g.span.n fs') count × (length (part g.span.s (length regs) work') ≡ length st₀)
       passed_forth s = let h = r.turns in going_end (swept_forth h s) (omega arith) (omega arith)
 
@@ -159,12 +160,12 @@ started_more {recs} {ops} {w} {regs} {bits} {o} {m} {n} {q} {S} {c} {b} l h e k 
         let u = d.count in
         omega arith
 
-module _ {recs ops regs work : List ℕ} {fs : List Fact} {g : Sweep} (r : Sweepable recs ops regs work fs g) (d : Ended recs (bare fs) g.span.n regs) {ls : List ℕ} (e : (is_start g.phase) ≡ true) (u : (is_forth g.phase) ≡ false) where
-  pub swept_work : {i : ℕ} {work' ls' : List ℕ} {fs' : List Fact} {count : ℕ} → Swept recs ops regs g work ls fs i work' ls' fs' count → work' ≡ work
+module _ {recs ops regs work : List ℕ} {fs : List Fact} {g : Sweep} (r : Sweepable recs ops regs work fs g) (d : Ended recs (bare fs) g.span.n regs) {ls : Lasts} (e : (is_start g.phase) ≡ true) (u : (is_forth g.phase) ≡ false) where
+  pub swept_work : {i : ℕ} {work' : List ℕ} {ls' : Lasts} {fs' : List Fact} {count : ℕ} → Swept recs ops regs g work ls fs i work' ls' fs' count → work' ≡ work
   swept_work none = refl
   swept_work (more i work' ls' work'' ls'' fs' count keep s v) = (v.begun e).1 ∙ swept_work s
 
-  pub swept_first : {i : ℕ} {work' ls' : List ℕ} {fs' : List Fact} {count : ℕ} → i ≤ g.span.n → Swept recs ops regs g work ls fs i work' ls' fs' count
+  pub swept_first : {i : ℕ} {work' : List ℕ} {ls' : Lasts} {fs' : List Fact} {count : ℕ} → i ≤ g.span.n → Swept recs ops regs g work ls fs i work' ls' fs' count
       → Started recs ops (bare fs) regs work g.span.o g.span.m g.span.n (g.span.n - i) (marks g.span.n fs') count
   unfolding members
   swept_first h none = record { each = λ p x y. absurd (omega arith); count = sym (ap members (drop_of_length-le (marks g.span.n fs) {i = g.span.n - 0} (let z = marks_long g.span.n fs r.long in omega arith))) }
@@ -182,7 +183,7 @@ module _ {recs ops regs work : List ℕ} {fs : List Fact} {g : Sweep} (r : Sweep
       (started_more (omega arith) (omega arith) (marks_size r s) k (swept_first (omega arith) s)))))
 
   -- all positions are marked: those that begin in the set
-  pub started : {work' ls' : List ℕ} {fs' : List Fact} {count : ℕ} → g.span.m ≤ g.span.n → Swept recs ops regs g work ls fs g.span.n work' ls' fs' count
+  pub started : {work' : List ℕ} {ls' : Lasts} {fs' : List Fact} {count : ℕ} → g.span.m ≤ g.span.n → Swept recs ops regs g work ls fs g.span.n work' ls' fs' count
       → (work' ≡ work) × (count ≡ members (marks g.span.n fs')) × ((p : ℕ) → in_set (marks g.span.n fs') p ≡ begins (view recs ops (bare fs) regs) g.span.n (λ z. eqb (fact_in (bare fs) z).class 1) g.span.m (λ r. is_in work (64 * g.span.o + r)) p)
   unfolding begins
   started {fs' = fs'} h s =
@@ -200,20 +201,20 @@ module _ {recs ops regs work : List ℕ} {fs : List Fact} {g : Sweep} (r : Sweep
 pub around_on : {s k : ℕ} {x y z : List ℕ} → Around s k x y → Around s k y z → Around s k x z
 around_on a b = record { size = b.size ∙ a.size; below = b.below ∙ a.below; behind = b.behind ∙ a.behind }
 
-pub swept_around : {recs ops regs work ls : List ℕ} {fs : List Fact} {g : Sweep} {i : ℕ} {work' ls' : List ℕ} {fs' : List Fact} {count : ℕ} → Swept recs ops regs g work ls fs i work' ls' fs' count
+pub swept_around : {recs ops regs work : List ℕ} {ls : Lasts} {fs : List Fact} {g : Sweep} {i : ℕ} {work' : List ℕ} {ls' : Lasts} {fs' : List Fact} {count : ℕ} → Swept recs ops regs g work ls fs i work' ls' fs' count
     → Around g.span.s (length regs) work work'
 swept_around none = record { size = refl; below = refl; behind = refl }
 swept_around (more i work' ls' work'' ls'' fs' count keep s v) = around_on (swept_around s) v.around
 
-pub summed_near : {recs : List ℕ} {w : List Fact} {n : ℕ} {st ls S : List ℕ} → Summed recs w n 0 st ls S → Near st
+pub summed_near : {recs : List ℕ} {w : List Fact} {n : ℕ} {st : List ℕ} {ls : Lasts} {S : List ℕ} → Summed recs w n 0 st ls S → Near st
 unfolding writer last_below writer_word
 summed_near z = record { org = λ r h. let x = z.stamps.wrote r h in omega arith }
 
 -- ---- the sweeps as passes over the marks, where the numbers of the facts are w
 
-module _ {recs ops regs : List ℕ} {w : List Fact} {work ls : List ℕ} {fs : List Fact} {g : Sweep} (r : Sweepable recs ops regs work fs g) (is : bare fs ≡ w) (h : g.span.m ≤ g.span.n) (e : (is_start g.phase) ≡ false)
-    {work' ls' : List ℕ} {fs' : List Fact} {count : ℕ} where
-  pub pass_back : (is_forth g.phase) ≡ false → part g.span.s (length regs) work ≡ replicate (length regs) 0 → ls ≡ replicate 2008 0 → Swept recs ops regs g work ls fs g.span.n work' ls' fs' count
+module _ {recs ops regs : List ℕ} {w : List Fact} {work : List ℕ} {ls : Lasts} {fs : List Fact} {g : Sweep} (r : Sweepable recs ops regs work fs g) (is : bare fs ≡ w) (h : g.span.m ≤ g.span.n) (e : (is_start g.phase) ≡ false)
+    {work' : List ℕ} {ls' : Lasts} {fs' : List Fact} {count : ℕ} where
+  pub pass_back : (is_forth g.phase) ≡ false → part g.span.s (length regs) work ≡ replicate (length regs) 0 → ls ≡ blank → Swept recs ops regs g work ls fs g.span.n work' ls' fs' count
       → Passed (pass_ok (view recs ops w regs) g.span.n (is_forth g.phase)) 0 g.span.m (marks g.span.n fs) (marks g.span.n fs') count × Summed recs w g.span.n 0 (part g.span.s (length regs) work') ls' (marks g.span.n fs')
   pass_back u clear new s =
       let l = part_len g.span.s (length regs) work r.room in
@@ -222,7 +223,7 @@ module _ {recs ops regs : List ℕ} {w : List Fact} {work ls : List ℕ} {fs : L
         subst (λ (v : List Fact). Summed recs v g.span.n 0 (part g.span.s (length regs) work') ls' (marks g.span.n fs')) is z.2,
       )
 
-  pub pass_forth : (is_forth g.phase) ≡ true → Summed recs w g.span.n 0 (part g.span.s (length regs) work) ls (marks g.span.n fs) → g.fences.sus ≡ get_or ls 2007 0 % 1024 → g.fences.bar ≡ get_or ls 2006 0 % 1024 → g.k ≡ g.span.m → Swept recs ops regs g work ls fs g.k work' ls' fs' count
+  pub pass_forth : (is_forth g.phase) ≡ true → Summed recs w g.span.n 0 (part g.span.s (length regs) work) ls (marks g.span.n fs) → g.fences.sus ≡ ls.suspension → g.fences.bar ≡ ls.barrier → g.k ≡ g.span.m → Swept recs ops regs g work ls fs g.k work' ls' fs' count
       → Passed (pass_ok (view recs ops w regs) g.span.n (is_forth g.phase)) 0 g.span.m (marks g.span.n fs) (marks g.span.n fs') count
   pass_forth u sum sus bar m s =
       let z = passed_forth r e u (subst (λ (v : List Fact). Summed recs v g.span.n 0 (part g.span.s (length regs) work) ls (marks g.span.n fs)) (sym is) sum) sus bar s in

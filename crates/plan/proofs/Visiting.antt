@@ -7,6 +7,7 @@ use native.Mathlib.Omega.{arith}
 use borrow.Rule.Slice.PartMut.{put_mid, mid_of, same_len_mid, mid_len, take_put, drop_put}
 use lib.Dec.{ltb}
 use lib.ListN.{length, take, drop}
+use Rattle.summary.specs.declared.notes.Lasts.{Lasts}
 use Rattle.words.proofs.Bools.{clash}
 use Rattle.words.proofs.Parts.{put_part}
 use Rattle.facts.specs.declared.Fact.{Fact}
@@ -56,7 +57,7 @@ module _ (s k : ℕ) (work ys : List ℕ) (l : s + k ≤ length work) (n : lengt
   pub words_around : Around s k work (put_mid s (s + k - s) work ys)
   words_around = subst (λ (x : ℕ). Around s x work (put_mid s (s + k - s) work ys)) (sized s k) (part_around work ys (omega arith) l n)
 
-module _ {recs ops : List ℕ} {f : Fact} {p s k : ℕ} (work : List ℕ) {ys ls ls' : List ℕ} {b : Bool} (l : s + k ≤ length work) where
+module _ {recs ops : List ℕ} {f : Fact} {p s k : ℕ} (work : List ℕ) {ys : List ℕ} {ls ls' : Lasts} {b : Bool} (l : s + k ≤ length work) where
   pub back_part : Backed recs ops f p (part s (s + k - s) work) ls ys ls' b → Backed recs ops f p (part s k work) ls (part s k (put_mid s (s + k - s) work ys)) ls' b × Around s k work (put_mid s (s + k - s) work ys)
   back_part d = (
     subst (λ (x : List ℕ). Backed recs ops f p (part s k work) ls x ls' b) (sym (words_are s k work ys l d.size))
@@ -91,7 +92,7 @@ module _ (s k : ℕ) (work : List ℕ) (l : s + k ≤ length work) where
 pub nothing_moved : (s k : ℕ) (work : List ℕ) → Around s k work work
 nothing_moved s k work = record { size = refl; below = refl; behind = refl }
 
-module _ {recs ops regs : List ℕ} {g : Sweep} {f : Fact} {p : ℕ} {work ls : List ℕ} {b : Bool} where
+module _ {recs ops regs : List ℕ} {g : Sweep} {f : Fact} {p : ℕ} {work : List ℕ} {ls : Lasts} {b : Bool} where
   pub visit_first : (is_start g.phase) ≡ true → b ≡ (ltb p g.span.m && begin_test recs regs work f g.span.o p) → Visit recs ops regs g f p work ls work ls b
   visit_first e t = record {
     size = refl;
@@ -101,7 +102,7 @@ module _ {recs ops regs : List ℕ} {g : Sweep} {f : Fact} {p : ℕ} {work ls : 
     around = nothing_moved _ _ work;
   }
 
-  module _ {work' ls' : List ℕ} (e : (is_start g.phase) ≡ false) (m : Around g.span.s (length regs) work work') where
+  module _ {work' : List ℕ} {ls' : Lasts} (e : (is_start g.phase) ≡ false) (m : Around g.span.s (length regs) work work') where
     pub visit_back : (is_forth g.phase) ≡ false → Backed recs ops f p (part g.span.s (length regs) work) ls (part g.span.s (length regs) work') ls' b → Visit recs ops regs g f p work ls work' ls' b
     visit_back u d = record {
       size = m.size;

@@ -1,5 +1,5 @@
 -- Sweeps in turn: the start, then backward and forward until both drop nothing, or too few are left (01, "The legal set"). Assumes nothing.
-use Rattle.std.specs.Prelude.{◌≡◌, true, false, not, ◌&&◌, cond, List, ℕ, ◌+◌, ◌-◌, ◌%◌, ◌≤◌, eqb, leb, get_or, length, replicate, Some}
+use Rattle.std.specs.Prelude.{◌≡◌, true, false, not, ◌&&◌, cond, List, ℕ, ◌+◌, ◌-◌, ◌≤◌, eqb, leb, length, replicate, Some}
 use Rattle.inst.specs.Index.{pick}
 use Rattle.facts.specs.declared.Fact.{Fact}
 use Rattle.facts.specs.Marks.{bare}
@@ -9,18 +9,19 @@ use Rattle.plan.specs.declared.sweep.Phase.TheVariants.{Start, Back, Forth}
 use Rattle.plan.specs.declared.sweep.Span.{Span}
 use Rattle.plan.specs.declared.sweep.Sweep.{Sweep}
 use Rattle.plan.specs.declared.settle.Cycle.{Cycle}
-use Rattle.summary.specs.Passes.{Around, Ended, Greatest}
+use Rattle.summary.specs.declared.notes.Lasts.{Lasts}
+use Rattle.summary.specs.Passes.{blank, Around, Ended, Greatest}
 use Rattle.plan.specs.Sweep.{part, marks, is_start, is_forth}
 
 -- the sweep of this phase; the last suspension and barrier as the notes ls have them
-abbrev pub sweep_of : Span → Phase → List ℕ → Sweep
-sweep_of s p ls = record { phase = p; span = s; k = cond (is_forth p) s.m s.n; fences = record { sus = get_or ls 2007 0 % 1024; bar = get_or ls 2006 0 % 1024 } }
+abbrev pub sweep_of : Span → Phase → Lasts → Sweep
+sweep_of s p ls = record { phase = p; span = s; k = cond (is_forth p) s.m s.n; fences = record { sus = ls.suspension; bar = ls.barrier } }
 
 -- before a sweep backward the words of the R registers and the notes are cleared
-pub record Readied (R : ℕ) (s : Span) (p : Phase) (work ls work' ls' : List ℕ) : Type 0 where
+pub record Readied (R : ℕ) (s : Span) (p : Phase) (work : List ℕ) (ls : Lasts) (work' : List ℕ) (ls' : Lasts) : Type 0 where
   pub kept : is_start p ≡ true → (work' ≡ work) × (ls' ≡ ls)
   pub ahead : is_start p ≡ false → is_forth p ≡ true → (work' ≡ work) × (ls' ≡ ls)
-  pub back : is_start p ≡ false → is_forth p ≡ false → (part s.s R work' ≡ replicate R 0) × (ls' ≡ replicate 2008 0)
+  pub back : is_start p ≡ false → is_forth p ≡ false → (part s.s R work' ≡ replicate R 0) × (ls' ≡ blank)
   pub around : Around s.s R work work'
 
 -- after a sweep that dropped `count` this one comes, unless that was the second that dropped nothing, or too few are left

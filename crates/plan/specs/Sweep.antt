@@ -9,6 +9,7 @@ use Rattle.legalset.specs.Chain.{Safe, Brief}
 use Rattle.plan.specs.declared.sweep.Phase.{Phase}
 use Rattle.plan.specs.declared.sweep.Phase.TheVariants.{Start, Back, Forth}
 use Rattle.plan.specs.declared.sweep.Sweep.{Sweep}
+use Rattle.summary.specs.declared.notes.Lasts.{Lasts}
 use Rattle.summary.specs.Passes.{begin_test, Near, Written, Readable, Small, Backed, Forwarded, Around}
 
 -- the words of the R registers, from word s of the work on
@@ -55,7 +56,7 @@ pub record Visitable (recs ops regs work : List ℕ) (g : Sweep) (f : Fact) (p :
   pub low : p < 800
 
 -- position p of fact f was visited: whether it stays in the set, or begins in it
-pub record Visit (recs ops regs : List ℕ) (g : Sweep) (f : Fact) (p : ℕ) (work ls work' ls' : List ℕ) (stays : Bool) : Type 0 where
+pub record Visit (recs ops regs : List ℕ) (g : Sweep) (f : Fact) (p : ℕ) (work : List ℕ) (ls : Lasts) (work' : List ℕ) (ls' : Lasts) (stays : Bool) : Type 0 where
   pub size : length work' ≡ length work
   pub begun : (is_start g.phase) ≡ true → (stays ≡ (ltb p g.span.m && begin_test recs regs work f g.span.o p)) × (work' ≡ work)
   pub backed : (is_start g.phase) ≡ false → (is_forth g.phase) ≡ false → Backed recs ops f p (part g.span.s (length regs) work) ls (part g.span.s (length regs) work') ls' stays
@@ -74,9 +75,9 @@ pub record Sweepable (recs ops regs work : List ℕ) (fs : List Fact) (g : Sweep
   pub turns : g.k ≤ g.span.n
 
 -- the first i turns of a sweep: the facts are marked as the visits answer, and those counted that begin in the set, or are dropped
-pub data Swept (recs ops regs : List ℕ) (g : Sweep) (work ls : List ℕ) (fs : List Fact) : ℕ → List ℕ → List ℕ → List Fact → ℕ → Type 0 where
+pub data Swept (recs ops regs : List ℕ) (g : Sweep) (work : List ℕ) (ls : Lasts) (fs : List Fact) : ℕ → List ℕ → Lasts → List Fact → ℕ → Type 0 where
   none : Swept recs ops regs g work ls fs 0 work ls fs 0
-  more : (i : ℕ) (work' ls' work'' ls'' : List ℕ) (fs' : List Fact) (count : ℕ) (stays : Bool) → Swept recs ops regs g work ls fs i work' ls' fs' count
+  more : (i : ℕ) (work' : List ℕ) (ls' : Lasts) (work'' : List ℕ) (ls'' : Lasts) (fs' : List Fact) (count : ℕ) (stays : Bool) → Swept recs ops regs g work ls fs i work' ls' fs' count
       → Visit recs ops regs g (get_or fs' (place g i) no_fact) (place g i) work' ls' work'' ls'' stays
       → Swept recs ops regs g work ls fs (i + 1) work'' ls'' (set fs' (place g i) (marked (get_or fs' (place g i) no_fact) stays))
       (count + hit (counts g.phase (get_or fs' (place g i) no_fact) stays))

@@ -6,6 +6,7 @@ use crate::settle::{Cycle, settle};
 use facts::Fact;
 use inst::code::Code;
 use legality::forward::Given;
+use summary::notes::Lasts;
 
 // The facts' marks become the greatest legal set, unless it has fewer members than `least`. Says how many are marked. The row of registers
 // needed elsewhere begins at word `o` of `work`; its words from `s` on, one a register, are written. The notes of the sweeps are its own.
@@ -16,7 +17,7 @@ pub fn legal_set(code: &Code, regs: &[u32], work: &mut [u64], facts: &mut [Fact]
     if z.span.n == 0 {
         return 0;
     }
-    let mut lasts = [0u32; 2008];
+    let mut lasts = Lasts::none();
     let given = Given { code: *code, regs };
     settle(&given, work, &mut lasts, facts, z)
 }

@@ -8,11 +8,11 @@ use crate::sweep::{Phase, Span, Sweep, run};
 use facts::Fact;
 use legality::forward::Given;
 use legality::kept::Fences;
-use summary::notes::{BARRIER, MEMBER, SUSPENSION};
+use summary::notes::Lasts;
 
 // The sweep that comes next, if one does. `quiet`: the last one dropped nothing. `left` members are left; with fewer than `least` no more
 // sweeps are made.
-#[derive(Clone, Copy)]
+#[derive(Clone, Copy, Debug, PartialEq, Eq)]
 pub struct Cycle {
     pub next: Option<Phase>,
     pub quiet: bool,
@@ -22,7 +22,7 @@ pub struct Cycle {
 }
 
 // The sweep of this phase.
-fn sweep_of(span: Span, phase: Phase, lasts: &[u32; 2008]) -> Sweep
+fn sweep_of(span: Span, phase: Phase, lasts: &Lasts) -> Sweep
     ensures { result ≡ sweep_of span phase lasts.now }
 {
     Sweep {
@@ -33,16 +33,16 @@ fn sweep_of(span: Span, phase: Phase, lasts: &[u32; 2008]) -> Sweep
             _ => span.n,
         },
         fences: Fences {
-            sus: lasts[SUSPENSION] % MEMBER,
-            bar: lasts[BARRIER] % MEMBER,
+            sus: lasts.suspension,
+            bar: lasts.barrier,
         },
     }
 }
 
 // Before a sweep backward the words of the `regs` registers and the notes are cleared. Says which sweep comes.
-pub fn ready(
+pub(crate) fn ready(
     work: &mut [u64],
-    lasts: &mut [u32; 2008],
+    lasts: &mut Lasts,
     span: Span,
     phase: Phase,
     regs: usize,
@@ -54,7 +54,7 @@ pub fn ready(
     match phase {
         Phase::Back => {
             work[span.s..span.s + regs].fill(0);
-            *lasts = [0u32; 2008];
+            lasts.clear();
             g
         }
         _ => g,
@@ -77,7 +77,7 @@ fn went(c: Cycle, count: u32, phase: Phase) -> Cycle
 }
 
 // After a sweep of this phase that counted `count`.
-pub fn go_on(c: Cycle, phase: Phase, count: u32) -> Cycle
+pub(crate) fn go_on(c: Cycle, phase: Phase, count: u32) -> Cycle
     requires { is_start phase ≡ false → count ≤ c.left }
     ensures { result ≡ go_on c phase count }
 {
@@ -94,11 +94,12 @@ pub fn go_on(c: Cycle, phase: Phase, count: u32) -> Cycle
 }
 
 // The facts' marks become the greatest legal set, unless it has fewer members than `least`. Says how many are marked. The row of registers
-// needed elsewhere begins at word `o` of `work`; its words from `s` on, one a register, are written.
-pub fn settle(
+// needed elsewhere begins at word `o` of `work`; its words from `s` on, one a register, are written. How many sweeps it takes is told by
+// what they drop.
+pub(crate) fn settle(
     given: &Given<'_>,
     work: &mut [u64],
-    lasts: &mut [u32; 2008],
+    lasts: &mut Lasts,
     facts: &mut [Fact],
     z: Cycle,
 ) -> u32

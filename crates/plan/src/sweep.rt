@@ -10,10 +10,11 @@ use legality::forward::{Given, forth};
 use legality::kept::Fences;
 use legality::rules::Elsewhere;
 use legality::start::begins_in;
+use summary::notes::Lasts;
 
 // What a sweep does: it marks the positions to begin with, or drops members, by rule 1 from the last position back or by rules 3 to 6
 // from the first one forth.
-#[derive(Clone, Copy)]
+#[derive(Clone, Copy, Debug, PartialEq, Eq)]
 pub enum Phase {
     Start,
     Back,
@@ -22,7 +23,7 @@ pub enum Phase {
 
 // What all sweeps are over: the row of registers needed elsewhere begins at word `o` of the work, the words of the registers at `s`; `n`
 // positions, of which the first `m` are in x.
-#[derive(Clone, Copy)]
+#[derive(Clone, Copy, Debug, PartialEq, Eq)]
 pub struct Span {
     pub o: usize,
     pub s: usize,
@@ -31,7 +32,7 @@ pub struct Span {
 }
 
 // Which sweep it is, and over what; `k` turns; the last kept suspension and barrier.
-#[derive(Clone, Copy)]
+#[derive(Clone, Copy, Debug, PartialEq, Eq)]
 pub struct Sweep {
     pub phase: Phase,
     pub span: Span,
@@ -69,7 +70,7 @@ fn back_in(
     f: Fact,
     work: &mut [u64],
     s: usize,
-    lasts: &mut [u32; 2008],
+    lasts: &mut Lasts,
     p: usize,
 ) -> bool
     requires { Written given.now.code.recs.now (length given.now.regs.now) f.rec f.def f.more × Readable given.now.code.recs.now given.now.code.ops.now (length given.now.regs.now) f × Small f × (p < 800) × (s + length given.now.regs.now ≤ length work.old) }
@@ -85,7 +86,7 @@ fn forth_in(
     f: Fact,
     work: &mut [u64],
     g: Sweep,
-    lasts: &mut [u32; 2008],
+    lasts: &mut Lasts,
     p: usize,
 ) -> bool
     requires { Written given.now.code.recs.now (length given.now.regs.now) f.rec f.def f.more × Readable given.now.code.recs.now given.now.code.ops.now (length given.now.regs.now) f × Small f × Near (part g.span.s (length given.now.regs.now) work.old) × (p < 800) × (g.span.s + length given.now.regs.now ≤ length work.old) }
@@ -100,7 +101,7 @@ fn forth_in(
 fn visit(
     given: &Given<'_>,
     work: &mut [u64],
-    lasts: &mut [u32; 2008],
+    lasts: &mut Lasts,
     g: Sweep,
     f: Fact,
     p: usize,
@@ -126,10 +127,10 @@ fn counts(phase: Phase, f: Fact, stays: bool) -> bool
 }
 
 // A whole sweep. Says how many begin in the set, or are dropped.
-pub fn run(
+pub(crate) fn run(
     given: &Given<'_>,
     work: &mut [u64],
-    lasts: &mut [u32; 2008],
+    lasts: &mut Lasts,
     facts: &mut [Fact],
     g: Sweep,
 ) -> u32

@@ -24,9 +24,10 @@ use Rattle.legalset.specs.Rules.{last_kept, pending, backward_ok}
 use Rattle.legalset.proofs.Dropping.{passed_none, passed_down}
 use Rattle.legalset.proofs.Easier.{behind, backward_mono}
 use Rattle.legalset.proofs.Pending.{pending_ext}
-use Rattle.summary.specs.Passes.{over, stamp, since, writer_word, kept_word, Stamped, Stamps, Awaits, Awaited, Notes, Noted, noting, later_in, Backed, Summed, Shows}
+use Rattle.summary.specs.Passes.{over, stamp, since, writer_word, kept_word, Stamped, Stamps, Awaits, Awaited, Notes, Noted, noting, kept_in, blank, Backed, Summed, Shows}
 use Rattle.summary.proofs.Places.{writes_placed}
-use Rattle.summary.proofs.Summing.{zero_at, since_low, since_ext, since_all, notes_none, notes_more, noted_member, noted_all, notes_writes, notes_barrier, notes_suspension}
+use Rattle.summary.specs.declared.notes.Lasts.{Lasts}
+use Rattle.summary.proofs.Summing.{zero_at, since_low, since_ext, since_all, since_kept, notes_none, notes_more, noted_member, noted_kept}
 use Rattle.summary.proofs.Forwarding.{sifted_other, now_in, is_sifted, is_lost}
 
 -- ---- what a record writes is not awaited
@@ -59,7 +60,7 @@ unfolding kept_word
 kept_few true q h e = omega arith
 kept_few false q h e = omega arith
 
-pub backed : {recs ops : List ℕ} {f : Fact} {q k : ℕ} {st mid st' ls ls' : List ℕ} {b : Bool} → b ≡ (f.member && all (λ x. leb (get_or st x 0) 1023) (writes (inst recs f.rec))) → k ≡ kept_word b q → Stamped (writes (inst recs f.rec)) 1024 k 0 st mid
+pub backed : {recs ops : List ℕ} {f : Fact} {q k : ℕ} {st mid st' : List ℕ} {ls ls' : Lasts} {b : Bool} → b ≡ (f.member && all (λ x. leb (get_or st x 0) 1023) (writes (inst recs f.rec))) → k ≡ kept_word b q → Stamped (writes (inst recs f.rec)) 1024 k 0 st mid
     → Awaited (reads ops (inst recs f.rec)) b mid st' → ls' ≡ noting f b q ls → Backed recs ops f q st ls st' ls' b
 backed {recs} {ops} {f} {st = st} {b = b} t e s a n = record {
   keeps = t;
@@ -72,21 +73,20 @@ backed {recs} {ops} {f} {st = st} {b = b} t e s a n = record {
 -- ---- one position, by marks
 
 -- position q was looked at from behind: st, lasts and marks after those before
-pub record GoneBack (w : List Fact) (defs reads : ℕ → List ℕ) (q : ℕ) (st ls marks st' ls' marks' : List ℕ) (r : ℕ) : Type 0 where
+pub record GoneBack (w : List Fact) (defs reads : ℕ → List ℕ) (q : ℕ) (st : List ℕ) (ls : Lasts) (marks st' : List ℕ) (ls' : Lasts) (marks' : List ℕ) (r : ℕ) : Type 0 where
   pub size : length st' ≡ length st
   pub each : (x : ℕ) → x < length st → get_or st' x 0 ≡ stamp 1024 0 1024 (not (in_set marks' q) && mem x (reads q)) (stamp 1024 (kept_word (in_set marks' q) q) 0 (mem x (defs q)) (get_or st x 0))
   pub notes : Noted w (in_set marks') q ls ls'
   pub sifts : marks' ≡ sifted marks q (all (λ x. leb (get_or st x 0) 1023) (defs q))
   pub loses : r ≡ lost marks q (all (λ x. leb (get_or st x 0) 1023) (defs q))
 
-module _ {w : List Fact} {q : ℕ} {f : Fact} (t : Shows w q f) (L : ℕ → Bool) {ls : List ℕ} (size : length ls ≡ 2008) (few : q < 800) (low : (fact_in w q).wrote ≤ 2004) where
-  pub noted_by : (b : Bool) {ls' : List ℕ} → b ≡ L q → ls' ≡ noting f b q ls → Noted w L q ls ls'
+module _ {w : List Fact} {q : ℕ} {f : Fact} (t : Shows w q f) (L : ℕ → Bool) {ls : Lasts} (size : length ls.writes ≡ 2006) (few : q < 800) (low : (fact_in w q).wrote ≤ 2004) where
+  pub noted_by : (b : Bool) {ls' : Lasts} → b ≡ L q → ls' ≡ noting f b q ls → Noted w L q ls ls'
   unfolding noting
-  noted_by true e d = noted_member w L q ls e refl size few d
-  noted_by false e d =
-      noted_all w L q ls e refl size few low (d ∙ ap (λ (x : Fact). later_in 2007 (cond x.suspends (q + 1) 0) (later_in 2006 (cond x.barrier (q + 1) 0) (later_in x.wrote (q + 1) ls))) (sym t.same))
+  noted_by true e d = noted_member w L q ls e size few refl d
+  noted_by false e d = noted_kept w L q ls e size few refl low (d ∙ ap (λ (x : Fact). kept_in x q ls) (sym t.same))
 
-pub gone_back : {recs ops : List ℕ} {w : List Fact} {f : Fact} {n R q : ℕ} {st ls st' ls' : List ℕ} {keep : Bool} (S : List ℕ) → Safe recs ops w n R → q < n → length ls ≡ 2008 → Shows w q f → q < length S → get_or S q 0 ≡ num f.member
+pub gone_back : {recs ops : List ℕ} {w : List Fact} {f : Fact} {n R q : ℕ} {st : List ℕ} {ls : Lasts} {st' : List ℕ} {ls' : Lasts} {keep : Bool} (S : List ℕ) → Safe recs ops w n R → q < n → length ls.writes ≡ 2006 → Shows w q f → q < length S → get_or S q 0 ≡ num f.member
     → Backed recs ops f q st ls st' ls' keep → GoneBack w (defs_of recs w) (reads_of recs ops w) q st ls S st' ls' (set S q (num keep)) (hit (f.member && not keep))
 gone_back {recs} {ops} {w} {f} {n} {R} {q} {st} {ls} {st'} {ls'} {keep} S s l size t h e d = record {
   size = d.size;
@@ -133,7 +133,7 @@ module _ (marks : List ℕ) {recs ops : List ℕ} {w : List Fact} {n R q : ℕ} 
       none k true l = lt-leb (k + 1024) 1023 (omega arith)
       none k false l = let f = s.few in le-leb (k + 0) 1023 (omega arith)
 
-  module _ {ls st' ls' marks' : List ℕ} {d : ℕ} (k : GoneBack w (defs_of recs w) (reads_of recs ops w) q st ls marks st' ls' marks' d) where
+  module _ {ls : Lasts} {st' : List ℕ} {ls' : Lasts} {marks' : List ℕ} {d : ℕ} (k : GoneBack w (defs_of recs w) (reads_of recs ops w) q st ls marks st' ls' marks' d) where
     same : (z : ℕ) → suc q ≤ z → in_set marks z ≡ in_set marks' z
     same z l = sym (ap (λ (S : List ℕ). in_set S z) k.sifts ∙ sifted_other marks q _ z (λ e. omega arith))
 
@@ -178,7 +178,7 @@ module _ (marks : List ℕ) {recs ops : List ℕ} {w : List Fact} {n R q : ℕ} 
             ∙ ap (λ (x : ℕ). since (λ z. not (in_set marks' z) && mem r (defs_of recs w z)) q x + 1024 * hit (pending (defs_of recs w) (reads_of recs ops w) (in_set marks') r q x)) e
 
 -- the positions from q on are done
-pub record Backing (recs ops : List ℕ) (w : List Fact) (n q : ℕ) (st₀ marks₀ st ls marks : List ℕ) (r : ℕ) : Type 0 where
+pub record Backing (recs ops : List ℕ) (w : List Fact) (n q : ℕ) (st₀ marks₀ st : List ℕ) (ls : Lasts) (marks : List ℕ) (r : ℕ) : Type 0 where
   pub size : length st ≡ length st₀
   pub awaits : Awaits (defs_of recs w) (reads_of recs ops w) (in_set marks) n q st
   pub notes : Notes w (in_set marks) n q ls
@@ -187,7 +187,7 @@ pub record Backing (recs ops : List ℕ) (w : List Fact) (n q : ℕ) (st₀ mark
 outside : {n : ℕ} {S : List ℕ} → Inside n S → (x : ℕ) → n ≤ x → in_set S x ≡ false
 outside {n} {S} i x h = ⊎_elim (λ (e : in_set S x ≡ true). let z = i.low x (true_T (in_set S x) e) in absurd (omega arith)) (λ (e : in_set S x ≡ false). e) (bool? (in_set S x))
 
-pub backing_none : (recs ops : List ℕ) (w : List Fact) (n : ℕ) (st : List ℕ) {ls : List ℕ} (marks : List ℕ) → st ≡ replicate (length st) 0 → ls ≡ replicate 2008 0 → Inside n marks → Backing recs ops w n n st marks st ls marks 0
+pub backing_none : (recs ops : List ℕ) (w : List Fact) (n : ℕ) (st : List ℕ) {ls : Lasts} (marks : List ℕ) → st ≡ replicate (length st) 0 → ls ≡ blank → Inside n marks → Backing recs ops w n n st marks st ls marks 0
 unfolding pending since
 backing_none recs ops w n st marks e f g = record {
   size = refl;
@@ -199,7 +199,7 @@ backing_none recs ops w n st marks e f g = record {
   passed = passed_none (behind (view recs ops w []) n) n marks;
 }
 
-pub backing_more : {recs ops : List ℕ} {w : List Fact} {n q : ℕ} {st₀ marks₀ st ls marks st' ls' marks' : List ℕ} {r d : ℕ} → Safe recs ops w n (length st₀) → 0 < q → q ≤ n
+pub backing_more : {recs ops : List ℕ} {w : List Fact} {n q : ℕ} {st₀ marks₀ st : List ℕ} {ls : Lasts} {marks st' : List ℕ} {ls' : Lasts} {marks' : List ℕ} {r d : ℕ} → Safe recs ops w n (length st₀) → 0 < q → q ≤ n
     → Backing recs ops w n q st₀ marks₀ st ls marks r → GoneBack w (defs_of recs w) (reads_of recs ops w) (q - 1) st ls marks st' ls' marks' d → Backing recs ops w n (q - 1) st₀ marks₀ st' ls' marks' (r + d)
 backing_more {recs} {ops} {w} {n} {q} {st₀} {marks₀} {st} {ls} {marks} s l h i k =
     let e : q ≡ q - 1 + 1 = omega arith in
@@ -225,7 +225,7 @@ stamps_of {recs} {ops} {w} {n} {R} {L} {st} s i = record { kept = λ r h. (parts
         let k = hit_le (pending (defs_of recs w) (reads_of recs ops w) L r 0 (n - 0)) in
         (omega arith, omega arith)
 
-pub backing_end : {recs ops : List ℕ} {w : List Fact} {n q : ℕ} {st₀ marks₀ st ls marks : List ℕ} {r : ℕ} → Safe recs ops w n (length st₀) → Backing recs ops w n q st₀ marks₀ st ls marks r → q ≤ 0
+pub backing_end : {recs ops : List ℕ} {w : List Fact} {n q : ℕ} {st₀ marks₀ st : List ℕ} {ls : Lasts} {marks : List ℕ} {r : ℕ} → Safe recs ops w n (length st₀) → Backing recs ops w n q st₀ marks₀ st ls marks r → q ≤ 0
     → Passed (backward_ok (defs_of recs w) (reads_of recs ops w) n) 0 n marks₀ marks r × (length st ≡ length st₀) × Summed recs w n 0 st ls marks
 backing_end {recs} {ops} {w} {n} {q} {marks₀ = marks₀} {st = st} {ls = ls} {marks = marks} {r = r} s i h =
     let e : q ≡ 0 = omega arith in
@@ -235,9 +235,9 @@ backing_end {recs} {ops} {w} {n} {q} {marks₀ = marks₀} {st = st} {ls = ls} {
       record {
         stamps = stamps_of s (subst (λ (y : ℕ). Awaits (defs_of recs w) (reads_of recs ops w) (in_set marks) n y st) e i.awaits);
         size = a.size;
-        writes = notes_writes s a;
-        flags = λ j l. a.flags j (omega arith);
-        barrier = notes_barrier s a;
-        suspension = notes_suspension s a;
+        writes = record { each = λ o l. since_kept (in_set marks) (λ z. eqb (fact_in w z).wrote o) n (a.each o l) };
+        flags = a.flags;
+        barrier = since_kept (in_set marks) (λ z. (fact_in w z).barrier) n a.barrier;
+        suspension = since_kept (in_set marks) (λ z. (fact_in w z).suspends) n a.suspension;
       },
     )

@@ -25,7 +25,8 @@ use Rattle.legalset.specs.Rules.{last_kept, when_in, read_fine, org_fine, own_me
 use Rattle.legalset.proofs.Lasting.{writer_low}
 use Rattle.legalset.proofs.Dropping.{passed_none, passed_up}
 use Rattle.legalset.proofs.Easier.{forward_mono}
-use Rattle.summary.specs.Passes.{over, stamp, writer_word, Stamped, Stamps, Writes, read_test, word_org, org_test, froms, from_test, memory_test, member_at, own_test, stay_test, fact_word, forgot, Forwarded, Summed, Shows}
+use Rattle.summary.specs.Passes.{over, stamp, writer_word, Stamped, Stamps, Writes, read_test, word_org, org_test, froms, from_test, memory_test, member_at, own_test, stay_test, fact_word, forgot, forgotten, with_writes, Forwarded, Summed, Shows}
+use Rattle.summary.specs.declared.notes.Lasts.{Lasts}
 use Rattle.summary.proofs.Summing.{at_parts, same_at}
 use Rattle.summary.proofs.Places.{reads_low, list_in_low}
 
@@ -206,7 +207,7 @@ member_less L M p j same out = go (eq? (2 * p + 5) j)
         ∙ none (leb 5 j && eqb (j % 2) 1) (leb 0 ((j - 5) / 2)) ∙ ap (λ (c : Bool). hit ((leb 5 j && eqb (j % 2) 1) && (leb 0 ((j - 5) / 2) && c))) (sym (ap M x ∙ out))
     go (inr n) = ap (λ (b : Bool). cond b 0 (hit ((leb 5 j && eqb (j % 2) 1) && (leb 0 ((j - 5) / 2) && L ((j - 5) / 2))))) (ne_eqb (2 * p + 5) j n) ∙ other (leb 5 j) (eqb (j % 2) 1) refl refl n
 
-forgot_low : (d : Bool) (p : ℕ) (ls : List ℕ) (j : ℕ) → p < 800 → length ls ≡ 2008 → get_or (forgot d p ls) j 0 % 1024 ≡ get_or ls j 0 % 1024
+forgot_low : (d : Bool) (p : ℕ) (ls : List ℕ) (j : ℕ) → p < 800 → length ls ≡ 2006 → get_or (forgot d p ls) j 0 % 1024 ≡ get_or ls j 0 % 1024
 unfolding forgot
 forgot_low true p ls j h s = let z : get_or ls (2 * p + 5) 0 % 1024 % 1024 ≡ get_or ls (2 * p + 5) 0 % 1024 = omega arith in
     (at_parts ls (2 * p + 5) (get_or ls (2 * p + 5) 0 % 1024) j (omega arith)).0 ∙ same_at ls (2 * p + 5) j (λ x. x % 1024) z
@@ -217,7 +218,7 @@ unfolding forgot
 forgot_size true p ls = length-set ls (2 * p + 5) _
 forgot_size false p ls = refl
 
-module _ (S ls : List ℕ) (p : ℕ) (ok : Bool) (h : p < 800) (long : p < length S) (s : length ls ≡ 2008) (f : (j : ℕ) → j < 2006 → get_or ls j 0 / 1024 ≡ hit (member_at (in_set S) 0 j)) where
+module _ (S ls : List ℕ) (p : ℕ) (ok : Bool) (h : p < 800) (long : p < length S) (s : length ls ≡ 2006) (f : (j : ℕ) → j < 2006 → get_or ls j 0 / 1024 ≡ hit (member_at (in_set S) 0 j)) where
   still : (z : ℕ) → (z ≡ p → ⊥) → in_set S z ≡ in_set (set S p 0) z
   unfolding in_set
   still z n = sym (ap (λ (x : ℕ). not (eqb x 0)) (get_or-set_other S p z 0 0 n))
@@ -239,11 +240,11 @@ module _ (S ls : List ℕ) (p : ℕ) (ok : Bool) (h : p < 800) (long : p < lengt
 -- ---- one position, by marks
 
 -- position p of fact f was looked at: st, lasts and marks after those before
-pub record GoneOn (recs ops : List ℕ) (w : List Fact) (regs : List ℕ) (f : Fact) (sus bar p : ℕ) (st lasts marks st' lasts' marks' : List ℕ) (r : ℕ) : Type 0 where
+pub record GoneOn (recs ops : List ℕ) (w : List Fact) (regs : List ℕ) (f : Fact) (sus bar p : ℕ) (st : List ℕ) (lasts : Lasts) (marks st' : List ℕ) (lasts' : Lasts) (marks' : List ℕ) (r : ℕ) : Type 0 where
   pub stamped : Stamped (defs_of recs w p) 2048 0 (2048 * writer_word w (in_set marks') (suc p)) st st'
-  pub sifts : marks' ≡ sifted marks p (stay_test recs ops regs st lasts f sus bar p)
-  pub forgets : lasts' ≡ forgot (in_set marks p && not (stay_test recs ops regs st lasts f sus bar p)) p lasts
-  pub loses : r ≡ lost marks p (stay_test recs ops regs st lasts f sus bar p)
+  pub sifts : marks' ≡ sifted marks p (stay_test recs ops regs st lasts.writes f sus bar p)
+  pub forgets : lasts' ≡ with_writes (forgot (in_set marks p && not (stay_test recs ops regs st lasts.writes f sus bar p)) p lasts.writes) lasts
+  pub loses : r ≡ lost marks p (stay_test recs ops regs st lasts.writes f sus bar p)
 
 -- the mark m of position p becomes that of a member that keeps a rule
 module _ (S : List ℕ) (p : ℕ) (m ok : Bool) {keep : Bool} (e : get_or S p 0 ≡ num m) (k : keep ≡ (m && ok)) where
@@ -280,55 +281,64 @@ unfolding in_set num
 now_in S p true h = ap (λ (x : ℕ). not (eqb x 0)) (get_or-set_same S p 1 0 h)
 now_in S p false h = ap (λ (x : ℕ). not (eqb x 0)) (get_or-set_same S p 0 0 h)
 
-pub gone_on : {recs ops : List ℕ} {w : List Fact} {regs : List ℕ} {f : Fact} {sus bar p : ℕ} {st ls st' ls' : List ℕ} {keep : Bool} (S : List ℕ) → Shows w p f → p < length S → get_or S p 0 ≡ num f.member → Forwarded recs ops regs f sus bar p st ls st' ls' keep
+pub gone_on : {recs ops : List ℕ} {w : List Fact} {regs : List ℕ} {f : Fact} {sus bar p : ℕ} {st : List ℕ} {ls : Lasts} {st' : List ℕ} {ls' : Lasts} {keep : Bool} (S : List ℕ) → Shows w p f → p < length S → get_or S p 0 ≡ num f.member → Forwarded recs ops regs f sus bar p st ls st' ls' keep
     → GoneOn recs ops w regs f sus bar p st ls S st' ls' (set S p (num keep)) (hit (f.member && not keep))
 unfolding writer_word fact_word
 gone_on {recs} {ops} {w} {regs} {f} {sus} {bar} {p} {st} {ls} {st'} {ls'} {keep} S t h e d = record {
   stamped = subst (λ (y : Fact). Stamped (writes (inst recs y.rec)) 2048 0 (2048 * (1 + 2 * hit (in_set (set S p (num keep)) p) + 4 * y.org)) st st') (sym t.same)
       (subst (λ (b : Bool). Stamped (writes (inst recs f.rec)) 2048 0 (2048 * (1 + 2 * hit b + 4 * f.org)) st st') (sym (now_in S p keep h)) d.stamped);
-  sifts = is_sifted S p f.member (stay_test recs ops regs st ls f sus bar p) e d.keeps;
-  forgets = d.forgets ∙ ap (λ (b : Bool). forgot b p ls) (is_dropped S p f.member (stay_test recs ops regs st ls f sus bar p) e d.keeps);
-  loses = is_lost S p f.member (stay_test recs ops regs st ls f sus bar p) e d.keeps;
+  sifts = is_sifted S p f.member (stay_test recs ops regs st ls.writes f sus bar p) e d.keeps;
+  forgets = d.forgets ∙ ap (λ (b : Bool). with_writes (forgot b p ls.writes) ls) (is_dropped S p f.member (stay_test recs ops regs st ls.writes f sus bar p) e d.keeps);
+  loses = is_lost S p f.member (stay_test recs ops regs st ls.writes f sus bar p) e d.keeps;
 }
 
 -- the first p positions are done
-pub record Going (recs ops : List ℕ) (w : List Fact) (regs : List ℕ) (n p : ℕ) (st₀ ls₀ marks₀ st ls marks : List ℕ) (r : ℕ) : Type 0 where
+pub record Going (recs ops : List ℕ) (w : List Fact) (regs : List ℕ) (n p : ℕ) (st₀ : List ℕ) (ls₀ : Lasts) (marks₀ st : List ℕ) (ls : Lasts) (marks : List ℕ) (r : ℕ) : Type 0 where
   pub size : length st ≡ length st₀
   pub stamps : Stamps w (defs_of recs w) (in_set marks₀) (in_set marks) n p st
-  pub ls_size : length ls ≡ 2008
-  pub lows : (j : ℕ) → get_or ls j 0 % 1024 ≡ get_or ls₀ j 0 % 1024
-  pub flags : (j : ℕ) → j < 2006 → get_or ls j 0 / 1024 ≡ hit (member_at (in_set marks) 0 j)
+  pub ls_size : length ls.writes ≡ 2006
+  pub lows : (j : ℕ) → get_or ls.writes j 0 % 1024 ≡ get_or ls₀.writes j 0 % 1024
+  pub flags : (j : ℕ) → j < 2006 → get_or ls.writes j 0 / 1024 ≡ hit (member_at (in_set marks) 0 j)
   pub passed : Passed (own (forward_ok (view recs ops w regs) n)) 0 p marks₀ marks r
 
-pub going_none : {recs ops : List ℕ} {w : List Fact} {regs : List ℕ} {n : ℕ} {st lasts marks : List ℕ} → Summed recs w n 0 st lasts marks → Going recs ops w regs n 0 st lasts marks st lasts marks 0
+pub going_none : {recs ops : List ℕ} {w : List Fact} {regs : List ℕ} {n : ℕ} {st : List ℕ} {lasts : Lasts} {marks : List ℕ} → Summed recs w n 0 st lasts marks → Going recs ops w regs n 0 st lasts marks st lasts marks 0
 going_none {recs} {ops} {w} {regs} {n} {st} {lasts} {marks} s = record { size = refl; stamps = s.stamps; ls_size = s.size; lows = λ j. refl; flags = s.flags; passed = passed_none (forward_ok (view recs ops w regs) n) 0 marks }
 
 -- the last kept writes are as they were
 writes_on : (w : List Fact) {L : ℕ → Bool} {n : ℕ} {ls₀ ls : List ℕ} → ((j : ℕ) → get_or ls j 0 % 1024 ≡ get_or ls₀ j 0 % 1024) → Writes (λ q. (fact_in w q).wrote) L n ls₀ → Writes (λ q. (fact_in w q).wrote) L n ls
 writes_on w f z = record { each = λ o h. f o ∙ z.each o h }
 
-module _ {recs ops : List ℕ} {w : List Fact} {regs : List ℕ} {n p : ℕ} {st₀ ls₀ marks₀ st ls marks : List ℕ} {r : ℕ} (s : Safe recs ops w n (length st₀)) (h : p < n) (z : Summed recs w n 0 st₀ ls₀ marks₀) (i : Going recs ops w regs n p st₀ ls₀ marks₀ st ls marks r) where
-  pub going_more : {f : Fact} {st' ls' marks' : List ℕ} {d : ℕ} → Shows w p f → n ≤ length marks₀ → GoneOn recs ops w regs f (get_or ls₀ 2007 0 % 1024) (get_or ls₀ 2006 0 % 1024) p st ls marks st' ls' marks' d
+module _ {recs ops : List ℕ} {w : List Fact} {regs : List ℕ} {n p : ℕ} {st₀ : List ℕ} {ls₀ : Lasts} {marks₀ st : List ℕ} {ls : Lasts} {marks : List ℕ} {r : ℕ} (s : Safe recs ops w n (length st₀)) (h : p < n) (z : Summed recs w n 0 st₀ ls₀ marks₀) (i : Going recs ops w regs n p st₀ ls₀ marks₀ st ls marks r) where
+  pub going_more : {f : Fact} {st' : List ℕ} {ls' : Lasts} {marks' : List ℕ} {d : ℕ} → Shows w p f → n ≤ length marks₀ → GoneOn recs ops w regs f ls₀.suspension ls₀.barrier p st ls marks st' ls' marks' d
       → Going recs ops w regs n (p + 1) st₀ ls₀ marks₀ st' ls' marks' (r + d)
   going_more {f} t long k = let few = s.few in let size = i.passed.size in record {
     size = k.stamped.size ∙ i.size;
     stamps = stamps_more (λ z l. sym (ap (λ (S : List ℕ). in_set S z) k.sifts ∙ sifted_other marks _ _ z (λ e. omega arith))) i.stamps k.stamped;
-    ls_size = ap length k.forgets ∙ forgot_size _ p ls ∙ i.ls_size;
-    lows = λ j. ap (λ (x : List ℕ). get_or x j 0 % 1024) k.forgets ∙ forgot_low _ p ls j (omega arith) i.ls_size ∙ i.lows j;
-    flags = forgot_flags marks ls p _ (omega arith) (omega arith) i.ls_size i.flags k.sifts k.forgets;
+    ls_size = ap (λ (x : Lasts). length x.writes) k.forgets ∙ forgot_size _ p ls.writes ∙ i.ls_size;
+    lows = λ j. ap (λ (x : Lasts). get_or x.writes j 0 % 1024) k.forgets ∙ forgot_low _ p ls.writes j (omega arith) i.ls_size ∙ i.lows j;
+    flags = forgot_flags marks ls.writes p _ (omega arith) (omega arith) i.ls_size i.flags k.sifts (ap (λ (x : Lasts). x.writes) k.forgets);
     passed = passed_up (forward_ok (view recs ops w regs) n) (forward_mono (view recs ops w regs) n) i.passed (stay_is regs marks s h i.size i.stamps (writes_on w i.lows z.writes) z.barrier z.suspension i.flags t) k.sifts k.loses;
   }
 
-pub going_end : {recs ops : List ℕ} {w : List Fact} {regs : List ℕ} {n p m : ℕ} {st₀ ls₀ marks₀ st ls marks : List ℕ} {r : ℕ} → Going recs ops w regs n p st₀ ls₀ marks₀ st ls marks r → p ≤ m → m ≤ p
+pub going_end : {recs ops : List ℕ} {w : List Fact} {regs : List ℕ} {n p m : ℕ} {st₀ : List ℕ} {ls₀ : Lasts} {marks₀ st : List ℕ} {ls : Lasts} {marks : List ℕ} {r : ℕ} → Going recs ops w regs n p st₀ ls₀ marks₀ st ls marks r → p ≤ m → m ≤ p
     → Passed (own (forward_ok (view recs ops w regs) n)) 0 m marks₀ marks r × (length st ≡ length st₀)
 going_end {recs} {ops} {w} {regs} {n} {p} {m} {marks₀ = marks₀} {marks = marks} {r = r} i a b =
     let e : p ≡ m = omega arith in (subst (λ (k : ℕ). Passed (own (forward_ok (view recs ops w regs) n)) 0 k marks₀ marks r) e i.passed, i.size)
 
 -- ---- by the position's fact
 
-pub forwarded : {recs ops regs ls st st' ls' : List ℕ} {f : Fact} {sus bar p v : ℕ} {b : Bool} → b ≡ (f.member && stay_test recs ops regs st ls f sus bar p) → ls' ≡ forgot (f.member && not b) p ls → v ≡ 2048 * fact_word f b
-    → Stamped (writes (inst recs f.rec)) 2048 0 v st st' → Forwarded recs ops regs f sus bar p st ls st' ls' b
-forwarded {recs} {st = st} {st' = st'} {f = f} t g e k = record { keeps = t; stamped = subst (λ (x : ℕ). Stamped (writes (inst recs f.rec)) 2048 0 x st st') e k; forgets = g }
+module _ {recs ops regs : List ℕ} {ls : Lasts} {st st' : List ℕ} {f : Fact} {sus bar p v : ℕ} {b : Bool} (t : b ≡ (f.member && stay_test recs ops regs st ls.writes f sus bar p)) (e : v ≡ 2048 * fact_word f b) (k : Stamped (writes (inst recs f.rec)) 2048 0 v st st') where
+  pub forwarded : {ls' : Lasts} → ls' ≡ with_writes (forgot (f.member && not b) p ls.writes) ls → Forwarded recs ops regs f sus bar p st ls st' ls' b
+  forwarded g = record { keeps = t; stamped = subst (λ (x : ℕ). Stamped (writes (inst recs f.rec)) 2048 0 x st st') e k; forgets = g }
+
+  -- dropped, or not
+  pub forwarded_less : {ls' : Lasts} → (f.member && not b) ≡ true → ls' ≡ forgotten p ls → Forwarded recs ops regs f sus bar p st ls st' ls' b
+  unfolding forgot
+  forwarded_less d g = forwarded (g ∙ sym (ap (λ (x : Bool). with_writes (forgot x p ls.writes) ls) d))
+
+  pub forwarded_same : (f.member && not b) ≡ false → Forwarded recs ops regs f sus bar p st ls st' ls b
+  unfolding forgot
+  forwarded_same d = forwarded (sym (ap (λ (x : Bool). with_writes (forgot x p ls.writes) ls) d))
 
 -- what is stamped of it
 module _ (f : Fact) (b : Bool) where

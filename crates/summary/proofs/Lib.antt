@@ -1,3 +1,4 @@
+pub mod Along
 pub mod Backing
 pub mod Forwarding
 pub mod Places

@@ -1,24 +1,25 @@
 -- What the kept positions do, summed up from behind, one position after the other. Assumes nothing.
 use mathlib.Core.Path.{◌≡◌, refl, sym, ap, ap₂, ◌∙◌, subst}
 use mathlib.Core.Logic.{◌⊎◌, inl, inr, ⊎_elim}
-use mathlib.Core.Bool.{Bool, true, false, not, ◌&&◌, ◌||◌, cond, or-false}
+use mathlib.Core.Bool.{Bool, true, false, not, ◌&&◌, cond}
 use mathlib.Core.List.{List}
 use Prim.Native.Nat.{ℕ, zero, suc, ◌+◌, ◌*◌, ◌-◌, ◌/◌, ◌%◌, ◌≤◌, ◌<◌, max}
 use native.Mathlib.Omega.{arith}
-use borrow.Author.Tests.{eq-eqb, ne_eqb, eqb-true, le-leb, lt-leb, not-true, not-false}
+use borrow.Author.Tests.{eq-eqb, ne_eqb, eqb-true, le-leb, lt-leb}
 use lib.Dec.{T, eqb, leb, leb→le}
 use lib.ListN.{get_or, length, set, replicate, length-set, length-replicate}
-use lib.Seq.{get_or-set_same, get_or-set_other, set-get_or}
+use lib.Seq.{get_or-set_same, get_or-set_other}
 use Rattle.words.specs.Last.{last_below}
 use Rattle.words.specs.Lists.{hit}
 use Rattle.words.proofs.Bools.{eq?, lt?, true_T}
-use Rattle.words.proofs.Lasts.{last_ext, last_step, last_low}
+use Rattle.words.proofs.Lasts.{last_step, last_low}
 use Rattle.words.proofs.Lists.{get_or_zeros}
 use Rattle.facts.specs.declared.Fact.{Fact}
 use Rattle.facts.specs.Marks.{fact_in}
 use Rattle.legalset.specs.Chain.{Safe}
 use Rattle.legalset.specs.Rules.{last_kept}
-use Rattle.summary.specs.Passes.{since, noted, later_in, member_in, member_at, forgot, Notes, Noted, Writes, noting}
+use Rattle.summary.specs.declared.notes.Lasts.{Lasts}
+use Rattle.summary.specs.Passes.{since, later_in, member_in, member_at, Notes, Noted, noting, blank, kept_in, with_writes}
 
 -- ---- the record of a position
 
@@ -112,127 +113,98 @@ unfolding later_in
 later_is ls k v e = ap (set ls k) e
 
 -- none is noted
-max_none : (n : ℕ) → max n 0 ≡ n
+pub max_none : (n : ℕ) → n ≡ max n 0
 max_none n = omega arith
 
-later_none : (ls : List ℕ) (k : ℕ) → ls ≡ later_in k 0 ls
-unfolding later_in
-later_none ls k =
-    let e : 1024 * (get_or ls k 0 / 1024) + get_or ls k 0 % 1024 ≡ get_or ls k 0 = omega arith in
-    sym (ap (set ls k) (ap (λ (x : ℕ). 1024 * (get_or ls k 0 / 1024) + x) (max_none (get_or ls k 0 % 1024)) ∙ e) ∙ set-get_or ls k 0)
+-- a barrier, or a suspension, is noted where there is one
+flag_yes : (x e : ℕ) {y : ℕ} {b : Bool} → b ≡ true → y ≡ max x e → y ≡ max x (cond b e 0)
+flag_yes x e t d = d ∙ sym (ap (λ (c : Bool). max x (cond c e 0)) t)
 
-pub later_where : (ls : List ℕ) (k v : ℕ) (b : Bool) {x : List ℕ} → b ≡ true → x ≡ later_in k v ls → x ≡ later_in k (cond b v 0) ls
-later_where ls k v b e d = d ∙ ap (λ (c : Bool). later_in k (cond c v 0) ls) (sym e)
+flag_no : (x e : ℕ) {b : Bool} → b ≡ false → x ≡ max x (cond b e 0)
+flag_no x e t = max_none x ∙ sym (ap (λ (c : Bool). max x (cond c e 0)) t)
 
-pub later_else : (ls : List ℕ) (k v : ℕ) (b : Bool) → b ≡ false → ls ≡ later_in k (cond b v 0) ls
-later_else ls k v b e = later_none ls k ∙ ap (λ (c : Bool). later_in k (cond c v 0) ls) (sym e)
+abbrev lasts_of : List ℕ → ℕ → ℕ → Lasts
+lasts_of ws b s = record { writes = ws; barrier = b; suspension = s }
 
-flag_low : (b : Bool) {q x : ℕ} → q < 800 → x ≡ cond b (q + 1) 0 → x ≤ 800
-flag_low true h e = omega arith
-flag_low false h e = omega arith
+module _ (f : Fact) (q : ℕ) (ls : Lasts) where
+  -- all but the suspension
+  abbrev pub barred : Lasts
+  barred = lasts_of (later_in f.wrote (q + 1) ls.writes) (max ls.barrier (cond f.barrier (q + 1) 0)) ls.suspension
 
-pub three_notes : (ls : List ℕ) (q o : ℕ) (u v : Bool) {k : ℕ} {x y z : List ℕ} → k ≡ o → x ≡ later_in k (q + 1) ls → y ≡ later_in 2006 (cond u (q + 1) 0) x → z ≡ later_in 2007 (cond v (q + 1) 0) y
-    → z ≡ later_in 2007 (cond v (q + 1) 0) (later_in 2006 (cond u (q + 1) 0) (later_in o (q + 1) ls))
-three_notes ls q o u v g h j l = l ∙ ap (later_in 2007 (cond v (q + 1) 0)) (j ∙ ap (later_in 2006 (cond u (q + 1) 0)) (h ∙ ap (λ (c : ℕ). later_in c (q + 1) ls) g))
+  module _ {v : ℕ} (e : v ≡ max (get_or ls.writes f.wrote 0 % 1024) (q + 1)) where
+    wrote : set ls.writes f.wrote (1024 * (get_or ls.writes f.wrote 0 / 1024) + v) ≡ later_in f.wrote (q + 1) ls.writes
+    wrote = later_is ls.writes f.wrote (q + 1) (ap (λ (x : ℕ). 1024 * (get_or ls.writes f.wrote 0 / 1024) + x) e)
 
-pub member_is : (q : ℕ) (ls : List ℕ) → set ls (2 * q + 5) (get_or ls (2 * q + 5) 0 % 1024 + 1024) ≡ member_in q ls
-unfolding member_in
-member_is q ls = refl
+    pub barred_yes : {x : ℕ} → f.barrier ≡ true → x ≡ max ls.barrier (q + 1) → lasts_of (set ls.writes f.wrote (1024 * (get_or ls.writes f.wrote 0 / 1024) + v)) x ls.suspension ≡ barred
+    barred_yes t d = ap₂ (λ (ws : List ℕ) (b : ℕ). lasts_of ws b ls.suspension) wrote (flag_yes ls.barrier (q + 1) t d)
 
-pub forgot_no : (d : Bool) (p : ℕ) (ls : List ℕ) → not d ≡ true → ls ≡ forgot d p ls
-unfolding forgot
-forgot_no d p ls e = sym (ap (λ (b : Bool). cond b (set ls (2 * p + 5) (get_or ls (2 * p + 5) 0 % 1024)) ls) (not-true d e))
+    pub barred_no : f.barrier ≡ false → lasts_of (set ls.writes f.wrote (1024 * (get_or ls.writes f.wrote 0 / 1024) + v)) ls.barrier ls.suspension ≡ barred
+    barred_no t = ap₂ (λ (ws : List ℕ) (b : ℕ). lasts_of ws b ls.suspension) wrote (flag_no ls.barrier (q + 1) t)
 
-pub forgot_yes : (d : Bool) (p : ℕ) (ls : List ℕ) → not d ≡ false → set ls (2 * p + 5) (get_or ls (2 * p + 5) 0 % 1024) ≡ forgot d p ls
-unfolding forgot
-forgot_yes d p ls e = sym (ap (λ (b : Bool). cond b (set ls (2 * p + 5) (get_or ls (2 * p + 5) 0 % 1024)) ls) (not-false d e))
+  module _ {mid : Lasts} (m : mid ≡ barred) where
+    pub suspended_yes : {x : ℕ} → f.suspends ≡ true → x ≡ max mid.suspension (q + 1) → lasts_of mid.writes mid.barrier x ≡ kept_in f q ls
+    suspended_yes t d = ap₂ (λ (y : Lasts) (s : ℕ). lasts_of y.writes y.barrier s) m (flag_yes ls.suspension (q + 1) t (d ∙ ap (λ (y : Lasts). max y.suspension (q + 1)) m))
 
-pub noting_in : (f : Fact) (b : Bool) (q : ℕ) (ls : List ℕ) {ls' : List ℕ} → b ≡ true → ls' ≡ member_in q ls → ls' ≡ noting f b q ls
-unfolding noting
-noting_in f b q ls t e = e ∙ sym (ap (λ (x : Bool). noting f x q ls) t)
+    pub suspended_no : f.suspends ≡ false → mid ≡ kept_in f q ls
+    suspended_no t = m ∙ ap (lasts_of (later_in f.wrote (q + 1) ls.writes) (max ls.barrier (cond f.barrier (q + 1) 0))) (flag_no ls.suspension (q + 1) t)
 
-pub noting_out : (f : Fact) (b : Bool) (q : ℕ) (ls : List ℕ) {ls' : List ℕ} → b ≡ false → ls' ≡ later_in 2007 (cond f.suspends (q + 1) 0) (later_in 2006 (cond f.barrier (q + 1) 0) (later_in f.wrote (q + 1) ls)) → ls' ≡ noting f b q ls
+pub noting_in : (f : Fact) (b : Bool) (q : ℕ) (ls : Lasts) → b ≡ true → with_writes (set ls.writes (2 * q + 5) (get_or ls.writes (2 * q + 5) 0 % 1024 + 1024)) ls ≡ noting f b q ls
+unfolding noting member_in
+noting_in f b q ls t = sym (ap (λ (x : Bool). noting f x q ls) t)
+
+pub noting_out : (f : Fact) (b : Bool) (q : ℕ) (ls : Lasts) {ls' : Lasts} → b ≡ false → ls' ≡ kept_in f q ls → ls' ≡ noting f b q ls
 unfolding noting
 noting_out f b q ls t e = e ∙ sym (ap (λ (x : Bool). noting f x q ls) t)
 
-pub noted_member : (w : List Fact) (L : ℕ → Bool) (q : ℕ) (ls : List ℕ) {ls' : List ℕ} {b : Bool} → b ≡ L q → b ≡ true → length ls ≡ 2008 → q < 800 → ls' ≡ member_in q ls → Noted w L q ls ls'
-unfolding member_in
-noted_member w L q ls {ls'} e t s l d = record {
-  size = ap length d ∙ length-set ls (2 * q + 5) _;
-  each = λ j h. let z : get_or ls j 0 % 1024 ≡ max (get_or ls j 0 % 1024) 0 = omega arith in
-      let y : (get_or ls (2 * q + 5) 0 % 1024 + 1024) % 1024 ≡ get_or ls (2 * q + 5) 0 % 1024 = omega arith in
-      ap (λ (x : List ℕ). get_or x j 0 % 1024) d ∙ (at_parts ls (2 * q + 5) (get_or ls (2 * q + 5) 0 % 1024 + 1024) j (omega arith)).0 ∙ same_at ls (2 * q + 5) j (λ x. x % 1024) y ∙ z
-      ∙ sym (ap (λ (x : Bool). max (get_or ls j 0 % 1024) (cond (not x && noted w j q) (q + 1) 0)) (sym e ∙ t));
-  flags = λ j h. let y : (get_or ls (2 * q + 5) 0 % 1024 + 1024) / 1024 ≡ 1 = omega arith in
-      ap (λ (x : List ℕ). get_or x j 0 / 1024) d ∙ (at_parts ls (2 * q + 5) (get_or ls (2 * q + 5) 0 % 1024 + 1024) j (omega arith)).1
-      ∙ ap (λ (x : ℕ). cond (eqb (2 * q + 5) j) x (get_or ls j 0 / 1024)) y ∙ sym (ap (λ (x : Bool). cond (x && eqb (2 * q + 5) j) 1 (get_or ls j 0 / 1024)) (sym e ∙ t));
-}
+module _ (w : List Fact) (L : ℕ → Bool) (q : ℕ) (ls : Lasts) {ls' : Lasts} {b : Bool} (e : b ≡ L q) (s : length ls.writes ≡ 2006) (l : q < 800) where
+  pub noted_member : b ≡ true → ls' ≡ with_writes (member_in q ls.writes) ls → Noted w L q ls ls'
+  unfolding member_in
+  noted_member t d = record {
+    size = ap (λ (x : Lasts). length x.writes) d ∙ length-set ls.writes (2 * q + 5) _;
+    each = λ j h.
+        let y : (get_or ls.writes (2 * q + 5) 0 % 1024 + 1024) % 1024 ≡ get_or ls.writes (2 * q + 5) 0 % 1024 = omega arith in
+        ap (λ (x : Lasts). get_or x.writes j 0 % 1024) d ∙ (at_parts ls.writes (2 * q + 5) (get_or ls.writes (2 * q + 5) 0 % 1024 + 1024) j (omega arith)).0 ∙ same_at ls.writes (2 * q + 5) j (λ x. x % 1024) y
+        ∙ out (get_or ls.writes j 0 % 1024) (eqb (fact_in w q).wrote j);
+    flags = λ j h.
+        let y : (get_or ls.writes (2 * q + 5) 0 % 1024 + 1024) / 1024 ≡ 1 = omega arith in
+        ap (λ (x : Lasts). get_or x.writes j 0 / 1024) d ∙ (at_parts ls.writes (2 * q + 5) (get_or ls.writes (2 * q + 5) 0 % 1024 + 1024) j (omega arith)).1
+        ∙ ap (λ (x : ℕ). cond (eqb (2 * q + 5) j) x (get_or ls.writes j 0 / 1024)) y ∙ sym (ap (λ (x : Bool). cond (x && eqb (2 * q + 5) j) 1 (get_or ls.writes j 0 / 1024)) (sym e ∙ t));
+    barrier = ap (λ (x : Lasts). x.barrier) d ∙ out ls.barrier (fact_in w q).barrier;
+    suspension = ap (λ (x : Lasts). x.suspension) d ∙ out ls.suspension (fact_in w q).suspends;
+  }
+    where
+      -- a member notes nothing else
+      out : (x : ℕ) (c : Bool) → x ≡ max x (cond (not (L q) && c) (q + 1) 0)
+      out x c = max_none x ∙ sym (ap (λ (y : Bool). max x (cond (not y && c) (q + 1) 0)) (sym e ∙ t))
 
--- three notes are one
-three : (x e : ℕ) (a b f c g : Bool) → max (max (max x (cond a e 0)) (cond b (cond f e 0) 0)) (cond c (cond g e 0) 0) ≡ max x (cond ((a || (b && f)) || (c && g)) e 0)
-three x e true b f c g = top (cond b (cond f e 0) 0) (cond c (cond g e 0) 0) (low b f) (low c g)
-  where
-    low : (b f : Bool) → cond b (cond f e 0) 0 ≤ e
-    low true true = omega arith
-    low true false = omega arith
-    low false f = omega arith
-
-    top : (y z : ℕ) → y ≤ e → z ≤ e → max (max (max x e) y) z ≡ max x e
-    top y z h k = omega arith
-three x e false true true c g = top (cond c (cond g e 0) 0) (low c g)
-  where
-    low : (b f : Bool) → cond b (cond f e 0) 0 ≤ e
-    low true true = omega arith
-    low true false = omega arith
-    low false f = omega arith
-
-    top : (z : ℕ) → z ≤ e → max (max (max x 0) e) z ≡ max x e
-    top z k = omega arith
-three x e false true false true true = omega arith
-three x e false true false true false = omega arith
-three x e false true false false g = omega arith
-three x e false false f true true = omega arith
-three x e false false f true false = omega arith
-three x e false false f false g = omega arith
-
-pub noted_all : (w : List Fact) (L : ℕ → Bool) (q : ℕ) (ls : List ℕ) {ls' : List ℕ} {y : Bool} → y ≡ L q → y ≡ false → length ls ≡ 2008 → q < 800 → (fact_in w q).wrote ≤ 2004
-    → ls' ≡ later_in 2007 (cond (fact_in w q).suspends (q + 1) 0) (later_in 2006 (cond (fact_in w q).barrier (q + 1) 0) (later_in (fact_in w q).wrote (q + 1) ls)) → Noted w L q ls ls'
-unfolding noted
-noted_all w L q ls {ls'} e t s l h d = record {
-  size = ap length d ∙ later_size two 2007 (cond (fact_in w q).suspends (q + 1) 0) ∙ two_size;
-  each = λ j i.
-      ap (λ (x : List ℕ). get_or x j 0 % 1024) d ∙ later_low two 2007 (cond (fact_in w q).suspends (q + 1) 0) j (omega (arith, s, two_size)) (flag_low (fact_in w q).suspends l refl)
-      ∙ ap (λ (x : ℕ). max x (cond (eqb 2007 j) (cond (fact_in w q).suspends (q + 1) 0) 0)) (later_low one 2006 (cond (fact_in w q).barrier (q + 1) 0) j (omega (arith, s, one_size)) (flag_low (fact_in w q).barrier l refl)
-      ∙ ap (λ (x : ℕ). max x (cond (eqb 2006 j) (cond (fact_in w q).barrier (q + 1) 0) 0)) (later_low ls (fact_in w q).wrote (q + 1) j (omega arith) (omega arith)))
-      ∙ three (get_or ls j 0 % 1024) (q + 1) (eqb (fact_in w q).wrote j) (eqb 2006 j) (fact_in w q).barrier (eqb 2007 j) (fact_in w q).suspends
-      ∙ ap (λ (x : Bool). max (get_or ls j 0 % 1024) (cond (not x && ((eqb (fact_in w q).wrote j || (eqb 2006 j && (fact_in w q).barrier)) || (eqb 2007 j && (fact_in w q).suspends))) (q + 1) 0)) (sym t ∙ e);
-  flags = λ j i.
-      ap (λ (x : List ℕ). get_or x j 0 / 1024) d ∙ later_high two 2007 (cond (fact_in w q).suspends (q + 1) 0) j (omega (arith, s, two_size)) (flag_low (fact_in w q).suspends l refl)
-      ∙ later_high one 2006 (cond (fact_in w q).barrier (q + 1) 0) j (omega (arith, s, one_size)) (flag_low (fact_in w q).barrier l refl) ∙ later_high ls (fact_in w q).wrote (q + 1) j (omega arith) (omega arith)
-      ∙ ap (λ (x : Bool). cond (x && eqb (2 * q + 5) j) 1 (get_or ls j 0 / 1024)) (sym t ∙ e);
-}
-  where
-    one : List ℕ
-    one = later_in (fact_in w q).wrote (q + 1) ls
-
-    one_size : length one ≡ length ls
-    one_size = later_size ls (fact_in w q).wrote (q + 1)
-
-    two : List ℕ
-    two = later_in 2006 (cond (fact_in w q).barrier (q + 1) 0) one
-
-    two_size : length two ≡ length ls
-    two_size = later_size one 2006 (cond (fact_in w q).barrier (q + 1) 0) ∙ one_size
+  pub noted_kept : b ≡ false → (fact_in w q).wrote ≤ 2004 → ls' ≡ kept_in (fact_in w q) q ls → Noted w L q ls ls'
+  noted_kept t h d = record {
+    size = ap (λ (x : Lasts). length x.writes) d ∙ later_size ls.writes (fact_in w q).wrote (q + 1);
+    each = λ j i. ap (λ (x : Lasts). get_or x.writes j 0 % 1024) d ∙ later_low ls.writes (fact_in w q).wrote (q + 1) j (omega arith) (omega arith) ∙ its (get_or ls.writes j 0 % 1024) (eqb (fact_in w q).wrote j);
+    flags = λ j i.
+        ap (λ (x : Lasts). get_or x.writes j 0 / 1024) d ∙ later_high ls.writes (fact_in w q).wrote (q + 1) j (omega arith) (omega arith)
+        ∙ ap (λ (x : Bool). cond (x && eqb (2 * q + 5) j) 1 (get_or ls.writes j 0 / 1024)) (sym t ∙ e);
+    barrier = ap (λ (x : Lasts). x.barrier) d ∙ its ls.barrier (fact_in w q).barrier;
+    suspension = ap (λ (x : Lasts). x.suspension) d ∙ its ls.suspension (fact_in w q).suspends;
+  }
+    where
+      its : (x : ℕ) (c : Bool) → max x (cond c (q + 1) 0) ≡ max x (cond (not (L q) && c) (q + 1) 0)
+      its x c = ap (λ (y : Bool). max x (cond (not y && c) (q + 1) 0)) (sym t ∙ e)
 
 -- no member from n on
-pub notes_none : (w : List Fact) (L : ℕ → Bool) (n : ℕ) {ls : List ℕ} → ls ≡ replicate 2008 0 → ((x : ℕ) → n ≤ x → L x ≡ false) → Notes w L n n ls
+pub notes_none : (w : List Fact) (L : ℕ → Bool) (n : ℕ) {ls : Lasts} → ls ≡ blank → ((x : ℕ) → n ≤ x → L x ≡ false) → Notes w L n n ls
 unfolding since member_at
 notes_none w L n {ls} e f = record {
-  size = ap length e ∙ length-replicate {A = ℕ} 2008 0;
-  each = λ j h. let z : 0 ≡ n - n = omega arith in ap (λ (l : List ℕ). get_or l j 0 % 1024) e ∙ ap (λ (y : ℕ). y % 1024) (get_or_zeros 2008 j) ∙ ap (since (λ z. not (L z) && noted w j z) n) z;
-  flags = λ j h. ap (λ (l : List ℕ). get_or l j 0 / 1024) e ∙ ap (λ (y : ℕ). y / 1024) (get_or_zeros 2008 j) ∙ none (leb 5 j && eqb (j % 2) 1) (leb n ((j - 5) / 2)) (L ((j - 5) / 2)) (λ t. f ((j - 5) / 2) (leb→le n ((j - 5) / 2) t));
+  size = ap (λ (l : Lasts). length l.writes) e ∙ length-replicate {A = ℕ} 2006 0;
+  each = λ j h. ap (λ (l : Lasts). get_or l.writes j 0 % 1024) e ∙ ap (λ (y : ℕ). y % 1024) (get_or_zeros 2006 j) ∙ ends (λ z. eqb (fact_in w z).wrote j);
+  flags = λ j h. ap (λ (l : Lasts). get_or l.writes j 0 / 1024) e ∙ ap (λ (y : ℕ). y / 1024) (get_or_zeros 2006 j) ∙ none (leb 5 j && eqb (j % 2) 1) (leb n ((j - 5) / 2)) (L ((j - 5) / 2)) (λ t. f ((j - 5) / 2) (leb→le n ((j - 5) / 2) t));
+  barrier = ap (λ (l : Lasts). l.barrier) e ∙ ends (λ z. (fact_in w z).barrier);
+  suspension = ap (λ (l : Lasts). l.suspension) e ∙ ends (λ z. (fact_in w z).suspends);
 }
   where
+    ends : (g : ℕ → Bool) → 0 ≡ since (λ z. not (L z) && g z) n (n - n)
+    ends g = let z : 0 ≡ n - n = omega arith in ap (since (λ z. not (L z) && g z) n) z
+
     none : (a b c : Bool) → (T b → c ≡ false) → 0 ≡ hit (a && (b && c))
     none false b c k = refl
     none true false c k = refl
@@ -282,42 +254,27 @@ member_step L M q j same = go (eq? (2 * q + 5) j)
         ∙ rest (M q) (hit ((leb 5 j && eqb (j % 2) 1) && (leb (q + 1) ((j - 5) / 2) && L ((j - 5) / 2)))) ∙ other (leb 5 j) (eqb (j % 2) 1) refl refl n
 
 -- position q besides, where the sets are the same behind it
-pub notes_more : {w : List Fact} {L M : ℕ → Bool} {n q : ℕ} {ls ls' : List ℕ} → q < n → ((z : ℕ) → suc q ≤ z → L z ≡ M z) → Notes w L n (q + 1) ls → Noted w M q ls ls' → Notes w M n q ls'
+pub notes_more : {w : List Fact} {L M : ℕ → Bool} {n q : ℕ} {ls ls' : Lasts} → q < n → ((z : ℕ) → suc q ≤ z → L z ≡ M z) → Notes w L n (q + 1) ls → Noted w M q ls ls' → Notes w M n q ls'
 unfolding since
 notes_more {w} {L} {M} {n} {q} {ls} {ls'} h same i k = record {
   size = k.size ∙ i.size;
-  each = one;
+  each = λ j l. one (λ z. eqb (fact_in w z).wrote j) (k.each j l) (i.each j l);
   flags = λ j l. k.flags j l ∙ ap (cond (M q && eqb (2 * q + 5) j) 1) (i.flags j l) ∙ member_step L M q j same;
+  barrier = one (λ z. (fact_in w z).barrier) k.barrier i.barrier;
+  suspension = one (λ z. (fact_in w z).suspends) k.suspension i.suspension;
 }
   where
-    one : (j : ℕ) → j < 2008 → get_or ls' j 0 % 1024 ≡ since (λ z. not (M z) && noted w j z) q (n - q)
-    one j l =
+    one : (f : ℕ → Bool) {x y : ℕ} → y ≡ max x (cond (not (M q) && f q) (q + 1) 0) → x ≡ since (λ z. not (L z) && f z) (q + 1) (n - (q + 1)) → y ≡ since (λ z. not (M z) && f z) q (n - q)
+    one f a b =
         let e : suc (n - (q + 1)) ≡ n - q = omega arith in
         let d : q + 1 ≡ suc q = omega arith in
-        k.each j l
-        ∙ ap (λ (x : ℕ). max x (cond (not (M q) && noted w j q) (q + 1) 0)) (i.each j l ∙ ap (λ (x : ℕ). since (λ z. not (L z) && noted w j z) x (n - (q + 1))) d
-        ∙ since_ext (λ z. not (L z) && noted w j z) (λ z. not (M z) && noted w j z) (suc q) (n - (q + 1)) (λ z u. ap (λ (b : Bool). not b && noted w j z) (same z u)))
-        ∙ ap (since (λ z. not (M z) && noted w j z) q) e
+        a
+        ∙ ap (λ (x : ℕ). max x (cond (not (M q) && f q) (q + 1) 0)) (b ∙ ap (λ (x : ℕ). since (λ z. not (L z) && f z) x (n - (q + 1))) d
+        ∙ since_ext (λ z. not (L z) && f z) (λ z. not (M z) && f z) (suc q) (n - (q + 1)) (λ z u. ap (λ (b : Bool). not b && f z) (same z u)))
+        ∙ ap (since (λ z. not (M z) && f z) q) e
 
 -- ---- the whole chain
 
-module _ {recs ops : List ℕ} {w : List Fact} {L : ℕ → Bool} {n R : ℕ} {ls : List ℕ} (s : Safe recs ops w n R) (i : Notes w L n 0 ls) where
-  word_is : (j : ℕ) → j < 2008 → (f : ℕ → Bool) → ((z : ℕ) → z < n → noted w j z ≡ f z) → get_or ls j 0 % 1024 ≡ last_kept L f n
-  unfolding last_kept
-  word_is j h f e = i.each j h ∙ since_all (λ z. not (L z) && noted w j z) n ∙ last_ext (λ z. not (L z) && noted w j z) (λ z. not (L z) && f z) n (λ z l. ap (λ (b : Bool). not (L z) && b) (e z l))
-
-  pub notes_writes : Writes (λ q. (fact_in w q).wrote) L n ls
-  unfolding noted
-  notes_writes = record {
-    each = λ o h. word_is o (omega arith) (λ q. eqb (fact_in w q).wrote o) (λ z l.
-        ap (λ (b : Bool). (eqb (fact_in w z).wrote o || (b && (fact_in w z).barrier)) || (eqb 2007 o && (fact_in w z).suspends)) (ne_eqb 2006 o (λ e. omega arith))
-        ∙ ap (λ (b : Bool). (eqb (fact_in w z).wrote o || false) || (b && (fact_in w z).suspends)) (ne_eqb 2007 o (λ e. omega arith)) ∙ or-false (eqb (fact_in w z).wrote o || false) ∙ or-false (eqb (fact_in w z).wrote o));
-  }
-
-  pub notes_barrier : get_or ls 2006 0 % 1024 ≡ last_kept L (λ z. (fact_in w z).barrier) n
-  unfolding noted
-  notes_barrier = word_is 2006 (omega arith) (λ z. (fact_in w z).barrier) (λ z l. let k = s.wrote z l in ap (λ (b : Bool). (b || (fact_in w z).barrier) || false) (ne_eqb (fact_in w z).wrote 2006 (λ e. omega arith)) ∙ or-false (fact_in w z).barrier)
-
-  pub notes_suspension : get_or ls 2007 0 % 1024 ≡ last_kept L (λ z. (fact_in w z).suspends) n
-  unfolding noted
-  notes_suspension = word_is 2007 (omega arith) (λ z. (fact_in w z).suspends) (λ z l. let k = s.wrote z l in ap (λ (b : Bool). (b || false) || (fact_in w z).suspends) (ne_eqb (fact_in w z).wrote 2007 (λ e. omega arith)))
+pub since_kept : (L : ℕ → Bool) (f : ℕ → Bool) (n : ℕ) {x : ℕ} → x ≡ since (λ z. not (L z) && f z) 0 (n - 0) → x ≡ last_kept L f n
+unfolding last_kept
+since_kept L f n e = e ∙ since_all (λ z. not (L z) && f z) n

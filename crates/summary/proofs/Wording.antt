@@ -18,6 +18,7 @@ use Rattle.inst.specs.Record.{present}
 use Rattle.inst.proofs.Indices.{among_of, word_of_reg}
 use Rattle.facts.specs.declared.Fact.{Fact}
 use Rattle.legalset.specs.Chain.{Safe, Brief}
+use Rattle.summary.specs.declared.notes.Lasts.{Lasts}
 use Rattle.summary.specs.Passes.{put_in, kept_word, noting, Stamped, Awaited, Backed, Beside, Written, Readable, Small, Shows, own_def, own_uses}
 use Rattle.summary.proofs.Places.{Placed, all_placed, made, present_in, reads_low}
 use Rattle.summary.proofs.Stamping.{Stamping, stamping_none, stamping_more, stamping_end}
@@ -122,7 +123,7 @@ uses_all f {recs} {ops} {R} a e =
     ∙ sym is
 
 -- the step from behind, by the fact
-pub backed_by : (f : Fact) {recs ops : List ℕ} {q k : ℕ} {st mid st' ls ls' : List ℕ} {b : Bool} → Written recs (length st) f.rec f.def f.more → Readable recs ops (length st) f → f.more ≡ false
+pub backed_by : (f : Fact) {recs ops : List ℕ} {q k : ℕ} {st mid st' : List ℕ} {ls ls' : Lasts} {b : Bool} → Written recs (length st) f.rec f.def f.more → Readable recs ops (length st) f → f.more ≡ false
     → b ≡ (f.member && all (λ x. leb (get_or st x 0) 1023) (own_def (length st) f)) → k ≡ kept_word b q → Stamped (own_def (length st) f) 1024 k 0 st mid → Awaited (own_uses (length mid) f) b mid st' → ls' ≡ noting f b q ls
     → Backed recs ops f q st ls st' ls' b
 backed_by f {st = st} {mid = mid} {st' = st'} {b = b} w r e t k s a n =

@@ -1,5 +1,5 @@
 -- What the parts of a pass require and ensure. Assumes nothing.
-use Rattle.std.specs.Prelude.{◌≡◌, ◌⊎◌, Option, Bool, false, not, ◌&&◌, ◌||◌, cond, List, [], ◌∷◌, ◌++◌, map, ℕ, zero, suc, ◌+◌, ◌*◌, ◌-◌, ◌/◌, ◌%◌, ◌≤◌, ◌<◌, max, eqb, leb, ltb, get_or, length, set, take, drop}
+use Rattle.std.specs.Prelude.{◌≡◌, ◌⊎◌, Option, Bool, false, not, ◌&&◌, ◌||◌, cond, List, [], ◌∷◌, ◌++◌, map, replicate, ℕ, zero, suc, ◌+◌, ◌*◌, ◌-◌, ◌/◌, ◌%◌, ◌≤◌, ◌<◌, max, eqb, leb, ltb, get_or, length, set, take, drop}
 use Rattle.words.specs.Lists.{mem, hit, all, conj, member, count}
 use Rattle.words.specs.Bits.{is_in}
 use Rattle.model.specs.Picture.{Inst, inst, absent, reads, writes, list_of}
@@ -11,6 +11,7 @@ use Rattle.inst.specs.Record.{Known, present, read_at}
 use Rattle.facts.specs.declared.Fact as F
 use Rattle.facts.specs.Marks.{fact_in, marked}
 use Rattle.regfacts.specs.Written.{Fits, Good}
+use Rattle.summary.specs.declared.notes.Lasts.{Lasts}
 use Rattle.legalset.specs.Chain.{writer, defs_of, reg_org, picked, Told}
 use Rattle.legalset.specs.Marks.{in_set}
 use Rattle.legalset.specs.Rules.{last_kept, org_fine, still_fine, pending}
@@ -85,8 +86,8 @@ pub record Stamps (w : List F.Fact) (defs : ℕ → List ℕ) (L₀ L : ℕ → 
   pub wrote : (r : ℕ) → r < length st → get_or st r 0 / 2048 ≡ writer_word w L (writer defs r p)
 
 -- the last kept write of each origin and 1
-pub record Writes (wrote : ℕ → ℕ) (L : ℕ → Bool) (n : ℕ) (lasts : List ℕ) : Type 0 where
-  pub each : (o : ℕ) → o < 2006 → get_or lasts o 0 % 1024 ≡ last_kept L (λ q. eqb (wrote q) o) n
+pub record Writes (wrote : ℕ → ℕ) (L : ℕ → Bool) (n : ℕ) (writes : List ℕ) : Type 0 where
+  pub each : (o : ℕ) → o < 2006 → get_or writes o 0 % 1024 ≡ last_kept L (λ q. eqb (wrote q) o) n
 
 -- ---- the same from behind
 
@@ -99,19 +100,22 @@ since f q (suc k) = max (since f (suc q) k) (cond (f q) (q + 1) 0)
 pub record Awaits (defs reads : ℕ → List ℕ) (L : ℕ → Bool) (n q : ℕ) (st : List ℕ) : Type 0 where
   pub each : (r : ℕ) → r < length st → get_or st r 0 ≡ since (λ z. not (L z) && mem r (defs z)) q (n - q) + 1024 * hit (pending defs reads L r q (n - q))
 
--- what is noted in word j of position z: memory that it writes, by its number; in 2006 a barrier, in 2007 a suspension
-unfoldable pub noted : List F.Fact → ℕ → ℕ → Bool
-noted w j z = (eqb (fact_in w z).wrote j || (eqb 2006 j && (fact_in w z).barrier)) || (eqb 2007 j && (fact_in w z).suspends)
-
 -- j is the number of Temp of a position from q on that is in L, as memory written
 unfoldable pub member_at : (ℕ → Bool) → ℕ → ℕ → Bool
 member_at L q j = (leb 5 j && eqb (j % 2) 1) && (leb q ((j - 5) / 2) && L ((j - 5) / 2))
 
--- the last kept position from q on, and 1, in each word, and 1024 if it is of Temp of a member from q on
-pub record Notes (w : List F.Fact) (L : ℕ → Bool) (n q : ℕ) (lasts : List ℕ) : Type 0 where
-  pub size : length lasts ≡ 2008
-  pub each : (j : ℕ) → j < 2008 → get_or lasts j 0 % 1024 ≡ since (λ z. not (L z) && noted w j z) q (n - q)
-  pub flags : (j : ℕ) → j < 2008 → get_or lasts j 0 / 1024 ≡ hit (member_at L q j)
+-- the last position from q on, and 1, that L does not keep in the set and that is one of f
+abbrev pub kept_since : (ℕ → Bool) → (ℕ → Bool) → ℕ → ℕ → ℕ
+kept_since L f n q = since (λ z. not (L z) && f z) q (n - q)
+
+-- the last kept position from q on that does it, and 1, for each memory written, by its number, for a barrier and for a suspension;
+-- and 1024 for memory that is Temp of a member from q on
+pub record Notes (w : List F.Fact) (L : ℕ → Bool) (n q : ℕ) (lasts : Lasts) : Type 0 where
+  pub size : length lasts.writes ≡ 2006
+  pub each : (j : ℕ) → j < 2006 → get_or lasts.writes j 0 % 1024 ≡ kept_since L (λ z. eqb (fact_in w z).wrote j) n q
+  pub flags : (j : ℕ) → j < 2006 → get_or lasts.writes j 0 / 1024 ≡ hit (member_at L q j)
+  pub barrier : lasts.barrier ≡ kept_since L (λ z. (fact_in w z).barrier) n q
+  pub suspension : lasts.suspension ≡ kept_since L (λ z. (fact_in w z).suspends) n q
 
 -- ---- the tests at p by these words
 
@@ -169,26 +173,33 @@ stay_test recs ops regs st lasts f sus bar p =
 
 -- p is no member any more, if it was dropped
 unfoldable pub forgot : Bool → ℕ → List ℕ → List ℕ
-forgot dropped p lasts = cond dropped (set lasts (2 * p + 5) (get_or lasts (2 * p + 5) 0 % 1024)) lasts
+forgot dropped p ws = cond dropped (set ws (2 * p + 5) (get_or ws (2 * p + 5) 0 % 1024)) ws
+
+-- the same notes, but for the writes
+abbrev pub with_writes : List ℕ → Lasts → Lasts
+with_writes ws ls = record { writes = ws; barrier = ls.barrier; suspension = ls.suspension }
+
+abbrev pub forgotten : ℕ → Lasts → Lasts
+forgotten p ls = with_writes (set ls.writes (2 * p + 5) (get_or ls.writes (2 * p + 5) 0 % 1024)) ls
 
 -- what is stamped of the position of fact f, which is in the set or not
 unfoldable pub fact_word : F.Fact → Bool → ℕ
 fact_word f in? = 1 + 2 * hit in? + 4 * f.org
 
 -- position p of fact f was looked at: st and lasts after those before, and whether it stays in the set
-pub record Forwarded (recs ops regs : List ℕ) (f : F.Fact) (sus bar p : ℕ) (st lasts st' lasts' : List ℕ) (keep : Bool) : Type 0 where
-  pub keeps : keep ≡ (f.member && stay_test recs ops regs st lasts f sus bar p)
+pub record Forwarded (recs ops regs : List ℕ) (f : F.Fact) (sus bar p : ℕ) (st : List ℕ) (lasts : Lasts) (st' : List ℕ) (lasts' : Lasts) (keep : Bool) : Type 0 where
+  pub keeps : keep ≡ (f.member && stay_test recs ops regs st lasts.writes f sus bar p)
   pub stamped : Stamped (writes (inst recs f.rec)) 2048 0 (2048 * fact_word f keep) st st'
-  pub forgets : lasts' ≡ forgot (f.member && not keep) p lasts
+  pub forgets : lasts' ≡ with_writes (forgot (f.member && not keep) p lasts.writes) lasts
 
 -- the summary of the marks, with the writers before p
-pub record Summed (recs : List ℕ) (w : List F.Fact) (n p : ℕ) (st lasts marks : List ℕ) : Type 0 where
+pub record Summed (recs : List ℕ) (w : List F.Fact) (n p : ℕ) (st : List ℕ) (lasts : Lasts) (marks : List ℕ) : Type 0 where
   pub stamps : Stamps w (defs_of recs w) (in_set marks) (in_set marks) n p st
-  pub size : length lasts ≡ 2008
-  pub writes : Writes (λ q. (fact_in w q).wrote) (in_set marks) n lasts
-  pub flags : (j : ℕ) → j < 2006 → get_or lasts j 0 / 1024 ≡ hit (member_at (in_set marks) 0 j)
-  pub barrier : get_or lasts 2006 0 % 1024 ≡ last_kept (in_set marks) (λ z. (fact_in w z).barrier) n
-  pub suspension : get_or lasts 2007 0 % 1024 ≡ last_kept (in_set marks) (λ z. (fact_in w z).suspends) n
+  pub size : length lasts.writes ≡ 2006
+  pub writes : Writes (λ q. (fact_in w q).wrote) (in_set marks) n lasts.writes
+  pub flags : (j : ℕ) → j < 2006 → get_or lasts.writes j 0 / 1024 ≡ hit (member_at (in_set marks) 0 j)
+  pub barrier : lasts.barrier ≡ last_kept (in_set marks) (λ z. (fact_in w z).barrier) n
+  pub suspension : lasts.suspension ≡ last_kept (in_set marks) (λ z. (fact_in w z).suspends) n
 
 -- q and 1, if q is kept
 unfoldable pub kept_word : Bool → ℕ → ℕ
@@ -196,17 +207,23 @@ kept_word in? q = cond in? 0 (q + 1)
 
 -- a later position in word k stays
 unfoldable pub later_in : ℕ → ℕ → List ℕ → List ℕ
-later_in k v ls = set ls k (1024 * (get_or ls k 0 / 1024) + max (get_or ls k 0 % 1024) v)
+later_in k v ws = set ws k (1024 * (get_or ws k 0 / 1024) + max (get_or ws k 0 % 1024) v)
 
 -- q is a member
 unfoldable pub member_in : ℕ → List ℕ → List ℕ
-member_in q ls = set ls (2 * q + 5) (get_or ls (2 * q + 5) 0 % 1024 + 1024)
+member_in q ws = set ws (2 * q + 5) (get_or ws (2 * q + 5) 0 % 1024 + 1024)
+
+-- nothing is noted
+abbrev pub blank : Lasts
+blank = record { writes = replicate 2006 0; barrier = 0; suspension = 0 }
 
 -- what q does is noted, if q is kept, else that it is a member
-pub record Noted (w : List F.Fact) (L : ℕ → Bool) (q : ℕ) (before after : List ℕ) : Type 0 where
-  pub size : length after ≡ length before
-  pub each : (j : ℕ) → j < 2008 → get_or after j 0 % 1024 ≡ max (get_or before j 0 % 1024) (cond (not (L q) && noted w j q) (q + 1) 0)
-  pub flags : (j : ℕ) → j < 2008 → get_or after j 0 / 1024 ≡ cond (L q && eqb (2 * q + 5) j) 1 (get_or before j 0 / 1024)
+pub record Noted (w : List F.Fact) (L : ℕ → Bool) (q : ℕ) (before after : Lasts) : Type 0 where
+  pub size : length after.writes ≡ length before.writes
+  pub each : (j : ℕ) → j < 2006 → get_or after.writes j 0 % 1024 ≡ max (get_or before.writes j 0 % 1024) (cond (not (L q) && eqb (fact_in w q).wrote j) (q + 1) 0)
+  pub flags : (j : ℕ) → j < 2006 → get_or after.writes j 0 / 1024 ≡ cond (L q && eqb (2 * q + 5) j) 1 (get_or before.writes j 0 / 1024)
+  pub barrier : after.barrier ≡ max before.barrier (cond (not (L q) && (fact_in w q).barrier) (q + 1) 0)
+  pub suspension : after.suspension ≡ max before.suspension (cond (not (L q) && (fact_in w q).suspends) (q + 1) 0)
 
 -- what q reads, the registers of l, is awaited, if q is kept
 pub record Awaited (l : List ℕ) (in? : Bool) (before after : List ℕ) : Type 0 where
@@ -214,11 +231,14 @@ pub record Awaited (l : List ℕ) (in? : Bool) (before after : List ℕ) : Type 
   pub each : (r : ℕ) → r < length before → get_or after r 0 ≡ stamp 1024 0 1024 (not in? && mem r l) (get_or before r 0)
 
 -- what the position of fact f does, if it is kept; else that it is a member
-unfoldable pub noting : F.Fact → Bool → ℕ → List ℕ → List ℕ
-noting f in? q ls = cond in? (member_in q ls) (later_in 2007 (cond f.suspends (q + 1) 0) (later_in 2006 (cond f.barrier (q + 1) 0) (later_in f.wrote (q + 1) ls)))
+abbrev pub kept_in : F.Fact → ℕ → Lasts → Lasts
+kept_in f q ls = record { writes = later_in f.wrote (q + 1) ls.writes; barrier = max ls.barrier (cond f.barrier (q + 1) 0); suspension = max ls.suspension (cond f.suspends (q + 1) 0) }
+
+unfoldable pub noting : F.Fact → Bool → ℕ → Lasts → Lasts
+noting f in? q ls = cond in? (with_writes (member_in q ls.writes) ls) (kept_in f q ls)
 
 -- position q of fact f was looked at from behind: st and lasts after those before, and whether it stays in the set
-pub record Backed (recs ops : List ℕ) (f : F.Fact) (q : ℕ) (st ls st' ls' : List ℕ) (keep : Bool) : Type 0 where
+pub record Backed (recs ops : List ℕ) (f : F.Fact) (q : ℕ) (st : List ℕ) (ls : Lasts) (st' : List ℕ) (ls' : Lasts) (keep : Bool) : Type 0 where
   pub keeps : keep ≡ (f.member && all (λ x. leb (get_or st x 0) 1023) (writes (inst recs f.rec)))
   pub size : length st' ≡ length st
   pub each : (x : ℕ) → x < length st

@@ -1,57 +1,28 @@
-// What the kept positions of a set do, noted from behind (01, "The legal set": "kept" is outside the set in the whole chain): the last
-// kept write of each origin, in word BARRIER the last kept barrier, in SUSPENSION the last kept position that may suspend, each and 1.
-// The word of Temp of a member, as memory written, has MEMBER besides.
-ghost use Rattle.std.specs.Prelude.{◌≡◌, cond, ◌+◌, ◌*◌, ◌/◌, ◌%◌, ◌<◌, ◌≤◌, max};
-ghost use Rattle.summary.specs.Passes.{later_in, member_in, noting, forgot};
+// What the kept positions of a set do, noted from behind (01, "The legal set": "kept" is outside the set in the whole chain). Memory goes
+// by its number in a Fact: 0 for none, else its origin and 1.
+// (A position stays a number here and in what goes by the notes, and `q < 800` is asked beside it: in a type of its own, with the bound
+// inside, each loop over positions would have to show the bound again where it makes one, and to take the number out to count with it.)
+ghost use Rattle.std.specs.Prelude.{◌≡◌, ◌+◌, ◌*◌, ◌%◌, ◌<◌, ◌≤◌, leb, get_or};
+ghost use Rattle.summary.specs.Passes.{later_in, noting, blank, kept_in, forgotten};
 
 use facts::Fact;
 
-// Behind the words of the origins.
-pub const BARRIER: usize = 2006;
-
-pub const SUSPENSION: usize = 2007;
+// The numbers of memory go up to 2004.
+const WRITES: usize = 2006;
 
 // Above a position and 1.
-pub const MEMBER: u32 = 1024;
+const MEMBER: u32 = 1024;
 
-// The word x with the later of two positions, v and the one that stands there.
-fn later(x: u32, v: u32) -> u32
-    requires { v ≤ 800 }
-    ensures { result ≡ 1024 * (x / 1024) + max (x % 1024) v }
-{
-    MEMBER * (x / MEMBER) + (x % MEMBER).max(v)
+// The last kept write of each memory, the last kept barrier and the last kept position that may suspend, each and 1, or 0 for none. The
+// word of a member's Temp has MEMBER besides.
+#[derive(Drop)]
+pub struct Lasts {
+    pub writes: [u32; WRITES],
+    pub barrier: u32,
+    pub suspension: u32,
 }
 
-// Position v - 1 is noted in word k, unless a later one is.
-fn note(lasts: &mut [u32; 2008], k: usize, v: u32)
-    requires { (k < 2008) × (v ≤ 800) }
-    ensures { lasts.new ≡ later_in k v lasts.old }
-{
-    lasts[k] = later(lasts[k], v);
-}
-
-// Position v - 1 is noted in word k where b holds, unless a later one is.
-fn note_where(lasts: &mut [u32; 2008], k: usize, b: bool, v: u32)
-    requires { (k < 2008) × (v ≤ 800) }
-    ensures { lasts.new ≡ later_in k (cond b v 0) lasts.old }
-{
-    if b {
-        note(lasts, k, v);
-    }
-}
-
-// What position q, of fact f, does is noted.
-fn note_all(f: Fact, lasts: &mut [u32; 2008], q: usize)
-    requires { (q < 800) × (f.wrote ≤ 2004) }
-    ensures { lasts.new ≡ later_in 2007 (cond f.suspends (q + 1) 0) (later_in 2006 (cond f.barrier (q + 1) 0) (later_in f.wrote (q + 1) lasts.old)) }
-{
-    let e = q as u32 + 1;
-    note(lasts, f.wrote as usize, e);
-    note_where(lasts, BARRIER, f.barrier, e);
-    note_where(lasts, SUSPENSION, f.suspends, e);
-}
-
-// The word of Temp of position q, as memory written.
+// The number of memory of position q's Temp.
 fn temp(q: usize) -> usize
     requires { q < 800 }
     ensures { result ≡ 2 * q + 5 }
@@ -59,33 +30,77 @@ fn temp(q: usize) -> usize
     2 * q + 5
 }
 
-// Position q is a member.
-fn note_member(lasts: &mut [u32; 2008], q: usize)
-    requires { q < 800 }
-    ensures { lasts.new ≡ member_in q lasts.old }
-{
-    let k = temp(q);
-    lasts[k] = lasts[k] % MEMBER + MEMBER;
-}
-
-// Position q, of fact f, is a member, or kept.
-pub fn note_at(f: Fact, member: bool, lasts: &mut [u32; 2008], q: usize)
-    requires { (q < 800) × (f.wrote ≤ 2004) }
-    ensures { lasts.new ≡ noting f member q lasts.old }
-{
-    if member {
-        note_member(lasts, q);
-        return;
+impl Lasts {
+    // Nothing is noted.
+    pub fn none() -> Lasts
+        ensures { result ≡ blank }
+    {
+        Lasts {
+            writes: [0; WRITES],
+            barrier: 0,
+            suspension: 0,
+        }
     }
-    note_all(f, lasts, q);
-}
 
-// Position p is none, if it was dropped.
-pub fn forget(lasts: &mut [u32; 2008], dropped: bool, p: usize)
-    requires { p < 800 }
-    ensures { lasts.new ≡ forgot dropped p lasts.old }
-{
-    if dropped {
-        lasts[temp(p)] %= MEMBER;
+    // Nothing is noted any more.
+    pub fn clear(&mut self)
+        ensures { self.new ≡ blank }
+    {
+        self.writes = [0; WRITES];
+        self.barrier = 0;
+        self.suspension = 0;
+    }
+
+    // The last kept write of memory o, and 1.
+    pub fn last_write(&self, o: usize) -> u32
+        requires { o < 2006 }
+        ensures { result ≡ get_or self.now.writes o 0 % 1024 }
+    {
+        self.writes[o] % MEMBER
+    }
+
+    // Is memory o a member's Temp?
+    pub fn is_placed(&self, o: usize) -> bool
+        requires { o < 2006 }
+        ensures { result ≡ leb 1024 (get_or self.now.writes o 0) }
+    {
+        MEMBER <= self.writes[o]
+    }
+
+    // What position q, of fact f, does is noted, unless a later one does so too.
+    fn note_kept(&mut self, f: Fact, q: usize)
+        requires { (q < 800) × (f.wrote ≤ 2004) }
+        ensures { self.new ≡ kept_in f q self.old }
+    {
+        let e = q as u32 + 1;
+        let k = f.wrote as usize;
+        self.writes[k] = MEMBER * (self.writes[k] / MEMBER) + (self.writes[k] % MEMBER).max(e);
+        if f.barrier {
+            self.barrier = self.barrier.max(e);
+        }
+        if f.suspends {
+            self.suspension = self.suspension.max(e);
+        }
+    }
+
+    // Position q, of fact f, is a member, or kept.
+    pub fn note(&mut self, f: Fact, member: bool, q: usize)
+        requires { (q < 800) × (f.wrote ≤ 2004) }
+        ensures { self.new ≡ noting f member q self.old }
+    {
+        if member {
+            let k = temp(q);
+            self.writes[k] = self.writes[k] % MEMBER + MEMBER;
+            return;
+        }
+        self.note_kept(f, q);
+    }
+
+    // Position p is no member any more.
+    pub fn forget(&mut self, p: usize)
+        requires { p < 800 }
+        ensures { self.new ≡ forgotten p self.old }
+    {
+        self.writes[temp(p)] %= MEMBER;
     }
 }

@@ -1,5 +1,6 @@
 // What a record reads and writes, place by place.
 ghost use Rattle.std.specs.Prelude.{◌≡◌, Option, Bool, List, ℕ, ◌+◌, ◌<◌, length};
+ghost use Rattle.std.specs.Iterator.{YieldsFirst, item_count};
 ghost use Rattle.words.specs.Lists.{all};
 ghost use Rattle.model.specs.Picture.{inst, list_of, reads, writes};
 ghost use Rattle.inst.specs.Index.{reg_of, Among};
@@ -11,17 +12,62 @@ use inst::code::{Code, Slots};
 use inst::index::Reg;
 
 // A record's slots come before its list.
-pub const SLOTS: usize = 5;
+const SLOTS: usize = 5;
 
-// Read k of a record: its slots, then its list xs. It is one of count registers, or none.
-pub fn read_place(slots: &Slots, xs: &[u32], k: usize, count: usize) -> Option<Reg>
-    requires { k < 5 + length xs.now }
-    ensures { (ops : List ℕ) → xs.now ≡ list_of ops (inst slots.now.recs.now slots.now.p) → result ≡ reg_of (read_place ops (inst slots.now.recs.now slots.now.p) k) count }
-{
-    if k < SLOTS {
-        return slots.read(k, count);
+// What is left of a record's reads, place by place: its slots, then its list, each one of count registers or none.
+#[derive(Clone, Copy)]
+pub struct Reads<'a> {
+    slots: Slots<'a>,
+    list: &'a [u32],
+    k: usize,
+    count: usize,
+}
+
+impl<'a> Reads<'a> {
+    ghost use Rattle.summary.specs.Reads.{all_places, place, left};
+
+    // All that record g reads.
+    pub fn new(code: &Code<'a>, g: usize, count: usize) -> Self
+        requires { Good code.now.recs.now code.now.ops.now count g }
+        ensures { left result ≡ all_places code.now.ops.now (inst code.now.recs.now g) count }
+    {
+        Reads {
+            slots: code.slots(g),
+            list: code.list(g),
+            k: 0,
+            count,
+        }
     }
-    Reg::new(xs[k - SLOTS], count)
+
+    // What stands in place k.
+    fn place(&self, k: usize) -> Option<Reg>
+        requires { k < 5 + length self.now.list.now }
+        ensures { result ≡ place self.now k }
+    {
+        if k < SLOTS {
+            return self.slots.read(k, self.count);
+        }
+        Reg::new(self.list[k - SLOTS], self.count)
+    }
+}
+
+impl<'a> Iterator for Reads<'a> {
+    ghost use Rattle.summary.specs.Reads.{left};
+
+    type Item = Option<Reg>;
+
+    ghost next_gives = { YieldsFirst left };
+
+    ghost remaining = { item_count left };
+
+    fn next(&mut self) -> Option<Option<Reg>> {
+        let k = self.k;
+        if SLOTS + self.list.len() <= k {
+            return None;
+        }
+        self.k = k + 1;
+        Some(self.place(k))
+    }
 }
 
 // Do all registers, of count, that the slots write pass a test, which none passes?
@@ -44,10 +90,8 @@ pub fn all_read<F: Fn(Option<Reg>) -> bool>(code: &Code, g: usize, count: usize,
     requires can { (m : Option RegAt) → Among count m → F.pre test m }
     ensures { (t : ℕ → Bool) → Tests count (F.post test) t → result ≡ all t (reads code.now.ops.now (inst code.now.recs.now g)) }
 {
-    let slots = code.slots(g);
-    let xs = code.list(g);
-    for k in 0..SLOTS + xs.len() {
-        if !test(read_place(&slots, xs, k, count)) {
+    for r in Reads::new(code, g, count) {
+        if !test(r) {
             return false;
         }
     }

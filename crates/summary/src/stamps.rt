@@ -6,7 +6,7 @@ ghost use Rattle.inst.specs.Index.{word_of, Among};
 ghost use Rattle.regfacts.specs.Written.{Fits, Good};
 ghost use Rattle.summary.specs.Passes.{over, put_in, Stamped, Beside, Written, Readable, own_def, own_uses};
 
-use crate::reads::{SLOTS, read_place};
+use crate::reads::Reads;
 use facts::Fact;
 use inst::code::{Code, Slots};
 use inst::index::Reg;
@@ -23,7 +23,7 @@ pub const MEMBER_AT: u64 = 4096;
 pub const ORIGIN: u64 = 8192;
 
 // The number v; what stood there below `keep`, or `lo` if that is more, stays beside it.
-#[derive(Clone, Copy)]
+#[derive(Clone, Copy, Debug, PartialEq, Eq)]
 pub struct Stamp {
     pub keep: u64,
     pub lo: u64,
@@ -105,10 +105,8 @@ fn put_places(code: &Code, g: usize, st: &mut [u64], d: Stamp)
     requires { Good code.now.recs.now code.now.ops.now (length st.old) g }
     ensures { Stamped (reads code.now.ops.now (inst code.now.recs.now g)) d.keep d.lo d.v st.old st.new }
 {
-    let slots = code.slots(g);
-    let xs = code.list(g);
-    for k in 0..SLOTS + xs.len() {
-        put(st, read_place(&slots, xs, k, st.len()), d);
+    for r in Reads::new(code, g, st.len()) {
+        put(st, r, d);
     }
 }
 

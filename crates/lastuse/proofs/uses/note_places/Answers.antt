@@ -1,28 +1,26 @@
 -- `lastuse::uses::note_places` meets its contract. Assumes nothing.
-use mathlib.Core.List.{List}
-use mathlib.Core.Path.{ap, refl}
-use Prim.Native.Nat.{ℕ, ◌+◌}
-use native.Mathlib.Omega.{arith}
-use lib.ListN.{length}
+use mathlib.Core.Path.{ap, refl, ◌∙◌}
+use Rattle.summary.specs.Reads.{left}
+use Rattle.summary.proofs.Along.{along_none, along_here, along_more, along_end}
 use Rattle.summary.proofs.Places.{reads_placed, place_made}
 use Rattle.lastuse.proofs.Using.{noticing_none, noticing_more, noticing_end}
 use Rattle.lastuse.proofs.uses.note_places.Goals as goal
 
-pub loop-k-init : goal.loop-k-init
-loop-k-init c = noticing_none _ _ _ _ c.requires.2
+pub loop-r-init : goal.loop-r-init
+loop-r-init c = along_none (ap left c.into_iter-r-iterator.ensures.into_iter_gives ∙ c.new-r-items.ensures) (noticing_none _ _ _ _ c.requires.2)
 
 pub note-requires : goal.note-requires
 note-requires c =
-    let x = rw (c.slots-slots.ensures.recs, c.slots-slots.ensures.place) at c.read_place.ensures c.args.code.now.ops.now in
-    ((place_made c.requires.0 refl (ap (λ (l : List ℕ). 5 + length l) c.list-xs.ensures) c.loop-k-test.true (x c.list-xs.ensures)).among, c.requires.1)
+    let h = along_here c.loop-r.invariant c.in-Some.ensures.steps in
+    ((place_made c.requires.0 refl refl h.0 h.1).among, c.requires.1)
 
-pub loop-k-preserved : goal.loop-k-preserved
-loop-k-preserved c =
-    let x = rw (c.slots-slots.ensures.recs, c.slots-slots.ensures.place) at c.read_place.ensures c.args.code.now.ops.now in
-    let made = place_made c.requires.0 refl (ap (λ (l : List ℕ). 5 + length l) c.list-xs.ensures) c.loop-k-test.true (x c.list-xs.ensures) in
-    noticing_more c.loop-k.invariant made.word c.note.ensures
+pub loop-r-preserved : goal.loop-r-preserved
+loop-r-preserved c =
+    let a = c.loop-r.invariant in
+    let h = along_here a c.in-Some.ensures.steps in
+    along_more a c.in-Some.ensures.steps (noticing_more a.done (place_made c.requires.0 refl refl h.0 h.1).word c.note.ensures)
 
 pub returns : goal.returns
 returns c =
-    let n = ap length c.list-xs.ensures in
-    noticing_end c.loop-k.invariant (reads_placed _ _ _ _ c.requires.0) (omega (arith, n, c.loop-k.auto.k-end)) (omega (arith, n, c.loop-k-test.false))
+    let a = c.loop-r.invariant in
+    noticing_end a.done (reads_placed _ _ _ _ c.requires.0) a.below (along_end a c.in-None.ensures.steps.0)

@@ -25,7 +25,7 @@ returns-then-not-stays c =
     let stays : c.if-f.stays ≡ (a.f.member && all (λ (x : ℕ). leb (get_or a.st.now x 0) 1023) (writes (inst a.code.now.recs.now a.f.rec))) =
     elim c.if-f.branch [ then-f w ↦ rw (w.stays-is, w.if-f.true) w.rule1-stays.ensures | else-f w ↦ rw (w.stays-is, w.if-f.false) ] in
     backed stays c.kept_at.ensures (rw (c.kept.ensures.0, c.kept.ensures.1, c.kept.ensures.2) at c.put_writes.ensures)
-    (awaited_one _ c.if-not-stays.true (rw (c.awaited.ensures.0, c.awaited.ensures.1, c.awaited.ensures.2) at c.put_reads.ensures)) c.note_at.ensures
+    (awaited_one _ c.if-not-stays.true (rw (c.awaited.ensures.0, c.awaited.ensures.1, c.awaited.ensures.2) at c.put_reads.ensures)) c.note.ensures
 
 pub returns-else-not-stays : goal.returns-else-not-stays
 returns-else-not-stays c =
@@ -33,4 +33,4 @@ returns-else-not-stays c =
     let stays : c.if-f.stays ≡ (a.f.member && all (λ (x : ℕ). leb (get_or a.st.now x 0) 1023) (writes (inst a.code.now.recs.now a.f.rec))) =
     elim c.if-f.branch [ then-f w ↦ rw (w.stays-is, w.if-f.true) w.rule1-stays.ensures | else-f w ↦ rw (w.stays-is, w.if-f.false) ] in
     backed stays c.kept_at.ensures (rw (c.kept.ensures.0, c.kept.ensures.1, c.kept.ensures.2) at c.put_writes.ensures)
-    (awaited_none _ _ c.if-not-stays.false) c.note_at.ensures
+    (awaited_none _ _ c.if-not-stays.false) c.note.ensures

@@ -2,6 +2,7 @@
 use mathlib.Core.List.{List}
 use mathlib.Core.Path.{◌≡◌, sym, subst}
 use Prim.Native.Nat.{ℕ}
+use Rattle.summary.specs.declared.notes.Lasts.{Lasts}
 use Rattle.facts.specs.declared.Fact.{Fact}
 use Rattle.plan.specs.Sweep.{Swept, Sweepable}
 use Rattle.plan.specs.declared.sweep.Sweep.{Sweep}
@@ -9,7 +10,7 @@ use Rattle.plan.proofs.Looping.{looping_none, ready_may, sweep_may, go_on_may, l
 use Rattle.plan.proofs.settle.settle.Goals as goal
 
 -- the sweep that ran, by the name that the cycle gives it
-swept : {recs ops regs work ls work' ls' : List ℕ} {fs fs' : List Fact} {g h : Sweep} {k : ℕ} → g ≡ h → Swept recs ops regs g work ls fs g.k work' ls' fs' k → Swept recs ops regs h work ls fs h.k work' ls' fs' k
+swept : {recs ops regs work : List ℕ} {ls : Lasts} {work' : List ℕ} {ls' : Lasts} {fs fs' : List Fact} {g h : Sweep} {k : ℕ} → g ≡ h → Swept recs ops regs g work ls fs g.k work' ls' fs' k → Swept recs ops regs h work ls fs h.k work' ls' fs' k
 swept {recs} {ops} {regs} {work} {ls} {work'} {ls'} {fs} {fs'} {k = k} e s = subst (λ (x : Sweep). Swept recs ops regs x work ls fs x.k work' ls' fs' k) e s
 
 pub loop-c-init : goal.loop-c-init

@@ -5,6 +5,7 @@ use mathlib.Core.List.{List}
 use Prim.Native.Nat.{ℕ, ◌+◌}
 use native.Mathlib.Omega.{arith}
 use lib.ListN.{get_or, set}
+use Rattle.summary.specs.declared.notes.Lasts.{Lasts}
 use Rattle.words.specs.Lists.{hit}
 use Rattle.words.proofs.Bools.{hit_le}
 use Rattle.facts.specs.declared.Fact.{Fact}
@@ -14,7 +15,7 @@ use Rattle.plan.specs.declared.sweep.Sweep.{Sweep}
 use Rattle.plan.proofs.Sweeping.{visitable, swept_count}
 use Rattle.plan.proofs.sweep.run.Goals as goal
 
-turned : {recs ops regs work ls : List ℕ} {g : Sweep} {fs : List Fact} {i : ℕ} {work' ls' work'' ls'' : List ℕ} {fs' : List Fact} {count p n : ℕ} {stays : Bool}
+turned : {recs ops regs work : List ℕ} {ls : Lasts} {g : Sweep} {fs : List Fact} {i : ℕ} {work' : List ℕ} {ls' : Lasts} {work'' : List ℕ} {ls'' : Lasts} {fs' : List Fact} {count p n : ℕ} {stays : Bool}
     → Swept recs ops regs g work ls fs i work' ls' fs' count → p ≡ place g i → Visit recs ops regs g (get_or fs' p no_fact) p work' ls' work'' ls'' stays → n ≡ hit (counts g.phase (get_or fs' p no_fact) stays)
     → Swept recs ops regs g work ls fs (i + 1) work'' ls'' (set fs' p (marked (get_or fs' p no_fact) stays)) (count + n)
 turned {recs} {ops} {regs} {work} {ls} {g} {fs} {i} {work'} {ls'} {work''} {ls''} {fs'} {count} {p} {n} {stays} s e v k =

@@ -4,4 +4,4 @@ use Rattle.legality.proofs.Testing.{own_words}
 use Rattle.legality.proofs.kept.Kept.rule6.Goals as goal
 
 pub returns : goal.returns
-returns c = own_words _ _ refl
+returns c = rw c.is_placed.ensures (own_words _ _ refl)
