@@ -13,7 +13,7 @@ use Rattle.words.specs.Lists.{upto, any}
 use Rattle.words.proofs.Bools.{eq?}
 use Rattle.words.proofs.Alls.{any_more}
 use Rattle.model.specs.Picture.{Inst, absent, writes}
-use Rattle.regfacts.specs.Written.{put_in as change_in, settle, Written as Changed}
+use Rattle.inst.specs.Written.{put_in as change_in, settle, Written as Changed}
 use Rattle.summary.specs.Passes.{over, stamp, put_in, Stamped, Beside}
 use Rattle.summary.proofs.Places.{Placed, mem_placed}
 

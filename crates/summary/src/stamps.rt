@@ -10,7 +10,7 @@ use crate::reads::Reads;
 use facts::Fact;
 use inst::code::{Code, Slots};
 use inst::index::Reg;
-use regfacts::written::{change, change_written};
+use inst::written::{change, change_written};
 
 // While the set is found, a register's word has its last kept writer and 1, and AWAITED if it is awaited. Of its last writer so far it
 // has WRITER, MEMBER_AT beside it if that is in the set, and over both its origin.
