@@ -1,8 +1,8 @@
--- `cfg::graph::note_all` meets its contract. Assumes nothing.
+-- `cfg::preds::note_all` meets its contract. Assumes nothing.
 use mathlib.Core.Path.{ap, ◌∙◌}
 use Rattle.cfg.specs.Preds.{noted}
 use Rattle.words.proofs.Steps.{steps_next, steps_past}
-use Rattle.cfg.proofs.graph.note_all.Goals as goal
+use Rattle.cfg.proofs.preds.note_all.Goals as goal
 
 pub loop-b-preserved : goal.loop-b-preserved
 loop-b-preserved c =
