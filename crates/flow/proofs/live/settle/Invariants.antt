@@ -6,4 +6,4 @@ use Rattle.flow.specs.Progress.{Among, Progress}
 use Rattle.flow.proofs.live.settle.Given as goal
 
 abbrev pub invariant-loop-s : goal.invariant-loop-s
-invariant-loop-s l = Progress l.n l.w (drop (l.n * l.w) l.initial.bits) (λ c x i. (c ≡ l.b.0) × Among l.list l.s-index x × (i < l.w)) l.initial.bits l.bits l.changed
+invariant-loop-s l = let g = l.fn.grid in Progress g.blocks g.width (drop (g.blocks * g.width) l.initial.bits) (λ c x i. (c ≡ l.b.0) × Among l.list l.s-index x × (i < g.width)) l.initial.bits l.bits l.changed
