@@ -159,11 +159,8 @@ module _ {bounds recs ops pairs targets work64 work32 : List ℕ} {s : Sizes} (k
   pub rows_ask : (r : ℕ) → r ≡ regs → RowsAsk bounds recs ops r work64
   rows_ask r er = rows_asked k.P (length work32) work64 k.accepted k.bounds_are k.recs_are k.ops_are (er ∙ k.regs_are)
 
-  pub preds_ask : (p : ℕ) → p ≡ 8000 + lent → Graph bounds recs pairs targets × (2 * (length bounds / 2) ≤ length (take (p + 2 * (length bounds / 2) - p) (drop p work32)))
-  preds_ask p e = (
-    graph_at k.P good k.bounds_are k.recs_are k.pairs_are k.targets_are,
-    let r = rooms.room32 in let z = mid_len p (p + 2 * (length bounds / 2)) work32 (omega arith) in omega arith,
-  )
+  pub preds_ask : (p : ℕ) → p ≡ 8000 + lent → 2 * (length bounds / 2) ≤ length (take (p + 2 * (length bounds / 2) - p) (drop p work32))
+  preds_ask p e = let r = rooms.room32 in let z = mid_len p (p + 2 * (length bounds / 2)) work32 (omega arith) in omega arith
 
   -- with the rows made, as mid
   module _ (mid : List ℕ) (same : length mid ≡ length work64) where

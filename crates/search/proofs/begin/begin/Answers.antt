@@ -29,7 +29,7 @@ pub offset_bounds-work32-p : goal.offset_bounds-work32-p
 offset_bounds-work32-p c = let k = c.requires in let r = rooms k in let a = c.at_regs-a.ensures in omega (arith, r.few_blocks, r.few_lent, a.1, regs_room k a.0, r.room32, c.at_preds-p.ensures)
 
 pub find_preds-requires : goal.find_preds-requires
-find_preds-requires c = let p = c.requires in let z = preds_ask p _ c.at_preds-p.ensures in (z.0, z.1)
+find_preds-requires c = preds_ask c.requires _ c.at_preds-p.ensures
 
 pub returns : goal.returns
 returns c =
