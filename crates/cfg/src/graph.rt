@@ -5,6 +5,7 @@ ghost use Rattle.model.specs.Picture.{inst, end_of, end_succs, table, succs};
 ghost use Rattle.inst.specs.Record.{Within, Known};
 ghost use Rattle.cfg.specs.Graph.{Graph};
 
+use crate::succs::Succs;
 use inst::index::BlockId;
 use inst::record::{kind, word};
 use inst::table::{Shape, Table};
@@ -32,7 +33,18 @@ impl<'a> Func<'a> {
     }
 
     // The successors of block b.
-    pub fn succs(&self, b: BlockId) -> &'a [u32]
+    pub fn succs(&self, b: BlockId) -> Succs<'a>
+        requires { b.0 < blocks_of self.now }
+        ensures { (result.list.now ≡ succs (drawn_of self.now) b.0) × (result.count ≡ blocks_of self.now) }
+    {
+        Succs {
+            list: self.next_of(b),
+            count: self.blocks(),
+        }
+    }
+
+    // Their numbers.
+    fn next_of(&self, b: BlockId) -> &'a [u32]
         requires { b.0 < blocks_of self.now }
         ensures { result.now ≡ succs (drawn_of self.now) b.0 }
     {

@@ -5,6 +5,7 @@ ghost use Rattle.cfg.specs.Preds.{Preds, count_after, which_after, noted};
 ghost use Rattle.words.specs.Steps.{steps};
 
 use crate::graph::Func;
+use crate::succs::Succs;
 use inst::index::BlockId;
 
 // How many predecessors a block has with c, where k and p are its two words: words of a lent slice, which `virdzeba_preds` hands out,
@@ -43,13 +44,13 @@ fn note(words: &mut [u32], c: BlockId, b: BlockId)
     words[i + 1] = which_after(k, p, c);
 }
 
-// Block c, of n, goes to each block of the list.
-fn note_all(words: &mut [u32], list: &[u32], n: u32, c: BlockId)
-    requires { (2 * n ≤ length words.old) × ((j : ℕ) → j < length list.now → get_or list.now j 0 < n) }
-    ensures { words.new ≡ steps (noted c.0) words.old list.now }
+// Block c goes to each of these.
+fn note_all(words: &mut [u32], succs: Succs<'_>, c: BlockId)
+    requires { 2 * succs.count ≤ length words.old }
+    ensures { words.new ≡ steps (noted c.0) words.old succs.entry.list.now }
 {
-    for b in list {
-        note(words, c, BlockId::known(*b, n));
+    for b in succs {
+        note(words, c, b);
     }
 }
 
@@ -62,6 +63,6 @@ pub fn find_preds(words: &mut [u32], func: &Func<'_>)
     words.fill(0);
     for k in 0..n {
         let c = BlockId::known(k, n);
-        note_all(words, func.succs(c), n, c);
+        note_all(words, func.succs(c), c);
     }
 }

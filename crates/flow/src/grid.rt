@@ -38,8 +38,8 @@ impl Grid {
 
     // Where the row of the registers needed elsewhere begins.
     pub fn needed(self) -> usize
-        requires { 2 * self.blocks * self.width < 2 ^ 64 }
-        ensures { result ≡ 2 * self.blocks * self.width }
+        requires { self.blocks * self.width + self.blocks * self.width < 2 ^ 64 }
+        ensures { result ≡ self.blocks * self.width + self.blocks * self.width }
     {
         self.row(2 * self.blocks as usize)
     }

@@ -22,7 +22,8 @@ fn clear_at(bits: &mut [u64], at: usize, n: usize)
     bits[at..at + n].fill(0);
 }
 
-// Both rows of block b, of `regs` registers, from its code.
+// Both rows of block b, of `regs` registers, from its code. (`Blocks`, and no `Func`: the case tables have no part in it, and
+// `oneround::make` has none at hand.)
 pub fn block_rows(bits: &mut [u64], code: &Code<'_>, bounds: &[u32], regs: usize, b: BlockId)
     requires { Blocks bounds.now code.now.recs.now × Coded code.now regs
         × RowRoom (length bounds.now / 2) (width regs) bits.old × (b.0 < length bounds.now / 2) }

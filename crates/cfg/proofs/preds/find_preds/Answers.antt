@@ -18,8 +18,8 @@ pub loop-k-preserved : goal.loop-k-preserved
 loop-k-preserved c =
     let next = succs (drawn_of c.args.func.now) in
     let l = c.loop-k in
-    noted_more next _ l.k _ (c.succs.ensures ∙ ap next c.known-c.ensures) l.invariant
-    (c.note_all.ensures ∙ ap (λ (x : ℕ). steps (noted x) l.words c.succs.result.now) c.known-c.ensures)
+    noted_more next _ l.k _ (c.succs.ensures.0 ∙ ap next c.known-c.ensures) l.invariant
+    (c.note_all.ensures ∙ ap (λ (x : ℕ). steps (noted x) l.words c.succs.result.list.now) c.known-c.ensures)
 
 pub returns : goal.returns
 returns c =

@@ -1,6 +1,6 @@
--- `cfg::graph::Func::succs` meets its contract. Assumes nothing.
+-- `cfg::graph::Func::next_of` meets its contract. Assumes nothing.
 use Rattle.cfg.proofs.Successors.{empty_block, last_known, full_block}
-use Rattle.cfg.proofs.graph.Func.succs.Goals as goal
+use Rattle.cfg.proofs.graph.Func.next_of.Goals as goal
 
 pub returns-then-past-start : goal.returns-then-past-start
 returns-then-past-start c =
