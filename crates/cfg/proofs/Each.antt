@@ -18,13 +18,14 @@ rest_below {xs} {ys} {x} {n} e h j k = subst (λ (l : List ℕ). (j : ℕ) → j
 -- the blocks that are left are those from place k of the list on
 pub record From (ss : List ℕ) (k : ℕ) (bs : List BlockId) : Type 0 where
   pub are : numbers bs ≡ drop k ss
+  pub inside : k ≤ length ss
 
 numbers_of : (xs : List ℕ) → numbers (blocks xs) ≡ xs
 numbers_of [] = refl
 numbers_of (x ∷ xs) = ap (λ (l : List ℕ). x ∷ l) (numbers_of xs)
 
 pub from_start : (ss : List ℕ) {bs : List BlockId} → bs ≡ blocks ss → From ss 0 bs
-from_start ss e = record { are = ap numbers e ∙ numbers_of ss }
+from_start ss e = record { are = ap numbers e ∙ numbers_of ss; inside = omega arith }
 
 module _ {ss : List ℕ} {k : ℕ} {bs : List BlockId} (f : From ss k bs) where
   pub from_end : bs ≡ [] → length ss ≤ k
@@ -43,7 +44,7 @@ module _ {ss : List ℕ} {k : ℕ} {bs : List BlockId} (f : From ss k bs) where
     from_here = ap (λ (l : List ℕ). get_or l 0 0) (split ∙ drop-cons ss k 0 from_in)
 
     pub from_more : From ss (k + 1) rest
-    from_more = record { are = ap (drop 1) (split ∙ drop-cons ss k 0 from_in) ∙ ap (λ (i : ℕ). drop i ss) (sym (add-one k)) }
+    from_more = record { are = ap (drop 1) (split ∙ drop-cons ss k 0 from_in) ∙ ap (λ (i : ℕ). drop i ss) (sym (add-one k)); inside = omega (arith, from_in) }
 
-    pub from_low : {n : ℕ} → ((j : ℕ) → j < length ss → get_or ss j 0 < n) → b.0 < n
-    from_low {n} h = subst (λ (x : ℕ). x < n) (sym from_here) (h k from_in)
+    pub from_low : {m n : ℕ} → m ≡ n → ((j : ℕ) → j < length ss → get_or ss j 0 < m) → b.0 < n
+    from_low q h = omega (arith, h k from_in, from_here)

@@ -15,6 +15,7 @@ ghost use Rattle.flow.specs.Order.{kth};
 
 use crate::grid::Grid;
 use cfg::graph::Func;
+use cfg::succs::Succs;
 use inst::index::BlockId;
 use words::bits::width;
 
@@ -48,13 +49,14 @@ fn join(bits: &mut [u64], grid: Grid, b: BlockId, s: BlockId) -> bool
 }
 
 // One block: it takes what is live into each of its successors. Tells whether it changed.
-fn settle(bits: &mut [u64], list: &[u32], grid: Grid, b: BlockId) -> bool
-    requires { Room grid.blocks grid.width bits.old × (b.0 < grid.blocks) × ((j : ℕ) → j < length list.now → get_or list.now j 0 < grid.blocks) }
-    ensures { Progress grid.blocks grid.width (drop (grid.blocks * grid.width) bits.old) (λ c x i. (c ≡ b.0) × Among list.now (length list.now) x × (i < grid.width)) bits.old bits.new result }
+fn settle(bits: &mut [u64], succs: Succs<'_>, grid: Grid, b: BlockId) -> bool
+    requires { Room grid.blocks grid.width bits.old × (b.0 < grid.blocks) × (succs.count ≡ grid.blocks) }
+    ensures { Progress grid.blocks grid.width (drop (grid.blocks * grid.width) bits.old)
+        (λ c x i. (c ≡ b.0) × Among succs.entry.list.now (length succs.entry.list.now) x × (i < grid.width)) bits.old bits.new result }
 {
     let mut changed = false;
-    for s in list {
-        changed |= join(bits, grid, b, BlockId::known(*s, grid.blocks));
+    for s in succs {
+        changed |= join(bits, grid, b, s);
     }
     changed
 }
@@ -137,15 +139,14 @@ pub fn live_in(bits: &mut [u64], func: &Func<'_>, regs: usize)
     solve(bits, func, grid.width);
 }
 
-// Word i of the row of live-in of every block of the list. (A loop: as a fold, what its closure asks of each number of the list was
-// not proved.)
-pub(crate) fn gather(bits: &[u64], list: &[u32], grid: Grid, i: usize) -> u64
-    requires { (i < grid.width) × (grid.blocks * grid.width ≤ length bits.now) × ((j : ℕ) → j < length list.now → get_or list.now j 0 < grid.blocks) }
-    ensures { result ≡ gathered bits.now grid.width i 0 list.now }
+// Word i of the row of live-in of each of these blocks. (A loop: as a fold, what its closure asks of each block was not proved.)
+pub(crate) fn gather(bits: &[u64], succs: Succs<'_>, grid: Grid, i: usize) -> u64
+    requires { (i < grid.width) × (grid.blocks * grid.width ≤ length bits.now) × (succs.count ≡ grid.blocks) }
+    ensures { result ≡ gathered bits.now grid.width i 0 succs.entry.list.now }
 {
     let mut x: u64 = 0;
-    for s in list {
-        x |= bits[grid.live(BlockId::known(*s, grid.blocks)) + i];
+    for s in succs {
+        x |= bits[grid.live(s) + i];
     }
     x
 }

@@ -7,34 +7,35 @@ ghost use Rattle.flow.specs.Needed.{Fits, Word, Put, Needed};
 use crate::grid::Grid;
 use crate::live::gather;
 use cfg::graph::Func;
+use cfg::succs::Succs;
 use inst::index::BlockId;
 
-// Word i of the row. The list is the target's successors.
+// Word i of the row. `succs` are the target's.
 fn needed_word(
     bits: &[u64],
-    list: &[u32],
+    succs: Succs<'_>,
     grid: Grid,
     into: BlockId,
     other: BlockId,
     i: usize,
 ) -> u64
-    requires { Fits list.now grid.blocks grid.width into.0 other.0 bits.now × (i < grid.width) }
-    ensures { Word bits.now list.now grid.blocks grid.width into.0 other.0 i result }
+    requires { Fits grid.blocks grid.width into.0 other.0 bits.now × (succs.count ≡ grid.blocks) × (i < grid.width) }
+    ensures { Word bits.now succs.entry.list.now grid.blocks grid.width into.0 other.0 i result }
 {
     let live = bits[grid.live(other) + i];
     let writes = bits[grid.writes(into) + i];
-    let out = gather(bits, list, grid, i);
+    let out = gather(bits, succs, grid, i);
     live | (out & !writes)
 }
 
 // The whole row.
-fn put_row(work: &mut [u64], list: &[u32], grid: Grid, into: BlockId, other: BlockId)
-    requires { Fits list.now grid.blocks grid.width into.0 other.0 work.old }
-    ensures { Put work.old list.now grid.blocks grid.width into.0 other.0 grid.width work.new }
+fn put_row(work: &mut [u64], succs: Succs<'_>, grid: Grid, into: BlockId, other: BlockId)
+    requires { Fits grid.blocks grid.width into.0 other.0 work.old × (succs.count ≡ grid.blocks) }
+    ensures { Put work.old succs.entry.list.now grid.blocks grid.width into.0 other.0 grid.width work.new }
 {
     let at = grid.needed();
     for i in 0..grid.width {
-        work[at + i] = needed_word(work, list, grid, into, other, i);
+        work[at + i] = needed_word(work, succs, grid, into, other, i);
     }
 }
 

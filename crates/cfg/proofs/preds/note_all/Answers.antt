@@ -12,7 +12,7 @@ pub loop-b-init : goal.loop-b-init
 loop-b-init c = (0, from_start _ (ap left c.into_iter-b-iterator.ensures.into_iter_gives), refl)
 
 pub note-requires : goal.note-requires
-note-requires c = omega (arith, c.requires, c.loop-b.auto.words, from_low c.loop-b.invariant.1 c.in-Some.ensures.steps c.args.succs.below)
+note-requires c = omega (arith, c.requires, c.loop-b.auto.words, from_low c.loop-b.invariant.1 c.in-Some.ensures.steps refl c.args.succs.below)
 
 pub loop-b-preserved : goal.loop-b-preserved
 loop-b-preserved c =
