@@ -19,12 +19,12 @@ use Rattle.model.specs.Analyse.{facts}
 use Rattle.laws.proofs.Accepted.{Accepted, accepted, work_room}
 use Rattle.laws.proofs.Sizes as S
 use Rattle.cfg.specs.Drawn.{drawn}
-use Rattle.cfg.specs.Graph.{Blocks, Graph}
+use Rattle.cfg.specs.Graph.{Blocks}
 use Rattle.defuse.specs.Sets.{Code}
 use Rattle.flow.specs.Live.{RowRoom, Rows}
 use Rattle.cfg.specs.Preds as F
 use Rattle.cfg.specs.Preds.{many, first}
-use Rattle.flow.proofs.Accepted.{blocks_given, graph_given, code_given}
+use Rattle.flow.proofs.Accepted.{blocks_given, code_given}
 use Rattle.flow.proofs.Standing.{rows_same}
 use Rattle.flow.proofs.Whole.{preds_whole}
 use Rattle.chains.specs.Chain as C
@@ -65,13 +65,6 @@ rooms_at P w64 w32 r {b} {lent} {insts} e f g =
     subst (λ (z : ℕ). Rooms z lent insts w64 w32) (sym e)
     (subst (λ (z : ℕ). Rooms (nblocks P) z insts w64 w32) (sym f)
     (subst (λ (z : ℕ). Rooms (nblocks P) (length P.types) z w64 w32) (sym g) (rooms_of P w64 w32 r)))
-
-pub graph_at : (P : Picture) → Accepted P → {bounds recs pairs targets : List ℕ} → bounds ≡ P.bounds → recs ≡ P.recs → pairs ≡ P.pairs → targets ≡ P.targets → Graph bounds recs pairs targets
-graph_at P ok {bounds} {recs} {pairs} {targets} e f g h =
-    subst (λ (z : List ℕ). Graph z recs pairs targets) (sym e)
-    (subst (λ (z : List ℕ). Graph P.bounds z pairs targets) (sym f)
-    (subst (λ (z : List ℕ). Graph P.bounds P.recs z targets) (sym g)
-    (subst (λ (z : List ℕ). Graph P.bounds P.recs P.pairs z) (sym h) (graph_given P ok))))
 
 -- ---- predecessors
 
