@@ -3,7 +3,6 @@ use Rattle.std.specs.Prelude.{[], ℕ, ◌/◌, length}
 use Rattle.model.specs.Picture.{Picture}
 use Rattle.cfg.specs.declared.graph.Func.{Func}
 use Rattle.cfg.specs.Drawn.{drawn}
-use Rattle.cfg.specs.Graph.{Graph}
 
 -- how many blocks there are
 abbrev pub blocks_of : Func → ℕ
@@ -12,7 +11,3 @@ blocks_of f = length f.bounds.now / 2
 -- the picture: the graph has no operands
 abbrev pub drawn_of : Func → Picture
 drawn_of f = drawn f.bounds.now f.recs.now [] f.pairs.now f.targets.now
-
--- acceptance gives all of the graph
-abbrev pub Graphed : Func → Type 0
-Graphed f = Graph f.bounds.now f.recs.now f.pairs.now f.targets.now

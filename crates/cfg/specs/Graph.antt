@@ -1,4 +1,4 @@
--- What acceptance (01, "The call", causes 1, 3, 4 and 7) gives of the graph, as far as the functions of graph.rt use it.
+-- What acceptance (01, "The call", causes 1, 3, 4 and 7) gives of the graph, as far as graph.rt and preds.rt use it.
 -- Assumes nothing.
 use Rattle.std.specs.Prelude.{List, [], ℕ, ◌+◌, ◌*◌, ◌/◌, ◌≤◌, ◌<◌, get_or, length}
 use Rattle.model.specs.Picture.{succs}

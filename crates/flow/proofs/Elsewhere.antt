@@ -63,42 +63,43 @@ in_word : (l : List ℕ) (at r : ℕ) → hit (is_in l (64 * at + r)) ≡ digit 
 unfolding digit_in
 in_word l at r = hit_in l (64 * at + r) ∙ ap₂ (λ (a b : ℕ). digit (get_or l a 0) b) (row_word at r) (row_place at r)
 
-module _ {bits ss : List ℕ} {n w into other : ℕ} (f : Fits ss n w into other bits) where
+module _ {bits : List ℕ} {n w into other : ℕ} (f : Fits n w into other bits) where
   abbrev o : ℕ
   o = n * w + n * w
 
-  -- the rows in front are as they were, so they say the same of each register
-  wanted_front : (m : List ℕ) → take o m ≡ take o bits → (r : ℕ) → r < 64 * w → wanted m ss n w into other r ≡ wanted bits ss n w into other r
-  unfolding wanted
-  wanted_front m e r h = ap₂ (λ (a b : Bool). a || b) (in_front m bits o (64 * (other * w) + r) e (omega (arith, row_fits w f.branch)))
-      (ap₂ (λ (a b : Bool). a && b)
-      (any_on (λ s. is_in m (64 * (s * w) + r)) (λ s. is_in bits (64 * (s * w) + r)) ss
-      (λ s i. let z = in_index 0 s ss i in let l : s < n = subst (λ (x : ℕ). x < n) z.2 (f.next z.0 z.1) in in_front m bits o (64 * (s * w) + r) e (omega (arith, row_fits w l))))
-      (ap not (in_front m bits o (64 * ((n + into) * w) + r) e (omega (arith, row_fits w f.target, add-mul n into w)))))
+  module _ (ss : List ℕ) (next : (j : ℕ) → j < length ss → get_or ss j 0 < n) where
+    -- the rows in front are as they were, so they say the same of each register
+    wanted_front : (m : List ℕ) → take o m ≡ take o bits → (r : ℕ) → r < 64 * w → wanted m ss n w into other r ≡ wanted bits ss n w into other r
+    unfolding wanted
+    wanted_front m e r h = ap₂ (λ (a b : Bool). a || b) (in_front m bits o (64 * (other * w) + r) e (omega (arith, row_fits w f.branch)))
+        (ap₂ (λ (a b : Bool). a && b)
+        (any_on (λ s. is_in m (64 * (s * w) + r)) (λ s. is_in bits (64 * (s * w) + r)) ss
+        (λ s i. let z = in_index 0 s ss i in let l : s < n = subst (λ (x : ℕ). x < n) z.2 (next z.0 z.1) in in_front m bits o (64 * (s * w) + r) e (omega (arith, row_fits w l))))
+        (ap not (in_front m bits o (64 * ((n + into) * w) + r) e (omega (arith, row_fits w f.target, add-mul n into w)))))
 
-  put_more : {i v : ℕ} (m : List ℕ) → Put bits ss n w into other i m → i < w → Word m ss n w into other i v → Put bits ss n w into other (i + 1) (set m (o + i) v)
-  put_more {i} {v} m p l k = record {
-    size = length-set m (o + i) v ∙ p.size;
-    front = take-set-le o m (o + i) v (omega arith) ∙ p.front;
-    back = drop-set-lt (o + w) m (o + i) v (omega arith) ∙ p.back;
-    row = λ r h. ⊎_elim (here r) (λ (d : r / 64 ≡ i → ⊥). there r d (omega arith)) (eq? (r / 64) i);
-  }
-    where
-      fits : o + i < length m
-      fits = omega (arith, p.size, f.room)
+    put_more : {i v : ℕ} (m : List ℕ) → Put bits ss n w into other i m → i < w → Word m ss n w into other i v → Put bits ss n w into other (i + 1) (set m (o + i) v)
+    put_more {i} {v} m p l k = record {
+      size = length-set m (o + i) v ∙ p.size;
+      front = take-set-le o m (o + i) v (omega arith) ∙ p.front;
+      back = drop-set-lt (o + w) m (o + i) v (omega arith) ∙ p.back;
+      row = λ r h. ⊎_elim (here r) (λ (d : r / 64 ≡ i → ⊥). there r d (omega arith)) (eq? (r / 64) i);
+    }
+      where
+        fits : o + i < length m
+        fits = omega (arith, p.size, f.room)
 
-      here : (r : ℕ) → r / 64 ≡ i → is_in (set m (o + i) v) (64 * o + r) ≡ wanted bits ss n w into other r
-      here r e = hit_inj (is_in (set m (o + i) v) (64 * o + r)) (wanted bits ss n w into other r)
-          (in_word (set m (o + i) v) o r ∙ ap (λ (k : ℕ). digit (get_or (set m (o + i) v) (o + k) 0) (r % 64)) e
-          ∙ ap (λ (x : ℕ). digit x (r % 64)) (get_or-set_same m (o + i) v 0 fits) ∙ k.bit r e ∙ ap hit (wanted_front m p.front r (omega arith)))
+        here : (r : ℕ) → r / 64 ≡ i → is_in (set m (o + i) v) (64 * o + r) ≡ wanted bits ss n w into other r
+        here r e = hit_inj (is_in (set m (o + i) v) (64 * o + r)) (wanted bits ss n w into other r)
+            (in_word (set m (o + i) v) o r ∙ ap (λ (k : ℕ). digit (get_or (set m (o + i) v) (o + k) 0) (r % 64)) e
+            ∙ ap (λ (x : ℕ). digit x (r % 64)) (get_or-set_same m (o + i) v 0 fits) ∙ k.bit r e ∙ ap hit (wanted_front m p.front r (omega arith)))
 
-      there : (r : ℕ) → (r / 64 ≡ i → ⊥) → r < 64 * i → is_in (set m (o + i) v) (64 * o + r) ≡ wanted bits ss n w into other r
-      there r d h = hit_inj (is_in (set m (o + i) v) (64 * o + r)) (is_in m (64 * o + r))
-          (in_word (set m (o + i) v) o r ∙ ap (λ (x : ℕ). digit x (r % 64)) (get_or-set_other m (o + i) (o + r / 64) v 0 (λ q. d (omega arith))) ∙ sym (in_word m o r))
-          ∙ p.row r h
+        there : (r : ℕ) → (r / 64 ≡ i → ⊥) → r < 64 * i → is_in (set m (o + i) v) (64 * o + r) ≡ wanted bits ss n w into other r
+        there r d h = hit_inj (is_in (set m (o + i) v) (64 * o + r)) (is_in m (64 * o + r))
+            (in_word (set m (o + i) v) o r ∙ ap (λ (x : ℕ). digit x (r % 64)) (get_or-set_other m (o + i) (o + r / 64) v 0 (λ q. d (omega arith))) ∙ sym (in_word m o r))
+            ∙ p.row r h
 
-  pub put_next : {at i v : ℕ} (m : List ℕ) → at ≡ o → Put bits ss n w into other i m → i < w → Word m ss n w into other i v → Put bits ss n w into other (i + 1) (set m (at + i) v)
-  put_next {at} {i} {v} m e p l k = subst (λ (x : ℕ). Put bits ss n w into other (i + 1) (set m (x + i) v)) (sym e) (put_more m p l k)
+    pub put_next : {at i v : ℕ} (m : List ℕ) → at ≡ o → Put bits ss n w into other i m → i < w → Word m ss n w into other i v → Put bits ss n w into other (i + 1) (set m (at + i) v)
+    put_next {at} {i} {v} m e p l k = subst (λ (x : ℕ). Put bits ss n w into other (i + 1) (set m (x + i) v)) (sym e) (put_more m p l k)
 
 -- ---- of a whole picture
 

@@ -14,7 +14,6 @@ use lib.ListN.{length, get_or, set, drop, length-set}
 use lib.Seq.{get_or-drop, set-get_or, get_or-set_same, get_or-set_other, drop-set-lt}
 use borrow.Author.Tests.{eqb-true, eqb-false, not-true, not-false}
 use Rattle.words.specs.Bits.{digit, room}
-use Rattle.words.proofs.Bools.{lt?}
 use Rattle.words.proofs.Digits.{digit_or, digit-and_not, le_or}
 use Rattle.words.proofs.Rows.{room_set}
 use Rattle.words.proofs.Parts.{row_fits, cell_inj, below_split}
@@ -161,15 +160,10 @@ module _ {n w : ℕ} {ds : List ℕ} where
 pub onto : {n w : ℕ} {ds l m : List ℕ} {D : ℕ → ℕ → ℕ → Type 0} {r : Bool} → drop (n * w) l ≡ ds → Progress n w (drop (n * w) l) D l m r → Progress n w ds D l m r
 onto {n} {w} {ds} {l} {m} {D} {r} e p = subst (λ (x : List ℕ). Progress n w x D l m r) e p
 
--- rows of w words that begin at one word are one
-same_row : {a b w : ℕ} → 0 < w → a * w ≡ b * w → a ≡ b
-same_row {a} {b} {w} z e =
-    ⊎_elim (λ (h : a < b). absurd (omega (arith, row_fits w h))) (λ (h : b ≤ a). ⊎_elim (λ (g : b < a). absurd (omega (arith, row_fits w g))) (λ (g : a ≤ b). omega arith) (lt? b a)) (lt? a b)
-
--- one more word of an edge, between the rows that begin at `to` and `from`
-pub row_more : {n w : ℕ} {ds l m k : List ℕ} {r r' : Bool} {to from i : ℕ} → Progress n w ds (λ c x j. (c * w ≡ to) × (x * w ≡ from) × (j < i)) l m r → Progress n w ds (λ c x j. (c * w ≡ to) × (x * w ≡ from) × (j ≡ i)) m k r'
-    → Progress n w ds (λ c x j. (c * w ≡ to) × (x * w ≡ from) × (j < i + 1)) l k (r || r')
-row_more {to = to} {from = from} {i = i} = after (λ c x j d. ⊎_elim (λ u. inl (d.0, d.1, u)) (λ u. inr (d.0, d.1, u)) (below_split j i d.2))
+-- one more word of an edge
+pub row_more : {n w : ℕ} {ds l m k : List ℕ} {r r' : Bool} {b s i : ℕ} → Progress n w ds (λ c x j. (c ≡ b) × (x ≡ s) × (j < i)) l m r
+    → Progress n w ds (λ c x j. (c ≡ b) × (x ≡ s) × (j ≡ i)) m k r' → Progress n w ds (λ c x j. (c ≡ b) × (x ≡ s) × (j < i + 1)) l k (r || r')
+row_more {i = i} = after (λ c x j d. ⊎_elim (λ u. inl (d.0, d.1, u)) (λ u. inr (d.0, d.1, u)) (below_split j i d.2))
     (λ c x j d. (d.0, d.1, let u = d.2 in omega arith)) (λ c x j d. (d.0, d.1, let u = d.2 in omega arith))
 
 module _ {n w : ℕ} {ds l m k : List ℕ} {b : ℕ} {r r' : Bool} where
@@ -182,20 +176,10 @@ module _ {n w : ℕ} {ds l m k : List ℕ} {b : ℕ} {r r' : Bool} where
       (λ c x i d. (d.0, (j, omega arith, d.1 ∙ e), d.2))
 
 module _ {n w : ℕ} {ds l m : List ℕ} {b : ℕ} {r : Bool} where
-  -- one word, by the numbers of the blocks
-  pub row_word : {n' s to from i : ℕ} → n' ≡ n → b * w ≡ to → s * w ≡ from → i < w → Progress n' w ds (λ c x j. (c ≡ b) × (x ≡ s) × (j ≡ i)) l m r
-      → Progress n w ds (λ c x j. (c * w ≡ to) × (x * w ≡ from) × (j ≡ i)) l m r
-  row_word {n'} {s} {to} {from} {i} en eb es h p =
-      let z : 0 < w = omega arith in
-      subst (λ (k : ℕ). Progress k w ds (λ c x j. (c * w ≡ to) × (x * w ≡ from) × (j ≡ i)) l m r) en
-      (recast (λ c x j d. (same_row z (d.0 ∙ sym eb), same_row z (d.1 ∙ sym es), d.2)) (λ c x j d. (ap (λ (k : ℕ). k * w) d.0 ∙ eb, ap (λ (k : ℕ). k * w) d.1 ∙ es, d.2)) p)
-
   -- all words, all successors
-  pub row_all : {s to from i : ℕ} → b * w ≡ to → s * w ≡ from → i ≤ w → w ≤ i → Progress n w ds (λ c x j. (c * w ≡ to) × (x * w ≡ from) × (j < i)) l m r
+  pub row_all : {s i : ℕ} → i ≤ w → w ≤ i → Progress n w ds (λ c x j. (c ≡ b) × (x ≡ s) × (j < i)) l m r
       → Progress n w ds (λ c x j. (c ≡ b) × (x ≡ s) × (j < w)) l m r
-  row_all {s} eb es h g = recast
-      (λ c x j d. (ap (λ (k : ℕ). k * w) d.0 ∙ eb, ap (λ (k : ℕ). k * w) d.1 ∙ es, let u = d.2 in omega arith))
-      (λ c x j d. let u = d.2 in let z : 0 < w = omega arith in (same_row z (d.0 ∙ sym eb), same_row z (d.1 ∙ sym es), omega arith))
+  row_all {s} h g p = subst (λ (k : ℕ). Progress n w ds (λ c x j. (c ≡ b) × (x ≡ s) × (j < k)) l m r) (le_antisymm h g) p
 
   pub edge_all : (ss : List ℕ) {j : ℕ} → j ≤ length ss → length ss ≤ j → Progress n w ds (λ c x i. (c ≡ b) × Among ss j x × (i < w)) l m r
       → Progress n w ds (λ c x i. (c ≡ b) × Among ss (length ss) x × (i < w)) l m r

@@ -1,17 +1,16 @@
 -- 01, "The legal set", rule 2: the registers needed elsewhere than in the target, as a row of w words. The rows lie as `flow`
 -- leaves them: of n blocks row b is live-in of b, row n + b what b writes; this row is the next one. Assumes nothing.
-use Rattle.std.specs.Prelude.{◌≡◌, Bool, not, ◌&&◌, ◌||◌, List, ℕ, ◌+◌, ◌*◌, ◌/◌, ◌%◌, ◌≤◌, ◌<◌, length, get_or, take, drop}
+use Rattle.std.specs.Prelude.{◌≡◌, Bool, not, ◌&&◌, ◌||◌, List, ℕ, ◌+◌, ◌*◌, ◌/◌, ◌%◌, ◌≤◌, ◌<◌, length, take, drop}
 use Rattle.words.specs.Bits.{digit, is_in}
 use Rattle.words.specs.Lists.{any, hit}
 use Rattle.model.specs.Picture.{Picture}
 use Rattle.model.specs.Move.{needed}
 use Rattle.flow.specs.Live.{Live, Wrote}
 
--- what is asked: the target, the other branch and the target's successors are blocks, and the row has room
-pub record Fits (ss : List ℕ) (n w into other : ℕ) (bits : List ℕ) : Type 0 where
+-- what is asked: the target and the other branch are blocks, as the target's successors are by their type, and the row has room
+pub record Fits (n w into other : ℕ) (bits : List ℕ) : Type 0 where
   pub target : into < n
   pub branch : other < n
-  pub next : (j : ℕ) → j < length ss → get_or ss j 0 < n
   pub room : n * w + n * w + w ≤ length bits
 
 -- what the rows say of r: in the row of the other branch, or in that of a successor and not in that of what the target writes

@@ -7,13 +7,15 @@ ghost use Rattle.std.proofs.lemmas.List.Edits.{sets};
 ghost use Rattle.words.specs.Bits.{width};
 ghost use Rattle.model.specs.Picture.{succs};
 ghost use Rattle.cfg.specs.Drawn.{drawn};
-ghost use Rattle.cfg.specs.Func.{blocks_of, drawn_of, Graphed};
+ghost use Rattle.cfg.specs.Func.{blocks_of, drawn_of};
 ghost use Rattle.defuse.specs.Sets.{Room};
 ghost use Rattle.flow.specs.Progress.{raised, Among, Edges, Progress, Solved};
 ghost use Rattle.flow.specs.Live.{RowRoom, Rows, Live, gathered};
 ghost use Rattle.flow.specs.Order.{kth};
 
+use crate::grid::Grid;
 use cfg::graph::Func;
+use cfg::succs::Succs;
 use inst::index::BlockId;
 use words::bits::width;
 
@@ -30,29 +32,31 @@ fn raise(bits: &mut [u64], a: usize, c: usize, d: usize) -> bool
     new != old
 }
 
-// One edge: block b of n takes what is live into s and it does not write. Tells whether it changed.
-fn join(bits: &mut [u64], n: u32, w: usize, b: BlockId, s: BlockId) -> bool
-    requires { Room n w bits.old × (b.0 < n) × (s.0 < n) }
-    ensures { Progress n w (drop (n * w) bits.old) (λ c x j. (c ≡ b.0) × (x ≡ s.0) × (j < w)) bits.old bits.new result }
+// One edge: block b takes what is live into s and it does not write. Tells whether it changed. (By index: both rows lie in one slice,
+// and are the same one where a block goes to itself.)
+fn join(bits: &mut [u64], grid: Grid, b: BlockId, s: BlockId) -> bool
+    requires { Room grid.blocks grid.width bits.old × (b.0 < grid.blocks) × (s.0 < grid.blocks) }
+    ensures { Progress grid.blocks grid.width (drop (grid.blocks * grid.width) bits.old) (λ c x j. (c ≡ b.0) × (x ≡ s.0) × (j < grid.width)) bits.old bits.new result }
 {
-    let to = b.at() * w;
-    let from = s.at() * w;
-    let writes = n as usize * w + to;
+    let to = grid.live(b);
+    let from = grid.live(s);
+    let writes = grid.writes(b);
     let mut changed = false;
-    for i in 0..w {
+    for i in 0..grid.width {
         changed |= raise(bits, to + i, from + i, writes + i);
     }
     changed
 }
 
 // One block: it takes what is live into each of its successors. Tells whether it changed.
-fn settle(bits: &mut [u64], list: &[u32], n: u32, w: usize, b: BlockId) -> bool
-    requires { Room n w bits.old × (b.0 < n) × ((j : ℕ) → j < length list.now → get_or list.now j 0 < n) }
-    ensures { Progress n w (drop (n * w) bits.old) (λ c x i. (c ≡ b.0) × Among list.now (length list.now) x × (i < w)) bits.old bits.new result }
+fn settle(bits: &mut [u64], succs: Succs<'_>, grid: Grid, b: BlockId) -> bool
+    requires { Room grid.blocks grid.width bits.old × (b.0 < grid.blocks) × (succs.count ≡ grid.blocks) }
+    ensures { Progress grid.blocks grid.width (drop (grid.blocks * grid.width) bits.old)
+        (λ c x i. (c ≡ b.0) × Among succs.entry.list.now (length succs.entry.list.now) x × (i < grid.width)) bits.old bits.new result }
 {
     let mut changed = false;
-    for s in list {
-        changed |= join(bits, n, w, b, BlockId::known(*s, n));
+    for s in succs {
+        changed |= join(bits, grid, b, s);
     }
     changed
 }
@@ -79,28 +83,33 @@ impl Order {
 
 // Every block once. Tells whether one changed.
 fn sweep(bits: &mut [u64], func: &Func<'_>, w: usize, order: Order) -> bool
-    requires { Graphed func.now × Room (blocks_of func.now) w bits.old }
+    requires { Room (blocks_of func.now) w bits.old }
     ensures { Progress (blocks_of func.now) w (drop (blocks_of func.now * w) bits.old) (Edges (blocks_of func.now) w (succs (drawn_of func.now)))
         bits.old bits.new result }
 {
-    let n = func.blocks();
+    let grid = Grid {
+        blocks: func.blocks(),
+        width: w,
+    };
     let mut changed = false;
-    for k in 0..n {
-        let b = order.kth(k, n);
-        changed |= settle(bits, func.succs(b), n, w, b);
+    for k in 0..grid.blocks {
+        let b = order.kth(k, grid.blocks);
+        changed |= settle(bits, func.succs(b), grid, b);
     }
     changed
 }
 
 // Sweeps down and up until a sweep up changes nothing: then every edge holds, whatever the sweep down changed.
 fn solve(bits: &mut [u64], func: &Func<'_>, w: usize)
-    requires { Graphed func.now × Room (blocks_of func.now) w bits.old }
+    requires { Room (blocks_of func.now) w bits.old }
     ensures { Solved (blocks_of func.now) w (succs (drawn_of func.now)) bits.old bits.new }
 {
-    let mut again = true;
-    while again {
+    // (A loop: it ends when nothing changes, which comes about since each change adds a bit to a row.)
+    loop {
         sweep(bits, func, w, Order::Down);
-        again = sweep(bits, func, w, Order::Up);
+        if !sweep(bits, func, w, Order::Up) {
+            return;
+        }
     }
 }
 
@@ -115,26 +124,29 @@ fn to_head(bits: &mut [u64], s: usize, n: usize)
 // Live-in of every block: row b at the head of the slice, from the rows that rows.rt makes, whatever the operands are that
 // those are of. What lies behind the n rows of live-in is left as it was.
 pub fn live_in(bits: &mut [u64], func: &Func<'_>, regs: usize)
-    requires { Graphed func.now × RowRoom (blocks_of func.now) (width regs) bits.old × (regs ≤ 65536) }
+    requires { RowRoom (blocks_of func.now) (width regs) bits.old × (regs ≤ 65536) }
     ensures by_index { (ops : List ℕ)
         → ((b : ℕ) → b < blocks_of func.now → Rows (drawn func.now.bounds.now func.now.recs.now ops func.now.pairs.now func.now.targets.now) (width regs) b bits.old)
         → Live (drawn func.now.bounds.now func.now.recs.now ops func.now.pairs.now func.now.targets.now) (width regs) bits.new }
     ensures bits_unchanged { drop (blocks_of func.now * width regs) bits.new ≡ drop (blocks_of func.now * width regs) bits.old }
 {
-    let n = func.bounds.len() / 2;
-    let w = width(regs);
-    to_head(bits, (2 * n + 1) * w, n * w);
-    solve(bits, func, w);
+    let grid = Grid {
+        blocks: func.blocks(),
+        width: width(regs),
+    };
+    let n = grid.blocks as usize;
+    to_head(bits, grid.row(2 * n + 1), grid.row(n));
+    solve(bits, func, grid.width);
 }
 
-// Word i of every row of the list, of n blocks. (A loop: as a fold, what its closure asks of each number of the list was not proved.)
-pub fn gather(bits: &[u64], list: &[u32], n: u32, w: usize, i: usize) -> u64
-    requires { (i < w) × (n * w ≤ length bits.now) × ((j : ℕ) → j < length list.now → get_or list.now j 0 < n) }
-    ensures { result ≡ gathered bits.now w i 0 list.now }
+// Word i of the row of live-in of each of these blocks. (A loop: as a fold, what its closure asks of each block was not proved.)
+pub(crate) fn gather(bits: &[u64], succs: Succs<'_>, grid: Grid, i: usize) -> u64
+    requires { (i < grid.width) × (grid.blocks * grid.width ≤ length bits.now) × (succs.count ≡ grid.blocks) }
+    ensures { result ≡ gathered bits.now grid.width i 0 succs.entry.list.now }
 {
     let mut x: u64 = 0;
-    for s in list {
-        x |= bits[BlockId::known(*s, n).at() * w + i];
+    for s in succs {
+        x |= bits[grid.live(s) + i];
     }
     x
 }

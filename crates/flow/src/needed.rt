@@ -1,49 +1,53 @@
 // The registers needed elsewhere than in the target (01, "The legal set", rule 2: "live into the other branch, nor live out of the
 // target unless written there"), as a row of bits behind the rows of live-in and of what each block writes.
 ghost use Rattle.std.specs.Prelude.{◌≡◌, ◌+◌, ◌*◌, ◌/◌, ◌≤◌, ◌<◌, length};
-ghost use Rattle.cfg.specs.Func.{blocks_of, Graphed};
+ghost use Rattle.cfg.specs.Func.{blocks_of};
 ghost use Rattle.flow.specs.Needed.{Fits, Word, Put, Needed};
 
+use crate::grid::Grid;
 use crate::live::gather;
 use cfg::graph::Func;
+use cfg::succs::Succs;
 use inst::index::BlockId;
 
-// Word i of the row. The list is the target's successors.
+// Word i of the row. `succs` are the target's.
 fn needed_word(
     bits: &[u64],
-    list: &[u32],
-    n: u32,
-    w: usize,
+    succs: Succs<'_>,
+    grid: Grid,
     into: BlockId,
     other: BlockId,
     i: usize,
 ) -> u64
-    requires { Fits list.now n w into.0 other.0 bits.now × (i < w) }
-    ensures { Word bits.now list.now n w into.0 other.0 i result }
+    requires { Fits grid.blocks grid.width into.0 other.0 bits.now × (succs.count ≡ grid.blocks) × (i < grid.width) }
+    ensures { Word bits.now succs.entry.list.now grid.blocks grid.width into.0 other.0 i result }
 {
-    let live = bits[other.at() * w + i];
-    let writes = bits[n as usize * w + into.at() * w + i];
-    let out = gather(bits, list, n, w, i);
+    let live = bits[grid.live(other) + i];
+    let writes = bits[grid.writes(into) + i];
+    let out = gather(bits, succs, grid, i);
     live | (out & !writes)
 }
 
 // The whole row.
-fn put_row(work: &mut [u64], list: &[u32], n: u32, w: usize, into: BlockId, other: BlockId)
-    requires { Fits list.now n w into.0 other.0 work.old }
-    ensures { Put work.old list.now n w into.0 other.0 w work.new }
+fn put_row(work: &mut [u64], succs: Succs<'_>, grid: Grid, into: BlockId, other: BlockId)
+    requires { Fits grid.blocks grid.width into.0 other.0 work.old × (succs.count ≡ grid.blocks) }
+    ensures { Put work.old succs.entry.list.now grid.blocks grid.width into.0 other.0 grid.width work.new }
 {
-    let rows = n as usize * w;
-    let at = rows + rows;
-    for i in 0..w {
-        work[at + i] = needed_word(work, list, n, w, into, other, i);
+    let at = grid.needed();
+    for i in 0..grid.width {
+        work[at + i] = needed_word(work, succs, grid, into, other, i);
     }
 }
 
 // The row of w words behind the 2 n rows: the registers needed elsewhere than in block `into`, if `other` is the other branch.
 pub fn put_needed(func: &Func<'_>, work: &mut [u64], w: usize, into: BlockId, other: BlockId)
-    requires { Graphed func.now × (into.0 < blocks_of func.now) × (other.0 < blocks_of func.now)
+    requires { (into.0 < blocks_of func.now) × (other.0 < blocks_of func.now)
         × (blocks_of func.now * w + blocks_of func.now * w + w ≤ length work.old) }
     ensures { Needed func.now.bounds.now func.now.recs.now func.now.pairs.now func.now.targets.now w into.0 other.0 work.old work.new }
 {
-    put_row(work, func.succs(into), func.blocks(), w, into, other);
+    let grid = Grid {
+        blocks: func.blocks(),
+        width: w,
+    };
+    put_row(work, func.succs(into), grid, into, other);
 }

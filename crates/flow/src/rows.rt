@@ -8,6 +8,7 @@ ghost use Rattle.cfg.specs.Graph.{Blocks};
 ghost use Rattle.defuse.specs.Coded.{Coded};
 ghost use Rattle.flow.specs.Live.{RowRoom, Rows, OnlyRows};
 
+use crate::grid::Grid;
 use defuse::sets::{Pair, block_sets};
 use inst::code::Code;
 use inst::index::BlockId;
@@ -21,21 +22,25 @@ fn clear_at(bits: &mut [u64], at: usize, n: usize)
     bits[at..at + n].fill(0);
 }
 
-// Both rows of block b, of `regs` registers, from its code.
+// Both rows of block b, of `regs` registers, from its code. (`Blocks`, and no `Func`: the case tables have no part in it, and
+// `oneround::make` has none at hand.)
 pub fn block_rows(bits: &mut [u64], code: &Code<'_>, bounds: &[u32], regs: usize, b: BlockId)
     requires { Blocks bounds.now code.now.recs.now × Coded code.now regs
         × RowRoom (length bounds.now / 2) (width regs) bits.old × (b.0 < length bounds.now / 2) }
     ensures rows { Rows (drawn bounds.now code.now.recs.now code.now.ops.now [] []) (width regs) b.0 bits.new }
     ensures only_rows { OnlyRows (length bounds.now / 2) (width regs) b.0 bits.old bits.new }
 {
-    let n = bounds.len() / 2;
-    let w = width(regs);
-    let k = b.at();
-    let u = (2 * n + 1 + k) * w;
-    let d = (n + k) * w;
-    clear_at(bits, u, w);
-    clear_at(bits, d, w);
-    let at = Pair { u, d, regs };
+    let grid = Grid {
+        blocks: (bounds.len() / 2) as u32,
+        width: width(regs),
+    };
+    let at = Pair {
+        u: grid.first(b),
+        d: grid.writes(b),
+        regs,
+    };
+    clear_at(bits, at.u, grid.width);
+    clear_at(bits, at.d, grid.width);
     block_sets(code, bits, b.start(bounds), b.past(bounds), at);
 }
 

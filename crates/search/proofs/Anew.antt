@@ -13,7 +13,6 @@ use Rattle.model.specs.Analyse.{Facts}
 use Rattle.laws.proofs.Accepted.{Accepted, accepted}
 use Rattle.laws.proofs.Sizes as S
 use Rattle.cfg.specs.Drawn.{drawn}
-use Rattle.cfg.specs.Graph.{Graph}
 use Rattle.flow.specs.Live.{RowRoom, Rows, Live}
 use Rattle.flow.proofs.Whole.{live-rows_whole}
 use Rattle.sizes.specs.declared.Sizes.{Sizes}
@@ -22,7 +21,7 @@ use Rattle.chainwords.specs.Work.{Shown, Begun, Held}
 use Rattle.chainwords.proofs.Standing.{begun_kept, firm_back, rows_for}
 use Rattle.search.specs.declared.find.Look.{Look}
 use Rattle.search.specs.Search.{Looking, Sees, Seeking, Sought, Opened}
-use Rattle.search.proofs.Start.{graph_at, rows_asked}
+use Rattle.search.proofs.Start.{rows_asked}
 
 drawn_is : (P : Picture) {bounds recs ops pairs targets : List ℕ} → bounds ≡ P.bounds → recs ≡ P.recs → ops ≡ P.ops → pairs ≡ P.pairs → targets ≡ P.targets
     → drawn bounds recs ops pairs targets ≡ drawn P.bounds P.recs P.ops P.pairs P.targets
@@ -82,11 +81,9 @@ module _ {bounds recs pairs targets replay : List ℕ} {s : Sizes} {work64 work3
   regs_few : s.regs ≤ 65536
   regs_few = let e = k.shown.lists.regs_are in let a = S.regs_lent k.P good in let b = S.few_types k.P good in omega arith
 
-  pub live_ask : (r : ℕ) → r ≡ s.regs → Graph bounds recs pairs targets × RowRoom (length bounds / 2) (width r) work64 × (r ≤ 65536)
+  pub live_ask : (r : ℕ) → r ≡ s.regs → RowRoom (length bounds / 2) (width r) work64 × (r ≤ 65536)
   live_ask r er =
-      let l = k.shown.lists in
-      let t = k.shown.tabled in (
-        graph_at k.P good l.bounds_are l.recs_are t.pairs_are t.targets_are,
+      let l = k.shown.lists in (
         (rows_asked k.P (length work32) work64 l.accepted l.bounds_are l.recs_are l.ops_are (er ∙ l.regs_are)).2,
         omega (arith, regs_few),
       )

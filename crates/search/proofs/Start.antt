@@ -19,12 +19,12 @@ use Rattle.model.specs.Analyse.{facts}
 use Rattle.laws.proofs.Accepted.{Accepted, accepted, work_room}
 use Rattle.laws.proofs.Sizes as S
 use Rattle.cfg.specs.Drawn.{drawn}
-use Rattle.cfg.specs.Graph.{Blocks, Graph}
+use Rattle.cfg.specs.Graph.{Blocks}
 use Rattle.defuse.specs.Sets.{Code}
 use Rattle.flow.specs.Live.{RowRoom, Rows}
 use Rattle.cfg.specs.Preds as F
 use Rattle.cfg.specs.Preds.{many, first}
-use Rattle.flow.proofs.Accepted.{blocks_given, graph_given, code_given}
+use Rattle.flow.proofs.Accepted.{blocks_given, code_given}
 use Rattle.flow.proofs.Standing.{rows_same}
 use Rattle.flow.proofs.Whole.{preds_whole}
 use Rattle.chains.specs.Chain as C
@@ -65,13 +65,6 @@ rooms_at P w64 w32 r {b} {lent} {insts} e f g =
     subst (λ (z : ℕ). Rooms z lent insts w64 w32) (sym e)
     (subst (λ (z : ℕ). Rooms (nblocks P) z insts w64 w32) (sym f)
     (subst (λ (z : ℕ). Rooms (nblocks P) (length P.types) z w64 w32) (sym g) (rooms_of P w64 w32 r)))
-
-pub graph_at : (P : Picture) → Accepted P → {bounds recs pairs targets : List ℕ} → bounds ≡ P.bounds → recs ≡ P.recs → pairs ≡ P.pairs → targets ≡ P.targets → Graph bounds recs pairs targets
-graph_at P ok {bounds} {recs} {pairs} {targets} e f g h =
-    subst (λ (z : List ℕ). Graph z recs pairs targets) (sym e)
-    (subst (λ (z : List ℕ). Graph P.bounds z pairs targets) (sym f)
-    (subst (λ (z : List ℕ). Graph P.bounds P.recs z targets) (sym g)
-    (subst (λ (z : List ℕ). Graph P.bounds P.recs P.pairs z) (sym h) (graph_given P ok))))
 
 -- ---- predecessors
 
@@ -159,11 +152,8 @@ module _ {bounds recs ops pairs targets work64 work32 : List ℕ} {s : Sizes} (k
   pub rows_ask : (r : ℕ) → r ≡ regs → RowsAsk bounds recs ops r work64
   rows_ask r er = rows_asked k.P (length work32) work64 k.accepted k.bounds_are k.recs_are k.ops_are (er ∙ k.regs_are)
 
-  pub preds_ask : (p : ℕ) → p ≡ 8000 + lent → Graph bounds recs pairs targets × (2 * (length bounds / 2) ≤ length (take (p + 2 * (length bounds / 2) - p) (drop p work32)))
-  preds_ask p e = (
-    graph_at k.P good k.bounds_are k.recs_are k.pairs_are k.targets_are,
-    let r = rooms.room32 in let z = mid_len p (p + 2 * (length bounds / 2)) work32 (omega arith) in omega arith,
-  )
+  pub preds_ask : (p : ℕ) → p ≡ 8000 + lent → 2 * (length bounds / 2) ≤ length (take (p + 2 * (length bounds / 2) - p) (drop p work32))
+  preds_ask p e = let r = rooms.room32 in let z = mid_len p (p + 2 * (length bounds / 2)) work32 (omega arith) in omega arith
 
   -- with the rows made, as mid
   module _ (mid : List ℕ) (same : length mid ≡ length work64) where

@@ -4,7 +4,8 @@
 ghost use Rattle.std.specs.Prelude.{◌≡◌};
 ghost use Rattle.search.specs.Search.{Beginning, Began};
 
-use cfg::graph::{Func, find_preds};
+use cfg::graph::Func;
+use cfg::preds::find_preds;
 use flow::rows::all_rows;
 use inst::code::Code;
 use regfacts::flags::find_facts;

@@ -2,7 +2,7 @@
 #![tactic(auto)]
 
 ghost use Rattle.std.specs.Prelude.{◌≡◌, ◌≤◌};
-ghost use Rattle.sizes.specs.Parts.{regs_at, stamps_at, needed_at, preds_at};
+ghost use Rattle.sizes.specs.Parts.{regs_at, stamps_at, preds_at};
 
 use model::CHAIN_WORDS;
 use words::bits::width;
@@ -35,15 +35,6 @@ pub struct Sizes {
 
 // Where the copied words of the registers in use begin: behind the chain's.
 pub const COPIED: usize = CHAIN_WORDS;
-
-// Where the row of the registers needed elsewhere begins: behind live-in and writes of each block.
-pub fn at_needed(s: Sizes) -> usize
-    requires { (s.blocks ≤ 4096) × (s.regs ≤ 65536) }
-    ensures { (result ≡ needed_at s) × (result ≤ 8388608) }
-{
-    let rows = s.blocks as usize * width(s.regs as usize);
-    rows + rows
-}
 
 // Where the words of the registers begin.
 pub fn at_regs(s: Sizes) -> usize

@@ -18,9 +18,7 @@ use Rattle.model.specs.Refusal.{records}
 use Rattle.model.specs.Analyse.{Facts}
 use Rattle.model.specs.Move.{needed, needed_of}
 use Rattle.laws.proofs.Accepted.{accepted}
-use Rattle.cfg.specs.Graph.{Graph}
 use Rattle.flow.specs.Live.{Live, Wrote}
-use Rattle.flow.proofs.Accepted.{graph_given}
 use Rattle.chains.specs.declared.chain.Chain.{Chain}
 use Rattle.chains.specs.Chain.{blocks_of, last_of, Preds}
 use Rattle.summary.specs.Passes.{Row}
@@ -36,14 +34,10 @@ use Rattle.trial.specs.Target.{from_start, taken, Aiming, Aimed}
 use Rattle.chainwords.proofs.Standing.{wrote_held}
 use Rattle.chainwords.proofs.Rooms.{room_of, row_before, Same, held_same, preds_lent}
 
--- ---- the graph
+-- ---- where the row lies, and its blocks
 
-pub graph_lent : {P : Picture} {bounds recs ops pairs targets : List ℕ} {s : Sizes} {w64 w32 : ℕ} → Lists P bounds recs ops s w64 w32 → Tabled P pairs targets → Graph bounds recs pairs targets
-graph_lent {P} {bounds} {recs} {ops} {pairs} {targets} {s} {w64} {w32} l t =
-    subst (λ (b : List ℕ). Graph b recs pairs targets) (sym l.bounds_are)
-    (subst (λ (r : List ℕ). Graph P.bounds r pairs targets) (sym l.recs_are)
-    (subst (λ (p : List ℕ). Graph P.bounds P.recs p targets) (sym t.pairs_are)
-    (subst (λ (q : List ℕ). Graph P.bounds P.recs P.pairs q) (sym t.targets_are) (graph_given P (accepted P w64 w32 records l.accepted)))))
+pub needed_from : (s : Sizes) {w o : ℕ} → w ≡ width s.regs → o ≡ s.blocks * w + s.blocks * w → o ≡ needed_at s
+needed_from s e h = h ∙ ap (λ (x : ℕ). s.blocks * x + s.blocks * x) e
 
 pub block_lent : {P : Picture} {bounds recs ops : List ℕ} {s : Sizes} {w64 w32 b : ℕ} → Lists P bounds recs ops s w64 w32 → b < nblocks P → b < length bounds / 2
 block_lent {b = b} l h = subst (λ (bs : List ℕ). b < length bs / 2) (sym l.bounds_are) h

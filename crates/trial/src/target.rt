@@ -8,13 +8,14 @@ use cfg::body::Body;
 use chains::chain::Chain;
 use chainwords::marks::{put_facts, put_uses};
 use facts::Fact;
+use flow::grid::Grid;
 use flow::needed::put_needed;
 use inst::code::Code;
 use inst::index::BlockId;
 use plan::set::legal_set;
 use plan::settle::Cycle;
 use plan::sweep::{Phase, Span};
-use sizes::{COPIED, at_needed, at_preds, at_stamps};
+use sizes::{COPIED, at_preds, at_stamps};
 use words::bits::width;
 
 // What one target is tried with: the block that members are to move into, and the other branch; the fewest members that a move has, or
@@ -63,7 +64,11 @@ fn take_aim(body: &Body<'_>, work64: &mut [u64], work32: &[u32], c: Chain, g: Go
     requires { Aiming body.now.func.bounds.now body.now.func.recs.now body.now.func.pairs.now body.now.func.targets.now body.now.sizes c work64.old work32.now g }
     ensures { Aimed body.now.func.bounds.now body.now.func.recs.now body.now.func.pairs.now body.now.func.targets.now body.now.sizes c work64.old work32.now g work64.new result }
 {
-    let o = at_needed(body.sizes);
+    let grid = Grid {
+        blocks: body.sizes.blocks,
+        width: width(body.sizes.regs as usize),
+    };
+    let o = grid.needed();
     let st = at_stamps(body.sizes);
     let k = at_preds(body.sizes);
     let wanted = (g.least != 0) & c.is_target(&work32[k..], g.into);
@@ -74,11 +79,10 @@ fn take_aim(body: &Body<'_>, work64: &mut [u64], work32: &[u32], c: Chain, g: Go
             sweeps: from_start(o, st, 0, 0, 1),
         };
     }
-    let r = body.sizes.regs as usize;
-    put_needed(&body.func, work64, width(r), g.into, g.other);
+    put_needed(&body.func, work64, grid.width, g.into, g.other);
     Aim {
         least: g.least,
-        end: COPIED + r,
+        end: COPIED + body.sizes.regs as usize,
         sweeps: from_start(o, st, g.inside, g.places, g.least),
     }
 }

@@ -6,4 +6,4 @@ use Rattle.flow.specs.Progress.{Progress}
 use Rattle.flow.proofs.live.join.Given as goal
 
 abbrev pub invariant-loop-i : goal.invariant-loop-i
-invariant-loop-i l = Progress l.n l.w (drop (l.n * l.w) l.initial.bits) (λ c x j. (c * l.w ≡ l.to) × (x * l.w ≡ l.from) × (j < l.i)) l.initial.bits l.bits l.changed
+invariant-loop-i l = let g = l.fn.grid in Progress g.blocks g.width (drop (g.blocks * g.width) l.initial.bits) (λ c x j. (c ≡ l.fn.b.0) × (x ≡ l.fn.s.0) × (j < l.i)) l.initial.bits l.bits l.changed

@@ -3,4 +3,4 @@ use Rattle.flow.proofs.Elsewhere.{needed_is}
 use Rattle.flow.proofs.needed.put_needed.Goals as goal
 
 pub returns : goal.returns
-returns c = let p = c.requires in needed_is c.succs.result.now c.succs.ensures p.0 p.1 p.2 (rw c.blocks-2.ensures at c.put_row.ensures)
+returns c = let p = c.requires in needed_is c.succs.result.list.now c.succs.ensures.0 c.args.func.now.graphed p.0 p.1 (rw c.blocks-2.ensures at c.put_row.ensures)

@@ -17,7 +17,7 @@ pub find_facts-requires : goal.find_facts-requires
 find_facts-requires c = let p = c.requires in let z = facts_ask p _ c.all_rows.ensures.bits_len_unchanged _ (start_at p c.at_regs-a.ensures.0) in (z.0, z.1)
 
 pub find_preds-requires : goal.find_preds-requires
-find_preds-requires c = let p = c.requires in let z = preds_ask p _ c.at_preds-p.ensures in (z.0, z.1)
+find_preds-requires c = preds_ask c.requires _ c.at_preds-p.ensures
 
 pub returns : goal.returns
 returns c =

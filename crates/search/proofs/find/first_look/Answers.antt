@@ -5,7 +5,7 @@ use Rattle.search.proofs.Anew.{live_ask, seeking, opened}
 use Rattle.search.proofs.find.first_look.Goals as goal
 
 pub live_in-requires : goal.live_in-requires
-live_in-requires c = let z = live_ask c.requires _ refl in (z.0, z.1, z.2)
+live_in-requires c = live_ask c.requires _ refl
 
 pub seek-requires : goal.seek-requires
 seek-requires c = (seeking c.requires, omega arith)

@@ -5,9 +5,12 @@ use native.Mathlib.Omega.{arith}
 use borrow.Author.Tests.{not-true, not-false}
 use lib.ListN.{length, take, drop}
 use Rattle.chainwords.proofs.Rooms.{room, preds_room}
-use Rattle.trial.proofs.Aiming.{graph_lent, block_lent, block_in, row_lent, preds_from, aim_off, aim_on}
+use Rattle.trial.proofs.Aiming.{needed_from, block_lent, block_in, row_lent, preds_from, aim_off, aim_on}
 use mathlib.Core.Bool.{not}
 use Rattle.trial.proofs.target.take_aim.Goals as goal
+
+pub needed-o-requires : goal.needed-o-requires
+needed-o-requires c = let r = room c.requires.lists in rw c.width.ensures (omega (arith, r.rows, r.four, r.words64))
 
 pub at_stamps-st-requires : goal.at_stamps-st-requires
 at_stamps-st-requires c = let r = room c.requires.lists in (r.blocks, r.few)
@@ -30,7 +33,7 @@ is_target-requires c =
 pub returns-then-not-wanted : goal.returns-then-not-wanted
 returns-then-not-wanted c =
     let a = c.args in
-    aim_off (record { is = λ P h. c.is_target.ensures P a.body.now.sizes.blocks (block_in c.requires.lists c.requires.into_block) (preds_from a.body.now.sizes a.work32.now P c.at_preds-k.ensures h) }) (not-true _ (ap not c.if-not-wanted.true)) c.at_needed-o.ensures.0 c.at_stamps-st.ensures.0 c.from_start.ensures
+    aim_off (record { is = λ P h. c.is_target.ensures P a.body.now.sizes.blocks (block_in c.requires.lists c.requires.into_block) (preds_from a.body.now.sizes a.work32.now P c.at_preds-k.ensures h) }) (not-true _ (ap not c.if-not-wanted.true)) (needed_from a.body.now.sizes c.width.ensures c.needed-o.ensures) c.at_stamps-st.ensures.0 c.from_start.ensures
 
 pub put_needed-requires : goal.put_needed-requires
 put_needed-requires c =
@@ -39,12 +42,12 @@ put_needed-requires c =
     let low = block_lent l t.into_block in
     let other = block_lent l t.other_block in
     let ew = c.width.ensures in
-    (graph_lent l t.tabled, omega (arith, low, other), omega (arith, low, other), row_lent l t.into_block ew)
+    (omega (arith, low, other), omega (arith, low, other), row_lent l t.into_block ew)
 
 pub returns : goal.returns
 returns c =
     let a = c.args in
-    aim_on c.requires (record { is = λ P h. c.is_target.ensures P a.body.now.sizes.blocks (block_in c.requires.lists c.requires.into_block) (preds_from a.body.now.sizes a.work32.now P c.at_preds-k.ensures h) }) (not-false _ (ap not c.if-not-wanted.false)) c.width.ensures c.at_needed-o.ensures.0 c.at_stamps-st.ensures.0
+    aim_on c.requires (record { is = λ P h. c.is_target.ensures P a.body.now.sizes.blocks (block_in c.requires.lists c.requires.into_block) (preds_from a.body.now.sizes a.work32.now P c.at_preds-k.ensures h) }) (not-false _ (ap not c.if-not-wanted.false)) c.width.ensures (needed_from a.body.now.sizes c.width.ensures c.needed-o.ensures) c.at_stamps-st.ensures.0
     refl c.put_needed.ensures c.from_start-2.ensures
 
 pub slice_bounds-is_target-start : goal.slice_bounds-is_target-start

@@ -1,11 +1,11 @@
--- `cfg::graph::note` meets its contract. Assumes nothing.
+-- `cfg::preds::note` meets its contract. Assumes nothing.
 use mathlib.Core.Path.{◌∙◌, ap}
 use Prim.Native.Nat.{◌+◌, ◌*◌, ◌<◌}
 use native.Mathlib.Omega.{arith}
 use lib.ListN.{length, length-set}
 use Rattle.cfg.specs.Preds.{noted}
 use Rattle.cfg.proofs.Noted.{one_noted}
-use Rattle.cfg.proofs.graph.note.Goals as goal
+use Rattle.cfg.proofs.preds.note.Goals as goal
 
 pub bounds-words-i-4 : goal.bounds-words-i-4
 bounds-words-i-4 c =

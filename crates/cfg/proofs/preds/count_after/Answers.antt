@@ -1,6 +1,6 @@
--- `cfg::graph::count_after` meets its contract. Assumes nothing.
+-- `cfg::preds::count_after` meets its contract. Assumes nothing.
 use Rattle.cfg.proofs.Noted.{count_none, count_more, count_same}
-use Rattle.cfg.proofs.graph.count_after.Goals as goal
+use Rattle.cfg.proofs.preds.count_after.Goals as goal
 
 pub returns-then-k-eq0 : goal.returns-then-k-eq0
 returns-then-k-eq0 c = let a = c.args in count_none a.k a.p a.c.0 c.if-k-eq0.true
