@@ -1,8 +1,39 @@
-// The registers that are free (01, "The move": "reused, last freed first"): the search from the top for one of a type, and
-// the closing up where one is taken out.
-ghost use Rattle.std.specs.Prelude.{◌≡◌, ◌<◌, ◌%◌, ℕ, IfSome, IfNone, length, get_or};
+// The registers that are free (01, "The move": "reused, last freed first, once its last reader is before the present member"): which of
+// those held become so, and the search from the top for one of a type.
+ghost use Rattle.std.specs.Prelude.{◌≡◌, ◌+◌, ◌≤◌, ◌++◌, ◌<◌, ◌%◌, ℕ, IfSome, IfNone, length, get_or};
+ghost use Rattle.std.specs.List.{list_any};
+ghost use Rattle.words.specs.Lists.{filter};
+ghost use Rattle.pool.specs.Pool.{past};
 
 use crate::held::{Pool, UNTIL};
+use arrayvec::ArrayVec;
+use model::RECORDS;
+
+// Does the last reader of a held word stand before p?
+fn past(w: u32, p: u32) -> bool
+    ensures { result ≡ past p w }
+{
+    w / UNTIL < p
+}
+
+// Is there one such among these?
+fn any_past(words: &[u32], p: u32) -> bool
+    ensures { result ≡ list_any (past p) words.now }
+{
+    words.iter().any(|w| past(*w, p))
+}
+
+// They go behind those that are free.
+fn free_past(held: &[u32], free: &mut ArrayVec<u32, RECORDS>, p: u32)
+    requires { length held.now + length free.old.items ≤ 800 }
+    ensures { free.new.items ≡ free.old.items ++ filter (past p) held.now }
+{
+    for w in held {
+        if past(*w, p) {
+            free.push(*w);
+        }
+    }
+}
 
 // A free word's type.
 fn type_of(w: u32) -> u32
@@ -21,21 +52,24 @@ fn last_of(words: &[u32], ty: u32) -> Option<usize>
 }
 
 impl Pool {
-    ghost use Rattle.pool.specs.Pool.{Top, Removed};
+    ghost use Rattle.pool.specs.Pool.{Released, Top};
 
-    // The place of the topmost free word of type ty.
-    pub fn find(&self, ty: u32) -> Option<usize>
-        ensures { Top ty self.now result }
+    // Those held whose last reader is before p become free ("once its last reader is before the present member"). In most turns there
+    // are none, and one look tells.
+    pub(crate) fn release(&mut self, p: u32)
+        ensures { Released p self.old self.new }
     {
-        last_of(&self.free[..self.nf], ty)
+        if !any_past(self.held.as_slice(), p) {
+            return;
+        }
+        free_past(self.held.as_slice(), &mut self.free, p);
+        self.held.retain(|w| !past(*w, p));
     }
 
-    // The free word at a goes, and those above it close up.
-    pub fn remove(&mut self, a: usize)
-        requires { a < self.old.nf }
-        ensures { Removed a self.old self.new }
+    // The place of the topmost free word of type ty.
+    pub(crate) fn find(&self, ty: u32) -> Option<usize>
+        ensures { Top ty self.now result }
     {
-        self.free.copy_within(a + 1..self.nf, a);
-        self.nf -= 1;
+        last_of(self.free.as_slice(), ty)
     }
 }
