@@ -1,13 +1,12 @@
 -- What `release` makes free. Assumes nothing.
 use mathlib.Core.Path.{◌≡◌, refl, sym, ap, ◌∙◌, subst}
-use mathlib.Core.Bool.{Bool, true, false, not, cond, ◌||◌, false≢true}
+use mathlib.Core.Bool.{Bool, true, false, not, cond}
 use mathlib.Core.List.{List, [], ◌∷◌, ◌++◌, append_assoc, append-nil}
 use Prim.Native.Nat.{ℕ, suc, ◌+◌, ◌<◌, ◌≤◌}
 use native.Mathlib.Numerals.{add-one}
 use native.Mathlib.Omega.{arith}
 use lib.ListN.{length, take, get_or, length-append}
 use lib.Seq.{take-suc}
-use Rattle.std.specs.List.{list_any}
 use Rattle.std.specs.List.Retain.{RetainsInTurn}
 use Rattle.pool.specs.declared.held.Pool.{Pool as Words}
 use Rattle.pool.specs.Pool.{past, held_words, free_words, Released}
@@ -21,15 +20,6 @@ module _ (p : ℕ) where
   abbrev go_on : List ℕ → List ℕ
   go_on xs = filter (past p) xs
 
-  none_past : (xs : List ℕ) → list_any (past p) xs ≡ false → (go_on xs ≡ []) × (stay xs ≡ xs)
-  none_past [] e = (refl, refl)
-  none_past (w ∷ ws) e = go (past p w) e (none_past ws)
-    where
-      go : (b : Bool) → b || list_any (past p) ws ≡ false → (list_any (past p) ws ≡ false → (go_on ws ≡ []) × (stay ws ≡ ws))
-          → (cond b (w ∷ go_on ws) (go_on ws) ≡ []) × (cond (not b) (w ∷ stay ws) (stay ws) ≡ w ∷ ws)
-      go true e h = absurd (false≢true (sym e))
-      go false e h = let r = h e in (r.0, ap (λ (l : List ℕ). w ∷ l) r.1)
-
   -- each stays or goes
   pub split : (xs : List ℕ) → length (stay xs) + length (go_on xs) ≡ length xs
   split [] = refl
@@ -40,6 +30,16 @@ module _ (p : ℕ) where
       go true e = omega arith
       go false e = omega arith
 
+  -- where none goes, all stay
+  none_past : (xs : List ℕ) → ◌≡◌ {A = ℕ} (length (go_on xs)) 0 → stay xs ≡ xs
+  none_past [] e = refl
+  none_past (w ∷ ws) e = go (past p w) e (none_past ws)
+    where
+      go : (b : Bool) → ◌≡◌ {A = ℕ} (length (cond b (w ∷ go_on ws) (go_on ws))) 0 → (◌≡◌ {A = ℕ} (length (go_on ws)) 0 → stay ws ≡ ws)
+          → cond (not b) (w ∷ stay ws) (stay ws) ≡ w ∷ ws
+      go true e h = absurd (omega arith)
+      go false e h = ap (λ (l : List ℕ). w ∷ l) (h e)
+
   -- so as many are in the pool as before
   pub as_many : (xs fs ys gs : List ℕ) → gs ≡ fs ++ go_on xs → ys ≡ stay xs → length ys + length gs ≡ length xs + length fs
   as_many xs fs ys gs gone stays =
@@ -47,14 +47,18 @@ module _ (p : ℕ) where
       let m = ap length stays in
       omega (arith, split xs)
 
+  -- the words that were passed are those held
+  pub went : (xs ys fs gs : List ℕ) → gs ≡ fs ++ go_on ys → ys ≡ xs → gs ≡ fs ++ go_on xs
+  went xs ys fs gs gone same = gone ∙ ap (λ (l : List ℕ). fs ++ go_on l) same
+
   pub released_some : (a b : Words) → free_words b ≡ free_words a ++ go_on (held_words a) → held_words b ≡ stay (held_words a) → b.next ≡ a.next → Released p a b
   released_some a b free held next = record { stays = held; gone = free; counts = as_many (held_words a) (free_words a) (held_words b) (free_words b) free held; next_same = next }
 
-  -- nothing changes where none is past
-  pub released_none : (a b : Words) → list_any (past p) (held_words a) ≡ false → held_words b ≡ held_words a → free_words b ≡ free_words a → b.next ≡ a.next → Released p a b
-  released_none a b e held free next =
-      let n = none_past (held_words a) e in
-      released_some a b (free ∙ sym (ap (λ (l : List ℕ). free_words a ++ l) n.0 ∙ append-nil (free_words a))) (held ∙ sym n.1) next
+  -- those held are the same where no more are free
+  pub all_stay : (xs fs gs : List ℕ) → gs ≡ fs ++ go_on xs → length gs ≤ length fs → xs ≡ stay xs
+  all_stay xs fs gs gone few =
+      let n = ap length gone ∙ length-append fs (go_on xs) in
+      sym (none_past xs (omega arith))
 
   -- the first i of xs were looked at, and those past went behind fs
   pub record Releasing (fs xs gs : List ℕ) (i : ℕ) : Type 0 where

@@ -1,7 +1,6 @@
 // The registers that are free (01, "The move": "reused, last freed first, once its last reader is before the present member"): which of
 // those held become so, and the search from the top for one of a type.
 ghost use Rattle.std.specs.Prelude.{◌≡◌, ◌+◌, ◌≤◌, ◌++◌, ◌<◌, ◌%◌, ℕ, IfSome, IfNone, length, get_or};
-ghost use Rattle.std.specs.List.{list_any};
 ghost use Rattle.words.specs.Lists.{filter};
 ghost use Rattle.pool.specs.Pool.{past};
 
@@ -16,14 +15,7 @@ fn past(w: u32, p: u32) -> bool
     w / UNTIL < p
 }
 
-// Is there one such among these?
-fn any_past(words: &[u32], p: u32) -> bool
-    ensures { result ≡ list_any (past p) words.now }
-{
-    words.iter().any(|w| past(*w, p))
-}
-
-// They go behind those that are free.
+// Those of them whose last reader is before p go behind those that are free.
 fn free_past(held: &[u32], free: &mut ArrayVec<u32, RECORDS>, p: u32)
     requires { length held.now + length free.old.items ≤ 800 }
     ensures { free.new.items ≡ free.old.items ++ filter (past p) held.now }
@@ -54,16 +46,16 @@ fn last_of(words: &[u32], ty: u32) -> Option<usize>
 impl Pool {
     ghost use Rattle.pool.specs.Pool.{Released, Top};
 
-    // Those held whose last reader is before p become free ("once its last reader is before the present member"). In most turns there
-    // are none, and one look tells.
+    // Those held whose last reader is before p become free ("once its last reader is before the present member"). In many turns there
+    // are none, and the others need no second look then.
     pub(crate) fn release(&mut self, p: u32)
         ensures { Released p self.old self.new }
     {
-        if !any_past(self.held.as_slice(), p) {
-            return;
-        }
+        let before = self.free.len();
         free_past(self.held.as_slice(), &mut self.free, p);
-        self.held.retain(|w| !past(*w, p));
+        if before < self.free.len() {
+            self.held.retain(|w| !past(*w, p));
+        }
     }
 
     // The place of the topmost free word of type ty.
