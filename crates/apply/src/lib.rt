@@ -13,7 +13,8 @@ ghost use Rattle.apply.specs.Apply.{Rest, picture, plan, Stands, Given, Asks, Fi
 use crate::moves::Move;
 use crate::needs::Counts;
 use inst::table::Table;
-use mover::bounds::{count, move_bounds};
+use mover::bounds::move_bounds;
+use mover::marks::count;
 use mover::moving::move_all;
 use pool::types::add_types;
 use rename::all::rename_all;
