@@ -2,8 +2,8 @@
 // leaves the state of the last round; `apply` then does it in place.
 #![tactic(auto)]
 
-pub mod moves;
-pub mod needs;
+pub mod moves; // the move as a value
+pub mod needs; // what it takes
 
 ghost use Rattle.std.specs.Prelude.{◌≡◌, length, Bool, List};
 ghost use Rattle.model.specs.Analyse.{Fact};
@@ -13,7 +13,8 @@ ghost use Rattle.apply.specs.Apply.{Rest, picture, plan, Stands, Given, Asks, Fi
 use crate::moves::Move;
 use crate::needs::Counts;
 use inst::table::Table;
-use mover::bounds::{count, move_bounds};
+use mover::bounds::move_bounds;
+use mover::marks::count;
 use mover::moving::move_all;
 use pool::types::add_types;
 use rename::all::rename_all;
@@ -39,7 +40,7 @@ pub fn apply(
     ensures { (rest : Rest) (run : List Fact) (set : List Bool) → let P = picture bounds.old recs.old locs.old vias.old types.old c.regs ops.old c.opers rest in let a = plan m.from.0 m.into.0 run set in Stands P a m.inside m.places w.now → Given P a m.inside w.now → Holds (apply P a) bounds.new recs.new locs.new vias.new types.new ops.new }
 {
     let walk = Walk {
-        from: m.start(bounds),
+        from: m.from.start(bounds),
         inside: m.inside,
         places: m.places,
         target: m.target(bounds),

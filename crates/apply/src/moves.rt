@@ -6,7 +6,7 @@ use std::ops::Range;
 
 // From and into which block; the positions of the chain that are in the first one, but for its last, and of the whole chain; how
 // many of them move.
-#[derive(Clone, Copy)]
+#[derive(Clone, Copy, Debug, PartialEq, Eq)]
 pub struct Move {
     pub from: BlockId,
     pub into: BlockId,
@@ -16,16 +16,8 @@ pub struct Move {
 }
 
 impl Move {
-    // Where the records of the block start that it moves from.
-    pub fn start(self, bounds: &[u32]) -> usize
-        requires { 2 * self.from.0 + 1 < length bounds.now }
-        ensures { result ≡ get_or bounds.now (2 * self.from.0) 0 }
-    {
-        self.from.start(bounds)
-    }
-
     // The records of the block that it moves into.
-    pub fn target(self, bounds: &[u32]) -> Range<usize>
+    pub(crate) fn target(self, bounds: &[u32]) -> Range<usize>
         requires { 2 * self.into.0 + 1 < length bounds.now }
         ensures start { result.start ≡ get_or bounds.now (2 * self.into.0) 0 }
         ensures end { result.end ≡ get_or bounds.now (2 * self.into.0 + 1) 0 }

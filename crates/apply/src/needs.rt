@@ -11,7 +11,7 @@ use rename::all::count_all;
 use rename::parts::Walk;
 
 // Registers and operands in use. (It is no `sizes::InUse`: what is counted may be more operands than a word says, until it is weighed.)
-#[derive(Clone, Copy)]
+#[derive(Clone, Copy, Debug, PartialEq, Eq)]
 pub struct Counts {
     pub regs: u32,
     pub opers: usize,
@@ -32,7 +32,7 @@ pub fn needs(
 {
     let regs = allot(w, m.inside, c.regs, types);
     let walk = Walk {
-        from: m.start(bounds),
+        from: m.from.start(bounds),
         inside: m.inside,
         places: m.places,
         target: m.target(bounds),

@@ -28,15 +28,15 @@ pub const BOUNDS: usize = 2 * BLOCKS;
 pub const RECS: usize = 16 * INSTS;
 
 // The eight counts, in words and in bytes; the bytes of the largest picture.
-pub const HEAD: usize = 8;
+pub(crate) const HEAD: usize = 8;
 
-pub const HEAD_BYTES: usize = 4 * HEAD;
+pub(crate) const HEAD_BYTES: usize = 4 * HEAD;
 
 pub const PICTURE_BYTES: usize = 4
     * (HEAD + BOUNDS + RECS + INSTS + VIAS + REGISTERS + OPERANDS + PAIRS + TARGETS + REPLAY);
 
 // How many blocks, instructions, registers and operands in use, pair words, target words, replay words and via words.
-#[derive(Clone, Copy)]
+#[derive(Clone, Copy, Debug, PartialEq, Eq)]
 pub struct Counts {
     pub blocks: u32,
     pub insts: u32,
@@ -49,7 +49,7 @@ pub struct Counts {
 }
 
 // The slices of a picture, in the order in which they lie behind the counts.
-#[derive(Clone, Copy)]
+#[derive(Clone, Copy, Debug, PartialEq, Eq)]
 pub enum Part {
     Bounds,
     Recs,
@@ -62,7 +62,8 @@ pub enum Part {
     Replay,
 }
 
-// The slices of a picture, lent: types and operands as many as are lent, not only those in use.
+// The slices of a picture, lent: types and operands as many as are lent, not only those in use. (It is no `acceptance::Lent`: that one
+// says with them how many are in use, and has no replay, of which acceptance reads nothing.)
 #[derive(Clone, Copy)]
 pub struct Slices<'a> {
     pub bounds: &'a [u32],

@@ -1,5 +1,5 @@
 // How many words each part of a picture has, and where it begins (document 01, "One listing whole"; specs/Layout).
-ghost use Rattle.std.specs.Prelude.{◌≡◌, true};
+ghost use Rattle.std.specs.Prelude.{◌≡◌, true, [], ◌∷◌};
 ghost use Rattle.layout.specs.Layout.{within, words_in, before, start, at_end};
 
 use crate::{BLOCKS, Counts, HEAD, INSTS, OPERANDS, PAIRS, Part, REGISTERS, REPLAY, TARGETS, VIAS};
@@ -24,8 +24,24 @@ impl Part {
 }
 
 impl Counts {
+    // The eight as the words that a picture begins with.
+    pub(crate) fn words(self) -> [u32; HEAD]
+        ensures { result ≡ self.blocks ∷ self.insts ∷ self.registers ∷ self.operands ∷ self.pairs ∷ self.targets ∷ self.replay ∷ self.vias ∷ [] }
+    {
+        [
+            self.blocks,
+            self.insts,
+            self.registers,
+            self.operands,
+            self.pairs,
+            self.targets,
+            self.replay,
+            self.vias,
+        ]
+    }
+
     // Whether they are within the program's sizes.
-    pub fn within(self) -> bool
+    pub(crate) fn within(self) -> bool
         ensures { result ≡ within self }
     {
         self.blocks as usize <= BLOCKS
@@ -39,7 +55,7 @@ impl Counts {
     }
 
     // How many words a part has.
-    pub fn words_in(self, part: Part) -> usize
+    pub(crate) fn words_in(self, part: Part) -> usize
         ensures { result ≡ words_in part self }
     {
         match part {
@@ -56,7 +72,7 @@ impl Counts {
     }
 
     // The word at which a part begins: behind the counts, or where the one before ends.
-    pub fn start(self, part: Part) -> usize
+    pub(crate) fn start(self, part: Part) -> usize
         requires { within self ≡ true }
         ensures { result ≡ start part self }
     {
@@ -67,7 +83,7 @@ impl Counts {
     }
 
     // The word behind the last part.
-    pub fn end(self) -> usize
+    pub(crate) fn end(self) -> usize
         requires { within self ≡ true }
         ensures { result ≡ at_end self }
     {

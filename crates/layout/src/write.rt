@@ -4,7 +4,7 @@ ghost use Rattle.std.specs.Prelude.{◌+◌, ◌*◌, ◌≤◌, length};
 ghost use Rattle.words.specs.Bytes.{bytes_of};
 ghost use Rattle.layout.specs.Layout.{Put, joined, picture_bytes, pictured, Fitting};
 
-use crate::Slices;
+use crate::{Counts, Slices};
 use words::bytes::put_words;
 
 // The words of all slices, one behind the other, at the head of `out`; all else stays. The answer is the place behind them.
@@ -25,20 +25,20 @@ pub fn write_picture(out: &mut [u8], slices: Slices, regs: usize, opers: usize) 
     requires { Fitting (pictured slices regs opers) (length out.old) }
     ensures { Put out.old 0 (picture_bytes (pictured slices.entry regs opers)) out.new result }
 {
-    let counts = [
-        (slices.bounds.len() / 2) as u32,
-        slices.locs.len() as u32,
-        regs as u32,
-        opers as u32,
-        slices.pairs.len() as u32,
-        slices.targets.len() as u32,
-        slices.replay.len() as u32,
-        slices.vias.len() as u32,
-    ];
+    let counts = Counts {
+        blocks: (slices.bounds.len() / 2) as u32,
+        insts: slices.locs.len() as u32,
+        registers: regs as u32,
+        operands: opers as u32,
+        pairs: slices.pairs.len() as u32,
+        targets: slices.targets.len() as u32,
+        replay: slices.replay.len() as u32,
+        vias: slices.vias.len() as u32,
+    };
     put_all(
         out,
         &[
-            &counts,
+            &counts.words(),
             slices.bounds,
             slices.recs,
             slices.locs,

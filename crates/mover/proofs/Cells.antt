@@ -1,19 +1,18 @@
 -- Laws of records laid end to end, and the turns of the loop that gathers. Assumes nothing.
 use mathlib.Core.Path.{◌≡◌, refl, sym, ap, ap₂, ◌∙◌, subst}
-use mathlib.Core.Bool.{Bool, true, false, cond, not}
+use mathlib.Core.Bool.{Bool, true, false, cond, not, false≢true}
 use mathlib.Core.List.{List, [], ◌∷◌, ◌++◌, append_assoc, append-nil, map}
 use Prim.Native.Nat.{ℕ, zero, suc, ◌+◌, ◌-◌, ◌*◌, ◌≤◌, ◌<◌}
 use native.Mathlib.Nat.{add-zero, zero-add, mul-zero, mul-suc, mul-add, mul-le-mul_left, le_antisymm, sub-zero}
 use native.Mathlib.Numerals.{add-one}
 use native.Mathlib.Omega.{arith}
-use borrow.Author.Tests.{eq-eqb, ne_eqb, eqb-true, eqb-false}
-use lib.Dec.{eqb}
-use lib.ListN.{length, take, drop, length-drop, length-append}
+use lib.ListN.{length, take, drop, length-drop}
 use lib.Seq.{sets, length-sets, drop-drop, take-add, length-take-le}
-use Rattle.words.specs.Lists.{range, upto, filter, concat, hit}
+use Rattle.std.specs.List.{range_with_len, filter as passed}
+use Rattle.words.specs.Lists.{range, upto, filter, concat}
 use Rattle.words.proofs.Lists.{map_append, range_snoc, filter_append, concat_append}
 use Rattle.words.proofs.Copying.{front_sets, drop_sets}
-use Rattle.mover.specs.Order.{cell, cells, mark_at, stays, goes, kept, gone, One, Gathered}
+use Rattle.mover.specs.Order.{cell, cells, stays, goes, kept, gone, One, Gathered}
 
 pub step : (w n : ℕ) → w * (n + 1) ≡ w * n + w
 step w n = ap (λ (k : ℕ). w * k) (add-one n) ∙ mul-suc w n
@@ -50,21 +49,21 @@ module _ (w : ℕ) (xs : List ℕ) where
 
 -- ---- one record
 
-pub one_kept : {w mark e s : ℕ} {xs ys saved : List ℕ} → mark ≡ 0 → ys ≡ sets xs (e - s) (take w (drop e xs)) → One w mark e s xs ys saved saved 0
-one_kept {w} {mark} {e} {s} {xs} z y = record {
+pub one_kept : {w e s : ℕ} {goes : Bool} {xs ys saved : List ℕ} → goes ≡ false → ys ≡ sets xs (e - s) (take w (drop e xs)) → One w goes e s xs ys saved saved 0
+one_kept {w} {e} {s} {xs} z y = record {
   small = omega arith;
   size = ap length y ∙ length-sets xs (e - s) (take w (drop e xs));
   saved_size = refl;
   unmarked = λ q. (refl, y, refl);
-  marked = λ f. absurd (f z);
+  marked = λ f. absurd (false≢true (sym z ∙ f));
 }
 
-pub one_gone : {w mark e s : ℕ} {xs saved saved' : List ℕ} → (mark ≡ 0 → ⊥) → saved' ≡ sets saved s (take w (drop e xs)) → One w mark e s xs xs saved saved' w
-one_gone {w} {mark} {e} {s} {xs} {saved} f y = record {
+pub one_gone : {w e s : ℕ} {goes : Bool} {xs saved saved' : List ℕ} → goes ≡ true → saved' ≡ sets saved s (take w (drop e xs)) → One w goes e s xs xs saved saved' w
+one_gone {w} {e} {s} {xs} {saved} f y = record {
   small = omega arith;
   size = refl;
   saved_size = ap length y ∙ length-sets saved s (take w (drop e xs));
-  unmarked = λ z. absurd (f z);
+  unmarked = λ z. absurd (false≢true (sym z ∙ f));
   marked = λ g. (refl, refl, y);
 }
 
@@ -82,7 +81,7 @@ gathered_none w chain lo xs saved = record {
 }
 
 module _ {w lo p s e m r : ℕ} {chain xs ys zs saved sv sv' : List ℕ} (g : Gathered w chain lo xs ys saved sv p s) (at : e ≡ w * lo + w * p) (lt : p < m)
-    (inside : w * (lo + m) ≤ length xs) (room : w * m ≤ length saved) (o : One w (mark_at chain p) e s ys zs sv sv' r) where
+    (inside : w * (lo + m) ≤ length xs) (room : w * m ≤ length saved) (o : One w (goes chain p) e s ys zs sv sv' r) where
   sum_is : w * (lo + p) ≡ w * lo + w * p
   sum_is = mul-add w lo p
 
@@ -107,10 +106,9 @@ module _ {w lo p s e m r : ℕ} {chain xs ys zs saved sv sv' : List ℕ} (g : Ga
       let k : w * (lo + p) + w ≡ w * (lo + (p + 1)) = let a = sum_is in let b = next_is in omega arith in
       ap (λ (n : ℕ). drop n ys) (sym k) ∙ sym (drop-drop w (w * (lo + p)) ys) ∙ ap (drop w) g.back ∙ drop-drop w (w * (lo + p)) xs ∙ ap (λ (n : ℕ). drop n xs) k
 
-  kept_more : mark_at chain p ≡ 0 → Gathered w chain lo xs zs saved sv' (p + 1) (s + r)
-  kept_more z =
-      let u = o.unmarked z in
-      let b : stays chain p ≡ true = eq-eqb (mark_at chain p) 0 z in
+  kept_more : stays chain p ≡ true → Gathered w chain lo xs zs saved sv' (p + 1) (s + r)
+  kept_more b =
+      let u = o.unmarked (ap not b) in
       let sm = g.small in
       let sp = step w p in
       let vs : List ℕ = take w (drop e ys) in
@@ -130,10 +128,9 @@ module _ {w lo p s e m r : ℕ} {chain xs ys zs saved sv sv' : List ℕ} (g : Ga
             ∙ ap (λ (c : Bool). cells w xs (gone chain lo p) ++ cond (not c) (cell w xs (lo + p)) []) (sym b) ∙ sym (cells_more w xs (goes chain) lo p);
       }
 
-  gone_more : (mark_at chain p ≡ 0 → ⊥) → Gathered w chain lo xs zs saved sv' (p + 1) (s + r)
-  gone_more z =
-      let u = o.marked z in
-      let b : stays chain p ≡ false = ne_eqb (mark_at chain p) 0 z in
+  gone_more : stays chain p ≡ false → Gathered w chain lo xs zs saved sv' (p + 1) (s + r)
+  gone_more b =
+      let u = o.marked (ap not b) in
       let sm = g.small in
       let sp = step w p in
       let vs : List ℕ = take w (drop e ys) in
@@ -153,23 +150,18 @@ module _ {w lo p s e m r : ℕ} {chain xs ys zs saved sv sv' : List ℕ} (g : Ga
       }
 
   pub gathered_more : Gathered w chain lo xs zs saved sv' (p + 1) (s + r)
-  gathered_more = go (eqb (mark_at chain p) 0) refl
+  gathered_more = go (stays chain p) refl
     where
-      go : (b : Bool) → eqb (mark_at chain p) 0 ≡ b → Gathered w chain lo xs zs saved sv' (p + 1) (s + r)
-      go true e = kept_more (eqb-true (mark_at chain p) 0 e)
-      go false e = gone_more (eqb-false (mark_at chain p) 0 e)
+      go : (b : Bool) → stays chain p ≡ b → Gathered w chain lo xs zs saved sv' (p + 1) (s + r)
+      go true e = kept_more e
+      go false e = gone_more e
 
 pub gathered_end : {w lo p m s : ℕ} {chain xs ys saved sv : List ℕ} → Gathered w chain lo xs ys saved sv p s → p ≤ m → m ≤ p → Gathered w chain lo xs ys saved sv m s
 gathered_end {w} {lo} {p} {m} {s} {chain} {xs} {ys} {saved} {sv} g h k = subst (λ (q : ℕ). Gathered w chain lo xs ys saved sv q s) (le_antisymm h k) g
 
 -- ---- how many go
 
-pub counted : (f : ℕ → Bool) (p : ℕ) → length (filter f (upto (p + 1))) ≡ length (filter f (upto p)) + hit (f p)
-counted f p =
-    ap (λ (l : List ℕ). length (filter f l)) (ap upto (add-one p) ∙ range_snoc 0 p ∙ ap (λ (k : ℕ). upto p ++ (k ∷ [])) (zero-add p))
-    ∙ ap length (filter_append f (upto p) (p ∷ [])) ∙ length-append (filter f (upto p)) (filter f (p ∷ []))
-    ∙ ap (λ (k : ℕ). length (filter f (upto p)) + k) (last (f p))
-  where
-    last : (b : Bool) → length (cond b (p ∷ []) []) ≡ hit b
-    last true = refl
-    last false = refl
+pub filter_between : (f : ℕ → Bool) (a n : ℕ) → passed f (range_with_len a n) ≡ filter f (range a n)
+filter_between f a zero = refl
+filter_between f a (suc n) =
+    ap (λ (l : List ℕ). cond (f a) (a ∷ l) l) (filter_between f (a + 1) n ∙ ap (λ (k : ℕ). filter f (range k n)) (add-one a))

@@ -1,6 +1,6 @@
 -- 01, "The move": which records go where, in a list of records of w words each, and what the functions over it ensure. Assumes
 -- nothing.
-use Rattle.std.specs.Prelude.{◌≡◌, Bool, cond, not, List, ◌++◌, map, ℕ, ◌+◌, ◌-◌, ◌*◌, ◌≤◌, ◌<◌, eqb, ltb, length, take, drop, get_or}
+use Rattle.std.specs.Prelude.{◌≡◌, Bool, true, false, cond, not, List, ◌++◌, map, ℕ, ◌+◌, ◌-◌, ◌*◌, ◌≤◌, ◌<◌, eqb, ltb, length, take, drop, get_or}
 use Rattle.std.proofs.lemmas.List.Edits.{sets}
 use Rattle.words.specs.Lists.{range, upto, filter, concat}
 
@@ -52,13 +52,13 @@ raised w chain lo m e xs =
 
 -- ---- what the functions ensure
 
--- a record with this mark at word e was looked at, s words having been saved before; r words more are saved
-pub record One (w mark e s : ℕ) (xs ys saved saved' : List ℕ) (r : ℕ) : Type 0 where
+-- a record at word e, which goes or stays, was looked at, s words having been saved before; r words more are saved
+pub record One (w : ℕ) (goes : Bool) (e s : ℕ) (xs ys saved saved' : List ℕ) (r : ℕ) : Type 0 where
   pub small : r ≤ w
   pub size : length ys ≡ length xs
   pub saved_size : length saved' ≡ length saved
-  pub unmarked : mark ≡ 0 → (r ≡ 0) × (ys ≡ sets xs (e - s) (take w (drop e xs))) × (saved' ≡ saved)
-  pub marked : (mark ≡ 0 → ⊥) → (r ≡ w) × (ys ≡ xs) × (saved' ≡ sets saved s (take w (drop e xs)))
+  pub unmarked : goes ≡ false → (r ≡ 0) × (ys ≡ sets xs (e - s) (take w (drop e xs))) × (saved' ≡ saved)
+  pub marked : goes ≡ true → (r ≡ w) × (ys ≡ xs) × (saved' ≡ sets saved s (take w (drop e xs)))
 
 -- the first p records from lo on were looked at, and s words saved
 pub record Gathered (w : ℕ) (chain : List ℕ) (lo : ℕ) (xs ys saved saved' : List ℕ) (p s : ℕ) : Type 0 where

@@ -1,13 +1,10 @@
 // Block bounds after c instructions went from one block to another (01, "The move"; blocks lie end to end): all words between
 // the one's end and the other's start, both included, shift by c, those of empty blocks too.
-ghost use Rattle.std.specs.Prelude.{◌≡◌, ℕ, ◌+◌, ◌-◌, ◌*◌, ◌≤◌, ◌<◌, length, get_or};
-ghost use Rattle.words.specs.Lists.{upto, filter};
-ghost use Rattle.mover.specs.Order.{goes};
+ghost use Rattle.std.specs.Prelude.{◌≡◌, ℕ, ◌+◌, ◌-◌, ◌*◌, ◌<◌, length, get_or};
 ghost use Rattle.std.specs.List.{AllZip};
 ghost use Rattle.mover.specs.Spans.{Shifted, ShiftAsk};
 
 use inst::index::BlockId;
-use position::{MARK, PLACE};
 
 // Each word becomes what f makes of it.
 fn each<F: Fn(u32) -> u32>(words: &mut [u32], f: F)
@@ -31,16 +28,4 @@ pub fn move_bounds(bounds: &mut [u32], x: BlockId, t: BlockId, c: u32)
     } else {
         each(&mut bounds[2 * b + 1..2 * a + 1], |w| w + c);
     }
-}
-
-// How many of the first m positions of the chain are members.
-pub fn count(chain: &[u32], m: usize) -> u32
-    requires { (10 * m ≤ length chain.now) × (m ≤ 800) }
-    ensures { result ≡ length (filter (goes chain.now) (upto m)) }
-{
-    let mut n = 0;
-    for p in 0..m {
-        n += u32::from(chain[PLACE * p + MARK] != 0);
-    }
-    n
 }

@@ -6,30 +6,30 @@ ghost use Rattle.mover.specs.Order.{One, Gathered};
 use crate::records::Records;
 use position::{MARK, PLACE};
 
-// A record at word e: if its mark is 0 it goes down by the s words that were saved before, else it is saved too. Returns the
-// words saved.
-fn take_one(xs: &mut [u32], saved: &mut [u32], mark: u32, e: usize, s: usize, w: usize) -> usize
+// A record at word e: if it is one that goes it is saved, else it goes down by the s words that were saved before. Returns the words
+// saved.
+fn take_one(xs: &mut [u32], saved: &mut [u32], goes: bool, e: usize, s: usize, w: usize) -> usize
     requires { (e + w ≤ length xs.old) × (s + w ≤ length saved.old) × (s ≤ e) }
-    ensures { One w mark e s xs.old xs.new saved.old saved.new result }
+    ensures { One w goes e s xs.old xs.new saved.old saved.new result }
 {
-    if mark == 0 {
-        xs.copy_within(e..e + w, e - s);
-        return 0;
+    if goes {
+        saved[s..s + w].copy_from_slice(&xs[e..e + w]);
+        return w;
     }
-    saved[s..s + w].copy_from_slice(&xs[e..e + w]);
-    w
+    xs.copy_within(e..e + w, e - s);
+    0
 }
 
 // The marked ones of the records are saved, and the others go down. Returns the words saved: a number beside the array, which the
 // places after need as well; a slice of it would keep the array lent and be asked for its length.
-pub fn gather(xs: &mut [u32], saved: &mut [u32], chain: &[u32], r: Records) -> usize
+pub(crate) fn gather(xs: &mut [u32], saved: &mut [u32], chain: &[u32], r: Records) -> usize
     requires { (r.w * (r.lo + r.m) ≤ length xs.old) × (r.w * r.m ≤ length saved.old) × (10 * r.m ≤ length chain.now) }
     ensures { Gathered r.w chain.now r.lo xs.old xs.new saved.old saved.new r.m result }
 {
     let mut s = 0;
     for p in 0..r.m {
         let e = r.w * r.lo + r.w * p;
-        s += take_one(xs, saved, chain[PLACE * p + MARK], e, s, r.w);
+        s += take_one(xs, saved, chain[PLACE * p + MARK] != 0, e, s, r.w);
     }
     s
 }

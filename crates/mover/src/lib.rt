@@ -2,8 +2,9 @@
 // and the bounds of the blocks.
 #![tactic(auto)]
 
-pub mod bounds;
-pub mod gather;
-pub mod moving;
-pub mod records;
-pub mod segment;
+pub mod bounds; // where the blocks lie after
+mod gather; // the members of a segment saved, the others closed up
+pub mod marks; // how many members there are
+pub mod moving; // records, locs and vias of all members
+mod records; // which records
+mod segment; // a segment's members at the target's head

@@ -1,9 +1,9 @@
 // Which records: the numbers that all functions over the block that the members leave take (01, "The move").
 
 // m records from record lo on, of w words each: those of that block, or a segment of them.
-#[derive(Clone, Copy)]
-pub struct Records {
-    pub lo: usize,
-    pub m: usize,
-    pub w: usize,
+#[derive(Clone, Copy, Debug, PartialEq, Eq)]
+pub(crate) struct Records {
+    pub(crate) lo: usize,
+    pub(crate) m: usize,
+    pub(crate) w: usize,
 }

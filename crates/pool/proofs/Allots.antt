@@ -2,7 +2,7 @@
 use Rattle.std.specs.Prelude.{Option}
 use mathlib.Core.Path.{◌≡◌, refl, sym, ap, ap₂, ◌∙◌, subst}
 use mathlib.Core.Bool.{Bool, true, false, cond}
-use mathlib.Core.List.{List, ◌∷◌}
+use mathlib.Core.List.{List, [], ◌∷◌, map}
 use Prim.Native.Nat.{ℕ, zero, suc, ◌+◌, ◌*◌, ◌≤◌, ◌<◌}
 use native.Mathlib.Nat.{le_antisymm}
 use native.Mathlib.Numerals.{add-one}
@@ -20,7 +20,7 @@ use Rattle.inst.specs.declared.index.Reg.{Reg}
 use Rattle.model.specs.Move.{Pool, release, gives}
 use Rattle.inst.proofs.Indices.{among_made, word_made}
 use Rattle.pool.specs.declared.held.Pool.{Pool as Words}
-use Rattle.pool.specs.Pool.{Is, Turn, Ready, Positioned, Allotted, Allots, mark_at, last_at, wrote_at, new_at, after, typed, start, reg_or, regs_of, grow_if, piled}
+use Rattle.pool.specs.Pool.{Is, Turn, Ready, Positioned, Allotted, Allots, mark_at, last_at, wrote_at, new_at, after, typed, start, reg_or, regs_of, grow_if, piled, held_of, held_words, free_words, in_pool}
 
 -- ---- one position
 
@@ -78,22 +78,24 @@ typed_same types v w ts (suc p) h g =
 
 pub record Allotting (R m : ℕ) (types w v : List ℕ) (a : Words) (p : ℕ) : Type 0 where
   pub high : p ≤ m
-  pub counts : a.nh + a.nf ≤ p
+  pub counts : in_pool a ≤ p
   pub below : a.next ≤ R + 2 * p
   pub is : Is R types a (after w p (start R types))
   pub rest : Allotted R types w v a.next p
 
-pub allotting_none : {R m : ℕ} {types w hs fs : List ℕ} {f : _} → Ready R m types w → Allotting R m types w w (record { held = hs; nh = 0; free = fs; nf = 0; next = R; few = f }) 0
+pub allotting_none : {R m : ℕ} {types w : List ℕ} {a : Words} → Ready R m types w → held_words a ≡ [] → free_words a ≡ [] → a.next ≡ R → Allotting R m types w w a 0
 unfolding after typed piled
-allotting_none {R} {m} {types} {w} {hs} {fs} {f} r =
-    let n : length (take R types) ≡ R = length-take-le R types r.regs in
+allotting_none {R} {m} {types} {w} {a} r held free next =
+    let n : length (take R types) ≡ a.next = length-take-le R types r.regs ∙ sym next in
+    let h = ap length held in
+    let f = ap length free in
     record {
       high = omega arith;
       counts = omega arith;
       below = omega arith;
       is = record {
-        held_is = refl;
-        free_is = refl;
+        held_is = ap (map held_of) held;
+        free_is = ap (λ (l : List ℕ). piled l []) free;
         next_is = n;
         enough = omega arith;
         types_are = λ d h. get_or-take R types d 0 h;

@@ -1,18 +1,15 @@
 -- The free words: the topmost of a type, and the closing up. Assumes nothing.
 use Rattle.std.proofs.lemmas.Option.{none-some, same_Some}
 use Rattle.std.specs.Prelude.{Option, Some, None, IfSome, IfNone}
-use mathlib.Core.Path.{◌≡◌, refl, sym, ap, ap₂, ◌∙◌, subst}
+use mathlib.Core.Path.{◌≡◌, refl, sym, ap, ◌∙◌, subst}
 use mathlib.Core.Bool.{Bool, false, cond}
 use mathlib.Core.List.{List, [], ◌∷◌, ◌++◌}
-use Prim.Native.Nat.{ℕ, suc, ◌+◌, ◌-◌, ◌%◌, ◌≤◌, ◌<◌}
+use Prim.Native.Nat.{ℕ, suc, ◌+◌, ◌%◌, ◌<◌}
 use native.Mathlib.Omega.{arith}
 use borrow.Author.Tests.{eq-eqb, ne_eqb}
 use lib.Dec.{eqb}
 use lib.ListN.{length, take, drop, get_or, take-append-drop, length-drop}
-use lib.Seq.{drop-cons, length-take-le, get_or-drop, take-take, paste}
-use Rattle.std.proofs.lemmas.List.{drop-take, get_or-take}
-use Rattle.std.proofs.lemmas.List.Edits.{take-paste}
-use native.Mathlib.Numerals.{add-one}
+use lib.Seq.{drop-cons, get_or-drop}
 use Rattle.pool.specs.declared.held.Pool.{Pool as Words}
 use Rattle.pool.specs.Pool.{piled, free_of, free_words, Top}
 use Rattle.model.specs.Move.{found, without}
@@ -69,33 +66,30 @@ abbrev type_of : ℕ → ℕ
 type_of w = w % 1048576 % 8
 
 -- the last of the free words that is of type ty, if there is one, is the topmost
-pub top_of : (ty : ℕ) (a : Words) (r : Option ℕ) → a.nf ≤ length a.free
-    → IfNone r ((k : ℕ) → k < length (free_words a) → type_of (get_or (free_words a) k 0) ≡ ty → ⊥)
-    → IfSome r (λ i. (i < length (free_words a)) × (type_of (get_or (free_words a) i 0) ≡ ty))
-    → IfSome r (λ i. (k : ℕ) → i < k → k < length (free_words a) → type_of (get_or (free_words a) k 0) ≡ ty → ⊥) → Top ty a r
+abbrev Last : ℕ → List ℕ → Option ℕ → Type 0
+Last ty ws r =
+    IfNone r ((k : ℕ) → k < length ws → type_of (get_or ws k 0) ≡ ty → ⊥)
+    × IfSome r (λ i. (i < length ws) × (type_of (get_or ws i 0) ≡ ty))
+    × IfSome r (λ i. (k : ℕ) → i < k → k < length ws → type_of (get_or ws k 0) ≡ ty → ⊥)
+
+top_is : (ty : ℕ) (a : Words) (r : Option ℕ) → Last ty (free_words a) r → Top ty a r
 unfolding free_of
-top_of ty a None few none some above =
-    let h : Others ty (free_words a) = record { are = none } in
+top_is ty a None l =
+    let h : Others ty (free_words a) = record { are = l.0 } in
     record { within = λ k e. absurd (none-some k e); found_is = found_below ty (free_words a) [] h; rest_is = rest_below ty (free_words a) [] h; type_is = λ k e. absurd (none-some k e) }
-top_of ty a (Some i) few none some above =
+top_is ty a (Some i) l =
     let ws : List ℕ = free_words a in
-    let n : length ws ≡ a.nf = length-take-le a.nf a.free few in
+    let some = l.1 in
+    let above = l.2 in
     let lt = some.0 in
-    let w : get_or ws i 0 ≡ get_or a.free i 0 = get_or-take a.nf a.free i 0 (omega arith) in
     let h : Others ty (drop (suc i) ws) =
-    record { are = λ k l e. let d = length-drop (suc i) ws in above (suc i + k) (omega arith) (omega arith) (ap (λ (x : ℕ). (free_of x).0) (sym (get_or-drop (suc i) ws k 0)) ∙ e) } in
+    record { are = λ k h e. let d = length-drop (suc i) ws in above (suc i + k) (omega arith) (omega arith) (ap (λ (x : ℕ). (free_of x).0) (sym (get_or-drop (suc i) ws k 0)) ∙ e) } in
     record {
-      within = λ k e. let q = same_Some i k e in omega arith;
-      found_is = found_at ty ws i lt some.1 h ∙ ap (λ (x : ℕ). Some (free_of x).1) w;
+      within = λ k e. subst (λ (j : ℕ). j < length ws) (same_Some i k e) lt;
+      found_is = found_at ty ws i lt some.1 h;
       rest_is = rest_is_at ty ws i lt some.1 h;
-      type_is = λ k e. subst (λ (j : ℕ). (free_of (get_or a.free j 0)).0 ≡ ty) (same_Some i k e) (ap (λ (x : ℕ). (free_of x).0) (sym w) ∙ some.1);
+      type_is = λ k e. subst (λ (j : ℕ). (free_of (get_or ws j 0)).0 ≡ ty) (same_Some i k e) some.1;
     }
 
--- the words above place a close up over it
-pub closed_up : (ws : List ℕ) (nf a : ℕ) → a < nf → nf ≤ length ws → take (nf - 1) (paste ws a (drop (a + 1) ws) (nf - (a + 1))) ≡ take a (take nf ws) ++ drop (suc a) (take nf ws)
-closed_up ws nf a lt few =
-    let l = length-drop (a + 1) ws in
-    ap (λ (n : ℕ). take n (paste ws a (drop (a + 1) ws) (nf - (a + 1)))) {x = nf - 1} {y = a + (nf - (a + 1))} (omega arith)
-    ∙ take-paste ws a (drop (a + 1) ws) (nf - (a + 1)) (omega arith) (omega arith)
-    ∙ ap₂ (λ (us vs : List ℕ). us ++ vs) (sym (take-take a nf ws (omega arith)))
-    (ap (λ (n : ℕ). take (nf - n) (drop n ws)) (add-one a) ∙ sym (drop-take (suc a) (nf - suc a) ws) ∙ ap (λ (n : ℕ). drop (suc a) (take n ws)) {x = suc a + (nf - suc a)} {y = nf} (omega arith))
+pub top_of : (ty : ℕ) (a : Words) (ws : List ℕ) (r : Option ℕ) → ws ≡ free_words a → Last ty ws r → Top ty a r
+top_of ty a ws r e l = top_is ty a r (subst (λ (us : List ℕ). Last ty us r) e l)

@@ -1,91 +1,105 @@
--- One turn of `release`. Assumes nothing.
+-- What `release` makes free. Assumes nothing.
 use mathlib.Core.Path.{◌≡◌, refl, sym, ap, ◌∙◌, subst}
-use mathlib.Core.Bool.{Bool, true, false, not}
+use mathlib.Core.Bool.{Bool, true, false, not, cond}
 use mathlib.Core.List.{List, [], ◌∷◌, ◌++◌, append_assoc, append-nil}
-use Prim.Native.Nat.{ℕ, suc, ◌+◌, ◌-◌, ◌≤◌, ◌<◌}
-use native.Mathlib.Nat.{add-zero}
+use Prim.Native.Nat.{ℕ, suc, ◌+◌, ◌<◌, ◌≤◌}
 use native.Mathlib.Numerals.{add-one}
 use native.Mathlib.Omega.{arith}
-use lib.ListN.{length, take, get_or, set, length-set}
-use lib.Seq.{take-suc, take-suc-set, take-set-le, get_or-set_other}
-use Rattle.std.specs.Int.{from_bool}
-use Rattle.pool.specs.Pool.{past}
+use lib.ListN.{length, take, get_or, length-append}
+use lib.Seq.{take-suc}
+use Rattle.std.specs.List.Retain.{RetainsInTurn}
+use Rattle.pool.specs.declared.held.Pool.{Pool as Words}
+use Rattle.pool.specs.Pool.{past, held_words, free_words, Released}
 use Rattle.words.proofs.Lists.{filter_yes, filter_no}
 use Rattle.words.specs.Lists.{filter}
 
--- of the first i of those held, xs, the gone ones, g of them, went behind the nf free ones, fs, and the others close up
-pub record Releasing (p nf : ℕ) (xs fs ys gs : List ℕ) (i g : ℕ) : Type 0 where
-  pub held_size : length ys ≡ length xs
-  pub free_size : length gs ≡ length fs
-  pub small : g ≤ i
-  pub stays : take (i - g) ys ≡ filter (λ w. not (past p w)) (take i xs)
-  pub gone : take (nf + g) gs ≡ take nf fs ++ filter (past p) (take i xs)
-  pub rest : (j : ℕ) → i ≤ j → get_or ys j 0 ≡ get_or xs j 0
+module _ (p : ℕ) where
+  abbrev stay : List ℕ → List ℕ
+  stay xs = filter (λ w. not (past p w)) xs
 
-pub releasing_none : (p nf : ℕ) (xs fs : List ℕ) → Releasing p nf xs fs xs fs 0 0
-releasing_none p nf xs fs =
-    record {
-      held_size = refl;
-      free_size = refl;
-      small = omega arith;
-      stays = refl;
-      gone = ap (λ (n : ℕ). take n fs) (add-zero nf) ∙ sym (append-nil (take nf fs));
-      rest = λ j h. refl;
-    }
+  abbrev go_on : List ℕ → List ℕ
+  go_on xs = filter (past p) xs
 
-module _ {p nf i g : ℕ} {xs fs ys gs : List ℕ} (h : Releasing p nf xs fs ys gs i g) (lt : i < length xs) (room : nf + g < length fs) where
-  abbrev w : ℕ
-  w = get_or ys i 0
+  -- each stays or goes
+  pub split : (xs : List ℕ) → length (stay xs) + length (go_on xs) ≡ length xs
+  split [] = refl
+  split (w ∷ ws) = go (past p w) (split ws)
+    where
+      go : (b : Bool) → length (stay ws) + length (go_on ws) ≡ length ws
+          → length (cond (not b) (w ∷ stay ws) (stay ws)) + length (cond b (w ∷ go_on ws) (go_on ws)) ≡ suc (length ws)
+      go true e = omega arith
+      go false e = omega arith
 
-  abbrev us : List ℕ
-  us = set ys (i - g) w
+  -- where none goes, all stay
+  none_past : (xs : List ℕ) → ◌≡◌ {A = ℕ} (length (go_on xs)) 0 → stay xs ≡ xs
+  none_past [] e = refl
+  none_past (w ∷ ws) e = go (past p w) e (none_past ws)
+    where
+      go : (b : Bool) → ◌≡◌ {A = ℕ} (length (cond b (w ∷ go_on ws) (go_on ws))) 0 → (◌≡◌ {A = ℕ} (length (go_on ws)) 0 → stay ws ≡ ws)
+          → cond (not b) (w ∷ stay ws) (stay ws) ≡ w ∷ ws
+      go true e h = absurd (omega arith)
+      go false e h = ap (λ (l : List ℕ). w ∷ l) (h e)
 
-  abbrev vs : List ℕ
-  vs = set gs (nf + g) w
+  -- so as many are in the pool as before
+  pub as_many : (xs fs ys gs : List ℕ) → gs ≡ fs ++ go_on xs → ys ≡ stay xs → length ys + length gs ≡ length xs + length fs
+  as_many xs fs ys gs gone stays =
+      let n = ap length gone ∙ length-append fs (go_on xs) in
+      let m = ap length stays in
+      omega (arith, split xs)
 
-  front : take (i + 1) xs ≡ take i xs ++ (w ∷ [])
-  front = ap (λ (k : ℕ). take k xs) (add-one i) ∙ take-suc xs i 0 lt ∙ ap (λ (x : ℕ). take i xs ++ (x ∷ [])) (sym (h.rest i (omega arith)))
+  -- the words that were passed are those held
+  pub went : (xs ys fs gs : List ℕ) → gs ≡ fs ++ go_on ys → ys ≡ xs → gs ≡ fs ++ go_on xs
+  went xs ys fs gs gone same = gone ∙ ap (λ (l : List ℕ). fs ++ go_on l) same
 
-  more : (j : ℕ) → i + 1 ≤ j → get_or us j 0 ≡ get_or xs j 0
-  more j l = get_or-set_other ys (i - g) j w 0 (λ e. let s = h.small in omega arith) ∙ h.rest j (omega arith)
+  pub released_some : (a b : Words) → free_words b ≡ free_words a ++ go_on (held_words a) → held_words b ≡ stay (held_words a) → b.next ≡ a.next → Released p a b
+  released_some a b free held next = record { stays = held; gone = free; counts = as_many (held_words a) (free_words a) (held_words b) (free_words b) free held; next_same = next }
 
-  pub releasing_more : (b : Bool) → past p w ≡ b → Releasing p nf xs fs us vs (i + 1) (g + from_bool b)
-  releasing_more true e =
-      let s = h.small in
-      record {
-        held_size = length-set ys (i - g) w ∙ h.held_size;
-        free_size = length-set gs (nf + g) w ∙ h.free_size;
-        small = omega arith;
-        stays =
-            ap (λ (k : ℕ). take k us) {x = i + 1 - (g + 1)} {y = i - g} (omega arith) ∙ take-set-le (i - g) ys (i - g) w (omega arith) ∙ h.stays
-            ∙ sym (filter_no (λ x. not (past p x)) (take i xs) w (ap not e)) ∙ ap (filter (λ x. not (past p x))) (sym front);
-        gone =
-            ap (λ (k : ℕ). take k vs) {x = nf + (g + 1)} {y = suc (nf + g)} (omega arith) ∙ take-suc-set gs (nf + g) w (omega (arith, h.free_size))
-            ∙ ap (λ (l : List ℕ). l ++ (w ∷ [])) h.gone ∙ append_assoc (take nf fs) (filter (past p) (take i xs)) (w ∷ [])
-            ∙ ap (λ (l : List ℕ). take nf fs ++ l) (sym (filter_yes (past p) (take i xs) w e) ∙ ap (filter (past p)) (sym front));
-        rest = more;
-      }
-  releasing_more false e =
-      let s = h.small in
-      record {
-        held_size = length-set ys (i - g) w ∙ h.held_size;
-        free_size = length-set gs (nf + g) w ∙ h.free_size;
-        small = omega arith;
-        stays =
-            ap (λ (k : ℕ). take k us) {x = i + 1 - (g + 0)} {y = suc (i - g)} (omega arith) ∙ take-suc-set ys (i - g) w (omega (arith, h.held_size))
-            ∙ ap (λ (l : List ℕ). l ++ (w ∷ [])) h.stays
-            ∙ sym (filter_yes (λ x. not (past p x)) (take i xs) w (ap not e)) ∙ ap (filter (λ x. not (past p x))) (sym front);
-        gone =
-            ap (λ (k : ℕ). take k vs) {x = nf + (g + 0)} {y = nf + g} (omega arith) ∙ take-set-le (nf + g) gs (nf + g) w (omega arith) ∙ h.gone
-            ∙ ap (λ (l : List ℕ). take nf fs ++ l) (sym (filter_no (past p) (take i xs) w e) ∙ ap (filter (past p)) (sym front));
-        rest = more;
-      }
+  -- those held are the same where no more are free
+  pub all_stay : (xs fs gs : List ℕ) → gs ≡ fs ++ go_on xs → length gs ≤ length fs → xs ≡ stay xs
+  all_stay xs fs gs gone few =
+      let n = ap length gone ∙ length-append fs (go_on xs) in
+      sym (none_past xs (omega arith))
 
-  pub releasing_turn : (r : ℕ) → r ≡ from_bool (past p w) → Releasing p nf xs fs us vs (i + 1) (g + r)
-  releasing_turn r e = subst (λ (k : ℕ). Releasing p nf xs fs us vs (i + 1) (g + k)) (sym e) (releasing_more (past p w) refl)
+  -- the first i of xs were looked at, and those past went behind fs
+  pub record Releasing (fs xs gs : List ℕ) (i : ℕ) : Type 0 where
+    pub gone : gs ≡ fs ++ go_on (take i xs)
 
-pub releasing_end : {p nf nf' i g nh : ℕ} {xs fs ys gs : List ℕ} → Releasing p nf' xs fs ys gs i g → nf' ≡ nf → i ≡ nh
-    → (take (nh - g) ys ≡ filter (λ w. not (past p w)) (take nh xs)) × (take (nf' + g) gs ≡ take nf fs ++ filter (past p) (take nh xs))
-releasing_end {p} {nf} {nf'} {i} {g} {nh} {xs} {fs} {ys} {gs} h e k =
-    subst (λ (n : ℕ). (take (n - g) ys ≡ filter (λ w. not (past p w)) (take n xs)) × (take (nf' + g) gs ≡ take nf fs ++ filter (past p) (take n xs))) k
-    (h.stays, h.gone ∙ ap (λ (n : ℕ). take n fs ++ filter (past p) (take i xs)) e)
+  pub releasing_none : (fs xs : List ℕ) → Releasing fs xs fs 0
+  releasing_none fs xs = record { gone = sym (append-nil fs) }
+
+  module _ {fs xs gs : List ℕ} {i : ℕ} (h : Releasing fs xs gs i) (lt : i < length xs) where
+    abbrev w : ℕ
+    w = get_or xs i 0
+
+    front : take (i + 1) xs ≡ take i xs ++ (w ∷ [])
+    front = ap (λ (k : ℕ). take k xs) (add-one i) ∙ take-suc xs i 0 lt
+
+    pub releasing_gone : past p w ≡ true → Releasing fs xs (gs ++ (w ∷ [])) (i + 1)
+    releasing_gone e =
+        record {
+          gone =
+              ap (λ (l : List ℕ). l ++ (w ∷ [])) h.gone ∙ append_assoc fs (go_on (take i xs)) (w ∷ [])
+              ∙ ap (λ (l : List ℕ). fs ++ l) (sym (filter_yes (past p) (take i xs) w e) ∙ ap (filter (past p)) (sym front));
+        }
+
+    pub releasing_kept : past p w ≡ false → Releasing fs xs gs (i + 1)
+    releasing_kept e =
+        record { gone = h.gone ∙ ap (λ (l : List ℕ). fs ++ l) (sym (filter_no (past p) (take i xs) w e) ∙ ap (filter (past p)) (sym front)) }
+
+    -- there is room for one more
+    pub releasing_room : (n : ℕ) → length xs + length fs ≤ n → length gs < n
+    releasing_room n few =
+        let a = ap length h.gone ∙ length-append fs (go_on (take i xs)) in
+        let b = split (take i xs) in
+        let c = lib.Seq.length-take-le i xs (omega arith) in
+        omega arith
+
+-- where no call changes the closure or the element, `retain` leaves what passes the test
+pub kept_by : {F : Type 0} (R : F → ℕ → Bool → F → ℕ → Type 0) (test : ℕ → Bool) (f : F)
+    → ((x : ℕ) (b : Bool) (g : F) (y : ℕ) → R f x b g y → (b ≡ test x) × (g ≡ f) × (y ≡ x)) → (xs ys : List ℕ) → RetainsInTurn R f xs ys → ys ≡ filter test xs
+kept_by R test f says [] ys h = h
+kept_by R test f says (x ∷ xs) ys h =
+    let said = says x h.0 h.1 h.2 h.3 in
+    let later = subst (λ g. RetainsInTurn R g xs h.4) said.1 h.5 in
+    let rest = kept_by R test f says xs h.4 later in
+    h.6 ∙ (λ i. cond (said.0 i) (said.2 i ∷ rest i) (rest i))

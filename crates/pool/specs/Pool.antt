@@ -25,22 +25,26 @@ past p w = ltb (w / 1048576) p
 
 -- the words of those held, and of those free
 abbrev pub held_words : Words → List ℕ
-held_words a = take a.nh a.held
+held_words a = a.held.items
 
 abbrev pub free_words : Words → List ℕ
-free_words a = take a.nf a.free
+free_words a = a.free.items
+
+-- how many registers are in it
+abbrev pub in_pool : Words → ℕ
+in_pool a = length (held_words a) + length (free_words a)
 
 -- of those held the gone ones went behind the free ones, and the others close up
 pub record Released (p : ℕ) (a b : Words) : Type 0 where
   pub stays : held_words b ≡ filter (λ w. not (past p w)) (held_words a)
   pub gone : free_words b ≡ free_words a ++ filter (past p) (held_words a)
-  pub counts : b.nh + b.nf ≡ a.nh + a.nf
+  pub counts : in_pool b ≡ in_pool a
   pub next_same : b.next ≡ a.next
 
 -- the register that is found: the free word at the place, if there is one
 abbrev pub reg_at : Words → Option ℕ → Option ℕ
 reg_at a None = None
-reg_at a (Some k) = Some (free_of (get_or a.free k 0)).1
+reg_at a (Some k) = Some (free_of (get_or (free_words a) k 0)).1
 
 -- the free words without that one
 abbrev pub rest_at : List ℕ → Option ℕ → List ℕ
@@ -49,18 +53,10 @@ rest_at ws (Some k) = take k ws ++ drop (suc k) ws
 
 -- the topmost free word of type ty stands at place r, or there is none
 pub record Top (ty : ℕ) (a : Words) (r : Option ℕ) : Type 0 where
-  pub within : (k : ℕ) → r ≡ Some k → k < a.nf
+  pub within : (k : ℕ) → r ≡ Some k → k < length (free_words a)
   pub found_is : found ty (piled (free_words a) []) ≡ reg_at a r
   pub rest_is : without ty (piled (free_words a) []) ≡ piled (rest_at (free_words a) r) []
-  pub type_is : (k : ℕ) → r ≡ Some k → (free_of (get_or a.free k 0)).0 ≡ ty
-
--- the free word at place k is gone, and those above it close up; those held stay
-pub record Removed (k : ℕ) (a b : Words) : Type 0 where
-  pub held_same : b.held ≡ a.held
-  pub nh_same : b.nh ≡ a.nh
-  pub next_same : b.next ≡ a.next
-  pub one_less : b.nf + 1 ≡ a.nf
-  pub closed : free_words b ≡ rest_at (free_words a) (Some k)
+  pub type_is : (k : ℕ) → r ≡ Some k → (free_of (get_or (free_words a) k 0)).0 ≡ ty
 
 abbrev pub width : ℕ → ℕ
 width ty = suc (from_bool (eqb ty 4))
@@ -92,7 +88,7 @@ pub record Gives (R : ℕ) (types : List ℕ) (b : Words) (p reg ty : ℕ) (s s'
 
 -- one register was given, held until `until`
 pub record Gave (until ty : ℕ) (a b : Words) (reg : ℕ) : Type 0 where
-  pub room : b.nh + b.nf ≤ a.nh + a.nf + 1
+  pub room : in_pool b ≤ in_pool a + 1
   pub small : b.next ≤ a.next + 2
   pub step : (R p d : ℕ) (types : List ℕ) (s : Pool) → Is R types a s → d < R → get_or types d 0 ≡ ty
       → Gives R types b p reg ty s (give p until s d)
@@ -113,7 +109,7 @@ pub record Turned (R : ℕ) (types : List ℕ) (b : Words) (p d reg : ℕ) (s s'
   pub types_is : s'.types ≡ grow_if (eqb reg (length s.types)) s.types (get_or types d 0)
 
 pub record Turn (p until d : ℕ) (types : List ℕ) (a b : Words) (reg : ℕ) : Type 0 where
-  pub room : b.nh + b.nf ≤ a.nh + a.nf + 1
+  pub room : in_pool b ≤ in_pool a + 1
   pub small : b.next ≤ a.next + 2
   pub none_is : d ≡ absent → reg ≡ absent
   pub some_is : (d ≡ absent → ⊥) → reg < 1048576
@@ -167,7 +163,7 @@ pub record Ready (R m : ℕ) (types w : List ℕ) : Type 0 where
 pub record Positioned (p : ℕ) (types w v : List ℕ) (a b : Words) : Type 0 where
   pub reg : ℕ
   pub stored : v ≡ set w (10 * p + 9) reg
-  pub room : b.nh + b.nf ≤ a.nh + a.nf + 1
+  pub room : in_pool b ≤ in_pool a + 1
   pub small : b.next ≤ a.next + 2
   pub unmarked : mark_at w p ≡ 0 → (reg ≡ absent) × (b ≡ a)
   pub marked : (mark_at w p ≡ 0 → ⊥) → Turn p (last_at w p) (wrote_at w p) types a b reg

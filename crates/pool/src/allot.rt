@@ -1,17 +1,17 @@
 // Every member's turn, in order (01, "The move"). Of the work words of a position its mark, its last use and the register that it
 // writes are read, and its new register is written.
 ghost use Rattle.std.specs.Prelude.{◌≡◌, ◌+◌, ◌*◌, ◌≤◌, ◌<◌, length};
-ghost use Rattle.pool.specs.Pool.{Ready, Positioned, Allots};
+ghost use Rattle.pool.specs.Pool.{Ready, Positioned, Allots, in_pool};
 
 use crate::held::Pool;
 use crate::turn::Member;
 use inst::index::Reg;
-use model::{ABSENT, RECORDS};
+use model::ABSENT;
 use position::{DEF, LAST, MARK, NEW, PLACE};
 
 // Position p's turn, if it is marked. Its new register is noted.
 fn position(w: &mut [u32], pool: &mut Pool, m: usize, p: usize, r: u32, types: &[u32])
-    requires { Ready r m types.now w.old × (p < m) × (pool.old.nh + pool.old.nf ≤ p) × (pool.old.next ≤ r + 2 * p) }
+    requires { Ready r m types.now w.old × (p < m) × (in_pool pool.old ≤ p) × (pool.old.next ≤ r + 2 * p) }
     ensures { Positioned p types.now w.old w.new pool.old pool.new }
 {
     let b = PLACE * p;
@@ -32,13 +32,7 @@ pub fn allot(w: &mut [u32], m: usize, r: u32, types: &[u32]) -> u32
     requires { Ready r m types.now w.old }
     ensures { Allots r m types.now w.old w.new result }
 {
-    let mut pool = Pool {
-        held: [0; RECORDS],
-        nh: 0,
-        free: [0; RECORDS],
-        nf: 0,
-        next: r,
-    };
+    let mut pool = Pool::new(r);
     for p in 0..m {
         position(w, &mut pool, m, p, r, types);
     }

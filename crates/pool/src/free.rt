@@ -1,8 +1,31 @@
-// The registers that are free (01, "The move": "reused, last freed first"): the search from the top for one of a type, and
-// the closing up where one is taken out.
-ghost use Rattle.std.specs.Prelude.{◌≡◌, ◌<◌, ◌%◌, ℕ, IfSome, IfNone, length, get_or};
+// The registers that are free (01, "The move": "reused, last freed first, once its last reader is before the present member"): which of
+// those held become so, and the search from the top for one of a type.
+ghost use Rattle.std.specs.Prelude.{◌≡◌, ◌+◌, ◌≤◌, ◌++◌, ◌<◌, ◌%◌, ℕ, IfSome, IfNone, length, get_or};
+ghost use Rattle.words.specs.Lists.{filter};
+ghost use Rattle.pool.specs.Pool.{past};
 
 use crate::held::{Pool, UNTIL};
+use arrayvec::ArrayVec;
+use model::RECORDS;
+
+// Does the last reader of a held word stand before p?
+fn past(w: u32, p: u32) -> bool
+    ensures { result ≡ past p w }
+{
+    w / UNTIL < p
+}
+
+// Those of them whose last reader is before p go behind those that are free.
+fn free_past(held: &[u32], free: &mut ArrayVec<u32, RECORDS>, p: u32)
+    requires { length held.now + length free.old.items ≤ 800 }
+    ensures { free.new.items ≡ free.old.items ++ filter (past p) held.now }
+{
+    for w in held {
+        if past(*w, p) {
+            free.push(*w);
+        }
+    }
+}
 
 // A free word's type.
 fn type_of(w: u32) -> u32
@@ -21,21 +44,24 @@ fn last_of(words: &[u32], ty: u32) -> Option<usize>
 }
 
 impl Pool {
-    ghost use Rattle.pool.specs.Pool.{Top, Removed};
+    ghost use Rattle.pool.specs.Pool.{Released, Top};
 
-    // The place of the topmost free word of type ty.
-    pub fn find(&self, ty: u32) -> Option<usize>
-        ensures { Top ty self.now result }
+    // Those held whose last reader is before p become free ("once its last reader is before the present member"). In many turns there
+    // are none, and the others need no second look then.
+    pub(crate) fn release(&mut self, p: u32)
+        ensures { Released p self.old self.new }
     {
-        last_of(&self.free[..self.nf], ty)
+        let before = self.free.len();
+        free_past(self.held.as_slice(), &mut self.free, p);
+        if before < self.free.len() {
+            self.held.retain(|w| !past(*w, p));
+        }
     }
 
-    // The free word at a goes, and those above it close up.
-    pub fn remove(&mut self, a: usize)
-        requires { a < self.old.nf }
-        ensures { Removed a self.old self.new }
+    // The place of the topmost free word of type ty.
+    pub(crate) fn find(&self, ty: u32) -> Option<usize>
+        ensures { Top ty self.now result }
     {
-        self.free.copy_within(a + 1..self.nf, a);
-        self.nf -= 1;
+        last_of(self.free.as_slice(), ty)
     }
 }

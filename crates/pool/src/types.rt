@@ -8,6 +8,16 @@ ghost use Rattle.pool.specs.Types.{TypeAdded, TypesFit, over};
 use inst::index::Reg;
 use position::{DEF, NEW, PLACE};
 
+// The type of a signal reference, as it stands in the type words.
+const SIG: u32 = 4;
+
+// A signal reference takes the next register as well.
+pub(crate) fn width_of(ty: u32) -> u32
+    ensures { result ≡ width ty }
+{
+    1 + u32::from(ty == SIG)
+}
+
 // The type of register d once more, at n, if it is n that was given. Returns the types in use then.
 fn add_type(types: &mut [u32], n: usize, d: Option<Reg>, reg: u32) -> usize
     requires { Among (length types.old) d × (reg ≡ n → (word_of d ≡ 4294967295 → ⊥) × (n + width (get_or types.old (word_of d) 0) ≤ length types.old)) }
@@ -21,7 +31,7 @@ fn add_type(types: &mut [u32], n: usize, d: Option<Reg>, reg: u32) -> usize
     };
     let ty = types[k.at()];
     types[n] = ty;
-    if ty == 4 {
+    if ty == SIG {
         types[n + 1] = 0;
         return n + 2;
     }

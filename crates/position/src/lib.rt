@@ -1,5 +1,5 @@
 // The ten work words that a position of the chain has for the move (01, "Port order and sizes"), position p from PLACE * p on. The
-// first one is the number of its record.
+// first one is the number of its record. (Numbered words and no fields: they are words of the 32-bit slice that C lends.)
 #![tactic(auto)]
 
 // How many words a position has.

@@ -3,11 +3,11 @@
 // gets its new name and a kept write sets it back; for the target the words stand as they are after the whole chain.
 #![tactic(auto)]
 
-pub mod all;
-pub mod count;
-pub mod lists;
-pub mod names;
-pub mod parts;
-pub mod remake;
-pub mod slots;
-pub mod walk;
+pub mod all; // the whole walk, counted or done
+mod count; // what it would append
+mod lists; // a record's list
+mod names; // the names
+pub mod parts; // what is walked
+mod remake; // one record
+mod slots; // its slots
+mod walk; // the walk that renames

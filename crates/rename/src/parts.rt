@@ -1,4 +1,4 @@
-// What the walk goes by, as values: the words of a position, and where the two blocks and the chain lie.
+// What the walk goes by, as values: the words of a position; which records and positions are walked.
 ghost use Rattle.std.specs.Prelude.{◌+◌, ◌*◌, ◌≤◌, length};
 ghost use Rattle.rename.specs.Runs.{Parted};
 
@@ -8,11 +8,11 @@ use std::ops::Range;
 
 // A position of x: its mark, the register that it writes, and the word of the one that it gets in its place. That one is no `Reg`:
 // it is written, and nothing goes by it.
-#[derive(Clone, Copy)]
-pub struct Part {
-    pub mark: u32,
-    pub def: Option<Reg>,
-    pub new: u32,
+#[derive(Clone, Copy, Debug, PartialEq, Eq)]
+pub(crate) struct Part {
+    pub(crate) mark: u32,
+    pub(crate) def: Option<Reg>,
+    pub(crate) new: u32,
 }
 
 // What is walked: x's first `inside` records from `from` on; then the chain's other positions, of `places` in all, whose words are w; and
@@ -27,7 +27,7 @@ pub struct Walk<'a> {
 }
 
 // Position p, where names has `count` words.
-pub fn part_at(w: &[u32], p: usize, count: usize) -> Part
+pub(crate) fn part_at(w: &[u32], p: usize, count: usize) -> Part
     requires { 10 * p + 10 ≤ length w.now }
     ensures { Parted w.now p count result.mark result.def result.new }
 {

@@ -8,7 +8,14 @@ use crate::slots::{Anew, rename_slots};
 use inst::record::{list_len, list_start};
 
 // Record p, where o operands are in use. Returns how many are in use then.
-pub fn remake(recs: &mut [u32], p: usize, uses: u32, ops: &mut [u32], o: usize, anew: Anew) -> usize
+pub(crate) fn remake(
+    recs: &mut [u32],
+    p: usize,
+    uses: u32,
+    ops: &mut [u32],
+    o: usize,
+    anew: Anew,
+) -> usize
     requires { Exists (λ u. Fit p uses u o anew.names.now anew.new recs.old ops.old) }
     ensures { Remade p o anew.entry.names.now anew.entry.new recs.old recs.new ops.old ops.new result }
 {

@@ -1,5 +1,6 @@
 // The walk that renames (01, "The move"): along x, whose members are made anew, on through the chain's other blocks, whose writes
-// are all kept, and through the target, whose reads are renamed until it writes the register itself.
+// are all kept, and through the target, whose reads are renamed until it writes the register itself. (The three slices that are
+// written stand side by side: a struct of them that is lent on in each turn gets no proof.)
 ghost use Rattle.std.specs.Prelude.{◌≡◌, ◌-◌, length};
 ghost use Rattle.inst.specs.Index.{word_of, Among};
 ghost use Rattle.model.specs.Picture.{absent};
@@ -19,8 +20,7 @@ use position::PLACE;
 use std::ops::Range;
 
 // Record q of x, which is position k: a kept one's writes keep their names; a member is made anew, and the register that it wrote has
-// a new name. (Seven parameters: of the three slices that are written no struct is made, since one that is lent on in each turn gets no
-// proof.)
+// a new name.
 fn pass(
     t: &Table,
     recs: &mut [u32],
@@ -46,7 +46,7 @@ fn pass(
 }
 
 // The positions of x, where u operands are in use. Returns how many are then.
-pub fn pass_all(
+pub(crate) fn pass_all(
     t: &Table,
     recs: &mut [u32],
     walk: &Walk,
@@ -66,7 +66,7 @@ pub fn pass_all(
 }
 
 // The chain's other positions, all kept.
-pub fn skip_all(code: &Code, walk: &Walk, names: &mut [u64])
+pub(crate) fn skip_all(code: &Code, walk: &Walk, names: &mut [u64])
     requires { Exists (λ u. AskRest u walk.now.inside walk.now.places names.old code.now.recs.now walk.now.w.now) }
     ensures { PassedRest walk.now.inside (walk.now.places - walk.now.inside) names.old names.new code.now.recs.now walk.now.w.now }
 {
@@ -89,7 +89,7 @@ fn own(t: &Table, recs: &mut [u32], q: usize, ops: &mut [u32], o: usize, names: 
 }
 
 // The target's records s, where o operands are in use. Returns how many are then.
-pub fn own_all(
+pub(crate) fn own_all(
     t: &Table,
     recs: &mut [u32],
     s: &Range<usize>,

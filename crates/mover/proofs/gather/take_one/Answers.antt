@@ -4,8 +4,8 @@ use Rattle.words.proofs.Copying.{within_sets, put_sets}
 use Rattle.mover.proofs.Cells.{one_kept, one_gone}
 use Rattle.mover.proofs.gather.take_one.Goals as goal
 
-pub returns-then-mark-eq0 : goal.returns-then-mark-eq0
-returns-then-mark-eq0 c = let a = c.args in one_kept c.if-mark-eq0.true (c.copy_within.ensures.after ∙ within_sets a.xs.now _ _ _ a.w refl (omega arith) (omega arith))
+pub returns-then-goes : goal.returns-then-goes
+returns-then-goes c = one_gone c.if-goes.true (search (rules, put_sets))
 
 pub returns : goal.returns
-returns c = one_gone c.if-mark-eq0.false (search (rules, put_sets))
+returns c = let a = c.args in one_kept c.if-goes.false (c.copy_within.ensures.after ∙ within_sets a.xs.now _ _ _ a.w refl (omega arith) (omega arith))

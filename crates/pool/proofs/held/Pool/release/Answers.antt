@@ -1,28 +1,29 @@
 -- `pool::held::Pool::release` meets its contract. Assumes nothing.
-use Rattle.std.proofs.Common.{rules, ◌≡◌, ◌-◌, ap, ◌∙◌, length, take}
-use native.Mathlib.Omega.{arith}
-use native.Mathlib.Nat.{le_antisymm}
-use Rattle.pool.proofs.Releases.{releasing_turn, releasing_end}
+use Rattle.std.proofs.Common.{rules, refl, arith, ◌≡◌, not}
+use Rattle.words.specs.Lists.{filter}
+use Rattle.pool.specs.Pool.{past, held_words}
+use Rattle.pool.proofs.Releases.{released_some, as_many, all_stay, went, kept_by}
 use Rattle.pool.proofs.held.Pool.release.Goals as goal
 
-pub loop-i-preserved : goal.loop-i-preserved
-loop-i-preserved c =
-    let h = c.loop-i.invariant in
+stay : (c : goal.After-retain) → c.retain.new.self.items ≡ filter (λ w. not (past c.args.p w)) (held_words c.args.self.now)
+stay c = kept_by _ (λ w. not (past c.args.p w)) _ (λ x b g y called. search rules) _ _ c.retain.ensures.filtered
+
+pub invariant_of-self : goal.invariant_of-self
+invariant_of-self c =
     let few = c.args.self.now.few in
-    let held : length c.args.self.now.held ≡ 800 = search rules in
-    let free : length c.args.self.now.free ≡ 800 = search rules in
-    record {
-      nh_same = h.nh_same;
-      nf_same = h.nf_same;
-      next_same = h.next_same;
-      so_far = releasing_turn h.so_far (omega arith) (omega (arith, h.nf_same, h.so_far.small)) c.from-gone.result c.from-gone.ensures;
-    }
+    let p = c.args.p in
+    let held = held_words c.args.self.now in
+    record { few = omega (arith, as_many p _ _ _ _ (went p held _ _ _ c.free_past.ensures c.as_slice.ensures.value) (stay c)) }
 
-pub invariant_of-self-2 : goal.invariant_of-self-2
-invariant_of-self-2 c = record { few = let h = c.loop-i.invariant in let few = c.args.self.now.few in let e = c.loop-i.auto.i-end in omega (arith, h.so_far.small, h.nh_same, h.nf_same) }
+pub returns-then-before-len : goal.returns-then-before-len
+returns-then-before-len c =
+    let p = c.args.p in
+    let held = held_words c.args.self.now in
+    released_some p c.args.self.now _ (went p held _ _ _ c.free_past.ensures c.as_slice.ensures.value) (stay c.before) refl
 
-pub returns : goal.returns
-returns c =
-    let h = c.loop-i.invariant in
-    let all = releasing_end h.so_far h.nf_same (le_antisymm c.loop-i.auto.i-end c.loop-i-test.false) in
-    record { stays = ap (λ n. take (n - c.loop-i.gone) c.loop-i.self.held) h.nh_same ∙ all.0; gone = all.1; counts = let s = h.so_far.small in let e = c.loop-i.auto.i-end in omega (arith, h.nh_same, h.nf_same); next_same = h.next_same }
+pub returns-else-before-len : goal.returns-else-before-len
+returns-else-before-len c =
+    let p = c.args.p in
+    let held = held_words c.args.self.now in
+    let gone = went p held _ _ _ c.free_past.ensures c.as_slice.ensures.value in
+    released_some p c.args.self.now _ gone (all_stay p _ _ _ gone (omega (arith, c.if-before-len.false, c.len-before.ensures.value, c.len.ensures.value))) refl
