@@ -10,4 +10,4 @@ five_tests p q r s t = cc
 pub returns : goal.returns
 returns c =
     five_tests c.bad_slot-b0.ensures c.bad_slot-b1.ensures c.bad_slot-b2.ensures c.bad_slot-b3.ensures c.bad_slot-b4.ensures
-    ∙ sym (five_slots c.args.recs.now c.args.p c.args.regs c.requires.0)
+    ∙ sym (five_slots c.args.rec.recs.now c.args.rec.p c.args.regs c.args.rec.within)
