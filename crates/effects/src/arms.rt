@@ -7,7 +7,7 @@ ghost use Rattle.effects.specs.Origin.{class_of, class_code};
 ghost use Rattle.effects.specs.Arms.{effect_of, arm_of, Right, Small, leads};
 
 use crate::origin::{HEAP, UNKNOWN, Value, address, agree, inside, is_sized};
-use inst::table::arm;
+use inst::table::Row;
 
 // What stands for the pieces that a Cat reads, to be looked up again.
 pub const PIECES: u32 = 4294967295;
@@ -283,10 +283,10 @@ fn native(x: Input) -> Effect
 impl Arm {
     // The arm of a kind with this row in the table.
     #[tactic(auto, using(crate::proofs::Rows::arm_found))]
-    pub fn of(row: u32) -> Self
-        ensures { arm_of result ≡ arm_at (arm row) }
+    pub fn of(row: Row) -> Self
+        ensures { arm_of result ≡ arm_at (arm row.0) }
     {
-        let n = arm(row) as usize;
+        let n = row.arm() as usize;
         if n < ARMS.len() {
             return ARMS[n];
         }

@@ -14,7 +14,7 @@ use crate::written::{change, change_written};
 use inst::code::Code;
 use inst::constant::{Constant, decode};
 use inst::kinds::ADDR_OF;
-use inst::record::{form, kind};
+use inst::record::Record;
 
 // A register's word counts what stands over its flags by this.
 pub const FLAGS: u64 = 16;
@@ -106,11 +106,12 @@ fn record_flags(recs: &[u32], q: usize) -> u64
     requires { Within recs.now q }
     ensures { result ≡ flags_of (known (inst recs.now q)) }
 {
-    if kind(recs, q) == ADDR_OF {
-        let f = form(recs, q);
+    let rec = Record { recs, p: q };
+    if rec.kind() == ADDR_OF {
+        let f = rec.form();
         return u64::from((f == 2) | (f == 4)) + 2 * u64::from(f == 0);
     }
-    constant_flags(decode(recs, q))
+    constant_flags(decode(rec))
 }
 
 // The flags of a register by its writer's word.
