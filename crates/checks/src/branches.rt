@@ -19,7 +19,8 @@ pub(crate) fn bad_branch(rec: Record, blocks: usize) -> bool
     (k == BR) & (blocks <= t) | (k == COND_BR) & ((blocks <= t) | (blocks <= f))
 }
 
-// A case pair, its start and its length, that is empty or past its n targets.
+// A case pair, its start and its length, that is empty or past its n targets. (A loop: std has no law of the items of `chunks_exact`,
+// and by `any` over them the check found no proof.)
 fn bad_pairs(pairs: &[u32], n: usize) -> bool
     ensures { result ≡ bad_pairs n pairs.now }
 {

@@ -34,7 +34,8 @@ fn odd_slot(rec: Record, regs: u32, uses: u32, s: usize) -> bool
     gone & !none | !gone & none | !gone & (regs <= r)
 }
 
-// None of the first four slots is so, and nothing is done with the last, which is absent.
+// None of the first four slots is so, and nothing is done with the last, which is absent. (Four tests with no branch between them: by
+// `any` over the four a pass over plain records took half as many instructions again.)
 #[tactic(auto, unfolding(crate::specs::Plain::usual))]
 fn usual(rec: Record, regs: u32, uses: u32) -> bool
     ensures { result ≡ usual regs uses (shown rec.entry) }
@@ -62,7 +63,8 @@ fn plain(t: &Table, rec: Record, regs: u32) -> bool
     false
 }
 
-// Past such records: of n, all from p up to the answer are so, and the next one, if there is one, is not.
+// Past such records: of n, all from p up to the answer are so, and the next one, if there is one, is not. (A loop: in
+// `(p..n).find(..)` the closure has to say that record q is whole, and the check found no proof of what is found.)
 #[tactic(auto, using(crate::proofs::Freed::skip_none, crate::proofs::Freed::skip_more, crate::proofs::Freed::skip_stop, crate::proofs::Freed::skip_end, crate::proofs::Given::within))]
 pub(crate) fn skip(t: &Table, recs: &[u32], n: usize, regs: u32, p: usize) -> usize
     requires { (16 * n ≤ length recs.now) × (p ≤ n) }

@@ -9,7 +9,7 @@ ghost use Rattle.inst.specs.Record.{Known, asks_of, bad_at};
 ghost use Rattle.checks.specs.Causes.{bad_regs, long_cat};
 
 use inst::kinds::{CAT, LAST, SIG_GATHER};
-use inst::record::Record;
+use inst::record::{Record, SLOTS};
 use inst::table::{Table, two_bits};
 use model::ABSENT;
 
@@ -57,12 +57,7 @@ fn bad_slots(rec: Record, regs: u32, asks: u32) -> bool
     requires { asks ≡ asks_of (shown rec) }
     ensures { result ≡ bad_slots regs (roles (shown rec.entry)) (slots (shown rec.entry)) }
 {
-    let b0 = bad_slot(rec, regs, asks, 0);
-    let b1 = bad_slot(rec, regs, asks, 1);
-    let b2 = bad_slot(rec, regs, asks, 2);
-    let b3 = bad_slot(rec, regs, asks, 3);
-    let b4 = bad_slot(rec, regs, asks, 4);
-    b0 | (b1 | (b2 | (b3 | b4)))
+    (0..SLOTS).any(|s| bad_slot(rec, regs, asks, s))
 }
 
 // 5: a SigGather with one of its two part registers.

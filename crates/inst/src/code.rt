@@ -22,7 +22,7 @@ pub struct Code<'a> {
 }
 
 // Record p with what its slots do, 2 bits a slot, looked up once. They stay in one word: what all five do is mostly told by one
-// comparison of it.
+// comparison of it. (No `Record` inside: what is known of `does` says already that the record is whole.)
 #[derive(Clone, Copy)]
 pub struct Slots<'a> {
     pub recs: &'a [u32],

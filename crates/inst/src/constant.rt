@@ -20,7 +20,7 @@ const FRACTION: u64 = 4503599627370496;
 
 const NO_NUMBER: u64 = 2047;
 
-#[derive(Clone, Copy)]
+#[derive(Clone, Copy, PartialEq, Debug)]
 pub enum Constant {
     Whole(i64),
     Float(f64),

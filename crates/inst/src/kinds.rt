@@ -25,6 +25,6 @@ pub const SIG_GATHER: u32 = 74;
 pub const SUSPEND: u32 = 91;
 
 // How many kinds there are, and the last.
-pub const KINDS: usize = 101;
+pub(crate) const KINDS: usize = 101;
 
 pub const LAST: u32 = KINDS as u32 - 1;

@@ -3,6 +3,9 @@
 ghost use Rattle.std.specs.Prelude.{◌≡◌, ◌+◌, ◌<◌};
 ghost use Rattle.inst.specs.Record.{word, Within};
 
+// How many slots a record has.
+pub const SLOTS: usize = 5;
+
 // Record p of these: no value of this type has one that is not whole.
 #[derive(Clone, Copy)]
 pub struct Record<'a> {

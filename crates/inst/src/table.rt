@@ -325,7 +325,8 @@ impl Row {
         self.spread(wants(form))
     }
 
-    // Each of its five slots gets what m has at the slot's number, 2 bits a slot.
+    // Each of its five slots gets what m has at the slot's number, 2 bits a slot. (Five terms, as specs/Table.antt has them: a fold
+    // would work out the same ten constants.)
     fn spread(self, m: u32) -> u32
         ensures { result ≡ spread m self.0 }
     {
