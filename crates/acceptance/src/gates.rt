@@ -8,17 +8,18 @@ ghost use Rattle.inst.specs.Record.{Within};
 ghost use Rattle.checks.specs.Causes.{plain_cat, picture_of};
 
 use inst::kinds::CAT;
-use inst::record::{form, kind};
+use inst::record::Record;
 
 // Registers times blocks above which nothing is tried.
 const BUDGET: usize = 2097152;
 
-// A Cat of form 0.
+// Record p is a Cat of form 0. (It makes the record itself: the closure below would have to say what it asks of p.)
 fn plain_cat(recs: &[u32], p: usize) -> bool
     requires { Within recs.now p }
     ensures { result ≡ plain_cat (inst recs.now p) }
 {
-    (kind(recs, p) == CAT) & (form(recs, p) == 0)
+    let rec = Record { recs, p };
+    (rec.kind() == CAT) & (rec.form() == 0)
 }
 
 // Is one of the records from a up to e such a Cat?

@@ -17,9 +17,9 @@ use effects::origin::{UNKNOWN, memory};
 use inst::constant::decode;
 use inst::index::Reg;
 use inst::kinds::CALL_NATIVE;
-use inst::record::{form, kind, list_len};
+use inst::record::Record;
 use inst::scanned::Firsts;
-use inst::table::quiet;
+use inst::table::Row;
 use regfacts::flags::is_length;
 
 // What the arm of record g asks, at position p; x has what it reads.
@@ -31,13 +31,14 @@ pub(crate) fn ask(recs: &[u32], regs: &[u64], x: Firsts, g: usize, p: u32, count
     let v0 = value_of(regs, Reg::new(x.r0, count));
     let v1 = value_of(regs, r1);
     let v2 = value_of(regs, Reg::new(x.r2, count));
+    let rec = Record { recs, p: g };
     Input {
-        form: form(recs, g),
-        list: list_len(recs, g),
+        form: rec.form(),
+        list: rec.list_len(),
         p,
         reads: [v0, v1, v2],
         divisor: is_divisor(regs, r1),
-        small: is_length(decode(recs, g)),
+        small: is_length(decode(rec)),
     }
 }
 
@@ -55,13 +56,14 @@ fn placed(e: Effect, quiet: bool, native: bool) -> u32
 }
 
 // What record g does, by the row of its kind and what it asks.
-pub(crate) fn judge(recs: &[u32], g: usize, m: u32, y: Input) -> Effect
-    requires { Known recs.now g × (m ≡ packed (kind (inst recs.now g))) }
+pub(crate) fn judge(recs: &[u32], g: usize, m: Row, y: Input) -> Effect
+    requires { Known recs.now g × (m.0 ≡ packed (kind (inst recs.now g))) }
     ensures { Low y.p (inst recs.now g) result × ((ops : List ℕ) (G : Facts) (past : List Fact) (R : ℕ) → R ≤ 65536 → Good recs.now ops R g → Asked G past ops (inst recs.now g) y → Judged result (fact G ops past (inst recs.now g))) }
 {
     let e = Arm::of(m).effect(y);
+    let rec = Record { recs, p: g };
     Effect {
-        wrote: placed(e, quiet(m), kind(recs, g) == CALL_NATIVE),
+        wrote: placed(e, m.quiet(), rec.kind() == CALL_NATIVE),
         ..e
     }
 }

@@ -13,7 +13,7 @@ use effects::arms::{Arm, Effect};
 use facts::Fact;
 use inst::code::Code;
 use inst::kinds::{CALL, CALL_INDIRECT, CALL_PROT, SUSPEND};
-use inst::record::{form, kind};
+use inst::record::Record;
 use inst::scanned::Firsts;
 use model::ABSENT;
 
@@ -22,8 +22,9 @@ fn may_suspend(recs: &[u32], g: usize) -> bool
     requires { Within recs.now g }
     ensures { result ≡ may_suspend (inst recs.now g) }
 {
-    let k = kind(recs, g);
-    let f = form(recs, g);
+    let rec = Record { recs, p: g };
+    let k = rec.kind();
+    let f = rec.form();
     (k == SUSPEND) | (k == CALL_INDIRECT) | (((k == CALL) | (k == CALL_PROT)) & (f == 1))
 }
 

@@ -7,7 +7,7 @@ ghost use Rattle.cfg.specs.Graph.{Graph};
 
 use crate::succs::Succs;
 use inst::index::BlockId;
-use inst::record::{kind, word};
+use inst::record::Record;
 use inst::table::{Shape, Table};
 
 // A function's graph: the table of roles, where each block begins and ends in the records, and the case tables. Its ghost field says
@@ -61,12 +61,12 @@ impl<'a> Func<'a> {
         requires { Known self.now.recs.now p }
         ensures { result.now ≡ end_succs (drawn_of self.now) (end_of (inst self.now.recs.now p)) }
     {
-        let row = self.table.row(kind(self.recs, p));
-        match Shape::of(row) {
+        let rec = Record { recs: self.recs, p };
+        match self.table.row(rec.kind()).shape() {
             Shape::Stops => self.payload(p, 0),
             Shape::Goes => self.payload(p, 1),
             Shape::Parts => self.payload(p, 2),
-            Shape::Cases => self.case_targets(word(self.recs, p, 9)),
+            Shape::Cases => self.case_targets(rec.payload(0)),
         }
     }
 

@@ -7,7 +7,7 @@ ghost use Rattle.chains.specs.Chain.{blocks_of, last_of, ended, chain_of, ending
 
 use inst::index::BlockId;
 use inst::kinds::{BR, COND_BR};
-use inst::record::{kind, word};
+use inst::record::Record;
 
 // Of the blocks the first `count` are in use; t and f are where the last of them goes.
 #[derive(Clone, Copy)]
@@ -125,14 +125,14 @@ pub fn end_of(bounds: &[u32], recs: &[u32], b: BlockId) -> Ending
     if e <= s {
         return Ending::Stops;
     }
-    let p = e - 1;
+    let last = Record { recs, p: e - 1 };
     // A `match` on the number of a kind would prove nothing in its last arm.
-    let k = kind(recs, p);
+    let k = last.kind();
     if k == BR {
-        return Ending::Goes(word(recs, p, 9));
+        return Ending::Goes(last.payload(0));
     }
     if k == COND_BR {
-        return Ending::Parts(word(recs, p, 9), word(recs, p, 10));
+        return Ending::Parts(last.payload(0), last.payload(1));
     }
     Ending::Stops
 }

@@ -6,14 +6,14 @@ use mathlib.Core.List.{List, map}
 use Prim.Native.Nat.{ℕ, ◌+◌, ◌≤◌, ◌<◌}
 use native.Mathlib.Nat.{le_antisymm}
 use native.Mathlib.Omega.{arith}
-use lib.Dec.{eqb, ltb}
+use lib.Dec.{eqb, ltb, leb}
 use lib.ListN.{get_or}
-use borrow.Author.Tests.{lt-ltb, le-ltb, ltb-true, eqb-true, ne_eqb, not-true, not-false}
+use borrow.Author.Tests.{lt-ltb, le-ltb, ltb-true, leb-true, eqb-true, ne_eqb, not-true, not-false}
 use Rattle.words.proofs.Bools.{left_true, right_true, or_left, or_right, clash, lt?}
 use Rattle.model.specs.Kinds.{row, kind_of, at_form, off, Br, CondBr, Cat, SigGather}
 use Rattle.model.specs.Picture.{Inst, inst, absent, kind, form, is_kind, roles}
 use Rattle.model.specs.Refusal.{bad_kind, bad_list, bad_branch, half_part}
-use Rattle.inst.specs.Table.{does, shape_code, packed, has_list, shape, least, most, acts, two_bits, spread}
+use Rattle.inst.specs.Table.{does, shape_code, packed, has_list, shape, least, most, allows, acts, two_bits, spread}
 use Rattle.inst.specs.Record.{Within, uses_of}
 use Rattle.inst.proofs.Rows.{list_is, shape_is, least_is, most_is}
 use Rattle.inst.proofs.Resolved.{uses_by}
@@ -80,7 +80,7 @@ module _ (i : Inst) (f : ℕ) (e : simple (packed (kind i)) f ≡ true) where
   k = get_or i 0 0
 
   first : (not (has_list x) && eqb (shape x) 0) ≡ true
-  first = left_true _ _ (left_true _ _ e)
+  first = left_true _ _ e
 
   no_list : (row (kind i)).list ≡ false
   no_list = sym (list_is k) ∙ not-true (has_list x) (left_true _ _ first)
@@ -97,11 +97,14 @@ module _ (i : Inst) (f : ℕ) (e : simple (packed (kind i)) f ≡ true) where
   not-cond_br : is_kind CondBr i ≡ false
   not-cond_br = ne_eqb k 53 (λ q. let z : ◌≡◌ {A = ℕ} 2 0 = sym (ap (λ (m : ℕ). shape_code (kind_of m)) q) ∙ no_shape in omega arith)
 
+  allowed : allows x f ≡ true
+  allowed = right_true (not (has_list x) && eqb (shape x) 0) _ e
+
   from_least : ltb f (row (kind i)).least ≡ false
-  from_least = ap (ltb f) (sym (least_is k)) ∙ not-true (ltb f (least x)) (right_true (not (has_list x) && eqb (shape x) 0) _ (left_true _ _ e))
+  from_least = ap (ltb f) (sym (least_is k)) ∙ le-ltb f (least x) (leb-true (least x) f (left_true _ _ allowed))
 
   to_most : ltb (row (kind i)).most f ≡ false
-  to_most = ap (λ (m : ℕ). ltb m f) (sym (most_is k)) ∙ not-true (ltb (most x) f) (right_true (not (has_list x) && eqb (shape x) 0 && not (ltb f (least x))) _ e)
+  to_most = ap (λ (m : ℕ). ltb m f) (sym (most_is k)) ∙ le-ltb (most x) f (leb-true f (most x) (right_true (leb (least x) f) _ allowed))
 
 module _ (recs : List ℕ) (p R : ℕ) (w : Within recs p) where
   abbrev j : Inst

@@ -1,12 +1,12 @@
 -- Records in which no cause from 4 to 8 is present, told by one test (01, "The call", the table). Assumes nothing.
 use Rattle.std.specs.Prelude.{◌≡◌, Bool, true, false, cond, not, ◌&&◌, ◌||◌, List, ℕ, ◌+◌, ◌≤◌, ◌<◌, eqb, ltb, leb, get_or}
 use Rattle.model.specs.Picture.{Inst, inst, absent, kind, form}
-use Rattle.inst.specs.Table.{packed, has_list, shape, least, most, two_bits}
+use Rattle.inst.specs.Table.{packed, has_list, shape, allows, two_bits}
 use Rattle.inst.specs.Record.{uses_of}
 
 -- a row of a kind that has neither a list nor successors, and may have this form
 abbrev pub simple : ℕ → ℕ → Bool
-simple x f = not (has_list x) && eqb (shape x) 0 && not (ltb f (least x)) && not (ltb (most x) f)
+simple x f = not (has_list x) && eqb (shape x) 0 && allows x f
 
 -- no list
 abbrev pub bare : Inst → Bool

@@ -1,27 +1,26 @@
 // Cause 7 (01, "The call", the table): every branch of a record, wherever it stands in its block, every case target word,
 // covered by a pair or not, and every case pair.
 ghost use Rattle.std.specs.Prelude.{◌≡◌};
-ghost use Rattle.model.specs.Picture.{inst};
 ghost use Rattle.model.specs.Refusal.{bad_branch, bad_pairs};
-ghost use Rattle.inst.specs.Record.{Within};
+ghost use Rattle.inst.specs.Shown.{shown};
 ghost use Rattle.checks.specs.Causes.{bad_targets};
 
 use crate::lists::any_from;
 use inst::kinds::{BR, COND_BR};
-use inst::record::{kind, word};
+use inst::record::Record;
 
 // A branch to no block.
-pub fn bad_branch(recs: &[u32], p: usize, blocks: usize) -> bool
-    requires { Within recs.now p }
-    ensures { result ≡ bad_branch blocks (inst recs.now p) }
+pub(crate) fn bad_branch(rec: Record, blocks: usize) -> bool
+    ensures { result ≡ bad_branch blocks (shown rec.entry) }
 {
-    let k = kind(recs, p);
-    let t = word(recs, p, 9) as usize;
-    let f = word(recs, p, 10) as usize;
+    let k = rec.kind();
+    let t = rec.payload(0) as usize;
+    let f = rec.payload(1) as usize;
     (k == BR) & (blocks <= t) | (k == COND_BR) & ((blocks <= t) | (blocks <= f))
 }
 
-// A case pair, its start and its length, that is empty or past its n targets.
+// A case pair, its start and its length, that is empty or past its n targets. (A loop: std has no law of the items of `chunks_exact`,
+// and by `any` over them the check found no proof.)
 fn bad_pairs(pairs: &[u32], n: usize) -> bool
     ensures { result ≡ bad_pairs n pairs.now }
 {

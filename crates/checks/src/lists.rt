@@ -2,30 +2,30 @@
 // listed or not.
 ghost use Rattle.std.specs.Prelude.{◌≡◌, ◌≤◌, leb, length};
 ghost use Rattle.std.specs.List.{list_any};
-ghost use Rattle.model.specs.Picture.{inst};
 ghost use Rattle.model.specs.Refusal.{bad_list};
 ghost use Rattle.inst.specs.Record.{Known};
+ghost use Rattle.inst.specs.Shown.{shown};
 ghost use Rattle.checks.specs.Causes.{bad_lists, bad_types};
 
-use inst::record::{kind, list_len, list_start};
-use inst::table::{Table, has_list};
+use inst::record::Record;
+use inst::table::Table;
 
 // A list past the operands in use, or on a kind without one.
 #[tactic(auto, using(crate::proofs::Looked::has_one, crate::proofs::Looked::has_none))]
-pub fn bad_list(t: &Table, recs: &[u32], p: usize, opers: usize) -> bool
-    requires { Known recs.now p }
-    ensures { result ≡ bad_list opers (inst recs.now p) }
+pub(crate) fn bad_list(t: &Table, rec: Record, opers: usize) -> bool
+    requires { Known rec.recs.now rec.p }
+    ensures { result ≡ bad_list opers (shown rec.entry) }
 {
-    let start = list_start(recs, p);
-    let len = list_len(recs, p);
-    if has_list(t.row(kind(recs, p))) {
+    let start = rec.list_start();
+    let len = rec.list_len();
+    if t.row(rec.kind()).has_list() {
         return opers < start + len;
     }
     !((start == 0) & (len == 0))
 }
 
 // Is one of these words m or more?
-pub fn any_from(xs: &[u32], m: usize) -> bool
+pub(crate) fn any_from(xs: &[u32], m: usize) -> bool
     ensures { result ≡ list_any (λ x. leb m x) xs.now }
 {
     xs.iter().any(|x| m <= *x as usize)

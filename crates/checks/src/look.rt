@@ -8,6 +8,7 @@ use crate::branches::bad_branch;
 use crate::lists::bad_list;
 use crate::plain::skip;
 use crate::records::{bad_kind, bad_regs_at, long_cat};
+use inst::record::Record;
 use inst::table::Table;
 use model::Refusal;
 
@@ -43,13 +44,14 @@ pub fn look(
     let mut p = 0;
     // The step is the next record that is not plain, so no range gives it.
     while p < n {
-        if bad_kind(t, recs, p) {
+        let rec = Record { recs, p };
+        if bad_kind(t, rec) {
             return Err(Refusal::Kind);
         }
-        regs |= bad_regs_at(t, recs, p, r);
-        lists |= bad_list(t, recs, p, used);
-        branches |= bad_branch(recs, p, blocks);
-        cats |= long_cat(recs, p);
+        regs |= bad_regs_at(t, rec, r);
+        lists |= bad_list(t, rec, used);
+        branches |= bad_branch(rec, blocks);
+        cats |= long_cat(rec);
         p = skip(t, recs, n, r, p + 1);
     }
     Ok(Found {

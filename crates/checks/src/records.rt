@@ -2,14 +2,15 @@
 // may look its kind up in the table.
 ghost use Rattle.std.specs.Prelude.{◌≡◌, ◌+◌, ◌<◌, get_or};
 ghost use Rattle.model.specs.Kinds.{off};
-ghost use Rattle.model.specs.Picture.{inst, roles, slots};
+ghost use Rattle.model.specs.Picture.{roles, slots};
 ghost use Rattle.model.specs.Refusal.{bad_kind, bad_slot, bad_slots, half_part};
-ghost use Rattle.inst.specs.Record.{Within, Known, asks_of, bad_at};
+ghost use Rattle.inst.specs.Shown.{shown};
+ghost use Rattle.inst.specs.Record.{Known, asks_of, bad_at};
 ghost use Rattle.checks.specs.Causes.{bad_regs, long_cat};
 
 use inst::kinds::{CAT, LAST, SIG_GATHER};
-use inst::record::{form, kind, list_len, slot, word};
-use inst::table::{Table, asks, least, most, two_bits};
+use inst::record::{Record, SLOTS};
+use inst::table::{Table, two_bits};
 use model::ABSENT;
 
 // The greatest word of a Cat's scalars, a bit a piece.
@@ -20,17 +21,14 @@ const CAT_LIST: usize = 33;
 
 // 4: its kind, form or scalars are not allowed.
 #[tactic(auto, using(crate::proofs::Looked::no_kind, crate::proofs::Looked::kind_by))]
-pub fn bad_kind(t: &Table, recs: &[u32], p: usize) -> bool
-    requires { Within recs.now p }
-    ensures { result ≡ bad_kind (inst recs.now p) }
+pub(crate) fn bad_kind(t: &Table, rec: Record) -> bool
+    ensures { result ≡ bad_kind (shown rec.entry) }
 {
-    let k = kind(recs, p);
+    let k = rec.kind();
     if LAST < k {
         return true;
     }
-    let f = form(recs, p);
-    let x = t.row(k);
-    (f < least(x)) | (most(x) < f) | ((k == CAT) & (SCALARS < word(recs, p, 9)))
+    !t.row(k).allows(rec.form()) | ((k == CAT) & (SCALARS < rec.payload(0)))
 }
 
 // 5: a slot that asks this may not hold r, of that many registers. (What it asks is two bits of the packed table; an enum of it would be
@@ -45,54 +43,45 @@ fn bad_at(regs: u32, ask: u32, r: u32) -> bool
     }
 }
 
-// 5: slot s of record p, whose slots ask this.
+// 5: slot s of a record whose slots ask this.
 #[tactic(auto, using(crate::proofs::Slots::asked))]
-fn bad_slot(recs: &[u32], p: usize, regs: u32, asks: u32, s: usize) -> bool
-    requires { Within recs.now p × (asks ≡ asks_of (inst recs.now p)) × (s < 5) }
-    ensures { result ≡ bad_slot regs (get_or (roles (inst recs.now p)) s off) (get_or (inst recs.now p) (2 + s) 0) }
+fn bad_slot(rec: Record, regs: u32, asks: u32, s: usize) -> bool
+    requires { (asks ≡ asks_of (shown rec)) × (s < 5) }
+    ensures { result ≡ bad_slot regs (get_or (roles (shown rec.entry)) s off) (get_or (shown rec.entry) (2 + s) 0) }
 {
-    bad_at(regs, two_bits(asks, s as u32), slot(recs, p, s))
+    bad_at(regs, two_bits(asks, s), rec.slot(s))
 }
 
-// 5: the five slots of record p.
-fn bad_slots(recs: &[u32], p: usize, regs: u32, asks: u32) -> bool
-    requires { Within recs.now p × (asks ≡ asks_of (inst recs.now p)) }
-    ensures { result ≡ bad_slots regs (roles (inst recs.now p)) (slots (inst recs.now p)) }
+// 5: the five slots of a record.
+fn bad_slots(rec: Record, regs: u32, asks: u32) -> bool
+    requires { asks ≡ asks_of (shown rec) }
+    ensures { result ≡ bad_slots regs (roles (shown rec.entry)) (slots (shown rec.entry)) }
 {
-    let b0 = bad_slot(recs, p, regs, asks, 0);
-    let b1 = bad_slot(recs, p, regs, asks, 1);
-    let b2 = bad_slot(recs, p, regs, asks, 2);
-    let b3 = bad_slot(recs, p, regs, asks, 3);
-    let b4 = bad_slot(recs, p, regs, asks, 4);
-    b0 | (b1 | (b2 | (b3 | b4)))
+    (0..SLOTS).any(|s| bad_slot(rec, regs, asks, s))
 }
 
 // 5: a SigGather with one of its two part registers.
-fn half_part(recs: &[u32], p: usize) -> bool
-    requires { Within recs.now p }
-    ensures { result ≡ half_part (inst recs.now p) }
+fn half_part(rec: Record) -> bool
+    ensures { result ≡ half_part (shown rec.entry) }
 {
-    let k = kind(recs, p);
-    let a = word(recs, p, 4);
-    let b = word(recs, p, 5);
-    (k == SIG_GATHER) & (a != ABSENT) & (b == ABSENT)
-        | (k == SIG_GATHER) & (a == ABSENT) & (b != ABSENT)
+    let a = rec.slot(2);
+    let b = rec.slot(3);
+    (rec.kind() == SIG_GATHER) & ((a == ABSENT) != (b == ABSENT))
 }
 
 // 5: a slot is no register below R, or wrongly absent or present.
 #[tactic(auto, using(inst::proofs::Resolved::asks_by), unfolding(crate::specs::Causes::bad_regs))]
-pub fn bad_regs_at(t: &Table, recs: &[u32], p: usize, regs: u32) -> bool
-    requires { Known recs.now p }
-    ensures { result ≡ bad_regs regs (inst recs.now p) }
+pub(crate) fn bad_regs_at(t: &Table, rec: Record, regs: u32) -> bool
+    requires { Known rec.recs.now rec.p }
+    ensures { result ≡ bad_regs regs (shown rec.entry) }
 {
-    let wanted = asks(t.row(kind(recs, p)), form(recs, p));
-    bad_slots(recs, p, regs, wanted) | half_part(recs, p)
+    let asks = t.row(rec.kind()).asks(rec.form());
+    bad_slots(rec, regs, asks) | half_part(rec)
 }
 
 // 8: a Cat's list is over 33.
-pub fn long_cat(recs: &[u32], p: usize) -> bool
-    requires { Within recs.now p }
-    ensures { result ≡ long_cat (inst recs.now p) }
+pub(crate) fn long_cat(rec: Record) -> bool
+    ensures { result ≡ long_cat (shown rec.entry) }
 {
-    (kind(recs, p) == CAT) & (CAT_LIST < list_len(recs, p))
+    (rec.kind() == CAT) & (CAT_LIST < rec.list_len())
 }

@@ -8,7 +8,7 @@ ghost use Rattle.effects.specs.Arms.{effect_of, arm_of, Right, leads};
 
 use crate::input::Input;
 use crate::origin::{HEAP, UNKNOWN, address, agree, image, inside, is_sized, memory, temp};
-use inst::table::arm;
+use inst::table::Row;
 
 // What stands for the pieces that a Cat reads, to be looked up again.
 pub const PIECES: u32 = 4294967295;
@@ -264,10 +264,10 @@ fn native(x: Input) -> Effect
 
 impl Arm {
     // The arm of a kind with this row in the table.
-    pub fn of(row: u32) -> Self
-        ensures { arm_of result ≡ arm_at (arm row) }
+    pub fn of(row: Row) -> Self
+        ensures { arm_of result ≡ arm_at (arm row.0) }
     {
-        ARMS.get(arm(row) as usize).copied().unwrap_or(Arm::Other)
+        ARMS.get(row.arm() as usize).copied().unwrap_or(Arm::Other)
     }
 
     // What an instruction of this arm does.

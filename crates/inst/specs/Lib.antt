@@ -1,5 +1,6 @@
 pub mod Table
 pub mod Shape
+pub mod Shown
 pub mod Record
 pub mod Constant
 pub mod Index

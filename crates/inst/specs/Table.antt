@@ -1,6 +1,6 @@
 -- 01, "the roles of all 101 kinds become a fixed table": what `model`'s Kinds says of a kind, in numbers, and packed into
 -- one number; the fields of such a number; a row resolved at a form. Assumes nothing.
-use Rattle.std.specs.Prelude.{Bool, true, false, cond, List, [], ◌∷◌, ◌++◌, map, ℕ, ◌+◌, ◌*◌, ◌/◌, ◌%◌, ◌^◌, eqb, leb, get_or}
+use Rattle.std.specs.Prelude.{Bool, true, false, cond, ◌&&◌, List, [], ◌∷◌, ◌++◌, map, ℕ, ◌+◌, ◌*◌, ◌/◌, ◌%◌, ◌^◌, eqb, leb, get_or}
 use Rattle.model.specs.Kinds.{Kind, Br, CondBr, Case, Slot, Def, Use, Def?, Use?, Use-but-1, Use-from-2, Def-if-1, Role, off, wr, rd, wr?, rd?, Arm, const, constF, addr_of, move, select, truth, bin, index, check, dopeLen, load, alloc, layout_of, signal, fills, store, cat, native, stops, deref, writes, other, row, kinds, place, at_form}
 
 -- ---- numbers
@@ -102,6 +102,10 @@ least x = x / 16777216 % 8
 
 abbrev pub most : ℕ → ℕ
 most x = x / 134217728 % 8
+
+-- may a record of the kind have this form?
+abbrev pub allows : ℕ → ℕ → Bool
+allows x f = leb (least x) f && leb f (most x)
 
 -- ---- a row resolved at a form: 2 bits a slot
 

@@ -3,14 +3,14 @@
 ghost use Rattle.std.specs.Prelude.{◌≡◌, List, [], ◌++◌, ℕ, ◌+◌, ◌<◌};
 ghost use Rattle.model.specs.Picture.{inst, kind, absent, list_of, reads, writes};
 ghost use Rattle.inst.specs.Table.{packed};
-ghost use Rattle.inst.specs.Record.{Known, Used, Listed, read_at, write_at, later, rest_reads, rest_writes};
+ghost use Rattle.inst.specs.Record.{word, Known, Used, Listed, uses_of, asks_of, read_at, write_at, later, rest_reads, rest_writes};
 ghost use Rattle.inst.specs.Firsts.{Heads};
 ghost use Rattle.inst.specs.Index.{reg_of};
 
 use crate::index::Reg;
-use crate::record::{form, kind, list_len, list_start, slot};
+use crate::record::Record;
 use crate::scanned::Firsts;
-use crate::table::{Table, two_bits};
+use crate::table::{Row, Table, two_bits};
 use model::ABSENT;
 
 // What is looked at together: the table, the records and the operands.
@@ -22,7 +22,7 @@ pub struct Code<'a> {
 }
 
 // Record p with what its slots do, 2 bits a slot, looked up once. They stay in one word: what all five do is mostly told by one
-// comparison of it.
+// comparison of it. (No `Record` inside: what is known of `does` says already that the record is whole.)
 #[derive(Clone, Copy)]
 pub struct Slots<'a> {
     pub recs: &'a [u32],
@@ -33,11 +33,12 @@ pub struct Slots<'a> {
 
 impl<'a> Code<'a> {
     // The row of record p's kind.
-    pub fn row(&self, p: usize) -> u32
+    pub fn row(&self, p: usize) -> Row
         requires { Known self.now.recs.now p }
-        ensures { result ≡ packed (kind (inst self.now.recs.now p)) }
+        ensures { result.0 ≡ packed (kind (inst self.now.recs.now p)) }
     {
-        self.table.row(kind(self.recs, p))
+        let rec = Record { recs: self.recs, p };
+        self.table.row(rec.kind())
     }
 
     // The slots of record p.
@@ -46,10 +47,11 @@ impl<'a> Code<'a> {
         ensures recs { result.recs.now ≡ self.now.recs.now }
         ensures place { result.p ≡ p }
     {
+        let rec = Record { recs: self.recs, p };
         Slots {
             recs: self.recs,
             p,
-            does: self.table.used(kind(self.recs, p), form(self.recs, p)),
+            does: self.table.used(rec.kind(), rec.form()),
         }
     }
 
@@ -58,8 +60,9 @@ impl<'a> Code<'a> {
         requires { Listed self.now.recs.now self.now.ops.now p }
         ensures { result.now ≡ list_of self.now.ops.now (inst self.now.recs.now p) }
     {
-        let a = list_start(self.recs, p);
-        let e = a + list_len(self.recs, p);
+        let rec = Record { recs: self.recs, p };
+        let a = rec.list_start();
+        let e = a + rec.list_len();
         &self.ops[a..e]
     }
 
@@ -98,14 +101,26 @@ impl Slots<'_> {
         (does / 8 % 2 == 1) | (does / 32 % 2 == 1) | (does / 128 % 2 == 1) | (does / 512 % 2 == 1)
     }
 
+    // The word of slot s.
+    fn word(&self, s: usize) -> u32
+        requires { s < 5 }
+        ensures { result ≡ word self.now.recs.now self.now.p (2 + s) }
+    {
+        let rec = Record {
+            recs: self.recs,
+            p: self.p,
+        };
+        rec.slot(s)
+    }
+
     // The word of slot s where it reads, or absent. (Of a slot's two bits the lower says that it is read, the upper that it is
     // written.)
     fn read_word(&self, s: usize) -> u32
         requires { s < 5 }
         ensures { result ≡ read_at (inst self.now.recs.now self.now.p) s }
     {
-        if two_bits(self.does, s as u32) % 2 == 1 {
-            return slot(self.recs, self.p, s);
+        if two_bits(self.does, s) % 2 == 1 {
+            return self.word(s);
         }
         ABSENT
     }
@@ -115,8 +130,8 @@ impl Slots<'_> {
         requires { s < 5 }
         ensures { result ≡ write_at (inst self.now.recs.now self.now.p) s }
     {
-        if two_bits(self.does, s as u32) / 2 == 1 {
-            return slot(self.recs, self.p, s);
+        if two_bits(self.does, s) / 2 == 1 {
+            return self.word(s);
         }
         ABSENT
     }

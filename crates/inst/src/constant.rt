@@ -3,12 +3,11 @@
 ghost use Rattle.std.specs.Prelude.{◌≡◌};
 ghost use Rattle.std.specs.Float.Ieee.{nan_bits};
 ghost use Rattle.std.specs.Float.{binary64};
-ghost use Rattle.model.specs.Picture.{inst};
-ghost use Rattle.inst.specs.Record.{Within};
+ghost use Rattle.inst.specs.Shown.{shown};
 ghost use Rattle.inst.specs.Constant.{bits_of, signed, constant_of};
 
 use crate::kinds::{CONST, CONST_F};
-use crate::record::{kind, word};
+use crate::record::Record;
 
 // 2^32, which the higher of two words counts.
 const HIGH: u64 = 4294967296;
@@ -21,7 +20,7 @@ const FRACTION: u64 = 4503599627370496;
 
 const NO_NUMBER: u64 = 2047;
 
-#[derive(Clone, Copy)]
+#[derive(Clone, Copy, PartialEq, Debug)]
 pub enum Constant {
     Whole(i64),
     Float(f64),
@@ -30,42 +29,29 @@ pub enum Constant {
 
 // The 64 bits of words 9 and 10.
 #[tactic(auto, unfolding(crate::specs::Constant::bits_of))]
-pub fn bits(recs: &[u32], p: usize) -> u64
-    requires { Within recs.now p }
-    ensures { result ≡ bits_of (inst recs.now p) }
+fn bits(rec: Record) -> u64
+    ensures { result ≡ bits_of (shown rec.entry) }
 {
-    let low = word(recs, p, 9);
-    let high = word(recs, p, 10);
+    let low = rec.payload(0);
+    let high = rec.payload(1);
     u64::from(low) + HIGH * u64::from(high)
 }
 
-// The signed number whose bits are n.
-#[tactic(auto, unfolding(crate::specs::Constant::signed))]
-pub fn signed(n: u64) -> i64
-    ensures { result ≡ signed n }
-{
-    n.cast_signed()
-}
-
 // Are these the bits of a float that is no number? (`f64::from_bits` asks that they are not, so no float can be asked.)
-pub fn is_nan(n: u64) -> bool
+fn is_nan(n: u64) -> bool
     ensures { result ≡ nan_bits binary64 n }
 {
-    if n % SIGN / FRACTION == NO_NUMBER {
-        return n % FRACTION != 0;
-    }
-    false
+    (n % SIGN / FRACTION == NO_NUMBER) & (n % FRACTION != 0)
 }
 
-// The constant of record p, if it is one.
-pub fn decode(recs: &[u32], p: usize) -> Option<Constant>
-    requires { Within recs.now p }
-    ensures { result ≡ constant_of (inst recs.now p) }
+// The constant of a record, if it is one.
+pub fn decode(rec: Record) -> Option<Constant>
+    ensures { result ≡ constant_of (shown rec.entry) }
 {
-    let k = kind(recs, p);
-    let n = bits(recs, p);
+    let k = rec.kind();
+    let n = bits(rec);
     if k == CONST {
-        return Some(Constant::Whole(signed(n)));
+        return Some(Constant::Whole(n.cast_signed()));
     }
     if k != CONST_F {
         return None;

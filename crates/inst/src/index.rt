@@ -1,6 +1,6 @@
 // Two sorts of index that no sum or call confuses (01, "How to write each place": tuple structs for register number and
-// block number, each made only after its range test). They are two types by design; one type with a parameter for the sort would say
-// the same in more words.
+// block number, each made after its range test, or where a proof stands for it). They are two types by design; one type with a
+// parameter for the sort would say the same in more words.
 ghost use Rattle.std.specs.Prelude.{◌≡◌, ◌+◌, ◌*◌, ◌<◌, length, get_or};
 ghost use Rattle.inst.specs.Index.{reg_of, block_of};
 

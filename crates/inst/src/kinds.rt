@@ -24,5 +24,7 @@ pub const SIG_GATHER: u32 = 74;
 
 pub const SUSPEND: u32 = 91;
 
-// The last kind.
-pub const LAST: u32 = 100;
+// How many kinds there are, and the last.
+pub(crate) const KINDS: usize = 101;
+
+pub const LAST: u32 = KINDS as u32 - 1;

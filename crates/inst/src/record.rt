@@ -3,46 +3,63 @@
 ghost use Rattle.std.specs.Prelude.{◌≡◌, ◌+◌, ◌<◌};
 ghost use Rattle.inst.specs.Record.{word, Within};
 
-// Word k of record p.
-pub fn word(recs: &[u32], p: usize, k: usize) -> u32
-    requires { Within recs.now p × (k < 16) }
-    ensures { result ≡ word recs.now p k }
-{
-    recs[16 * p + k]
+// How many slots a record has.
+pub const SLOTS: usize = 5;
+
+// Record p of these: no value of this type has one that is not whole.
+#[derive(Clone, Copy)]
+pub struct Record<'a> {
+    pub recs: &'a [u32],
+    pub p: usize,
+    ghost within: { Within recs.now p },
 }
 
-pub fn kind(recs: &[u32], p: usize) -> u32
-    requires { Within recs.now p }
-    ensures { result ≡ word recs.now p 0 }
-{
-    word(recs, p, 0)
-}
+impl Record<'_> {
+    // Word k.
+    pub fn word(self, k: usize) -> u32
+        requires { k < 16 }
+        ensures { result ≡ word self.entry.recs.now self.entry.p k }
+    {
+        self.recs[16 * self.p + k]
+    }
 
-pub fn form(recs: &[u32], p: usize) -> u32
-    requires { Within recs.now p }
-    ensures { result ≡ word recs.now p 1 }
-{
-    word(recs, p, 1)
-}
+    pub fn kind(self) -> u32
+        ensures { result ≡ word self.entry.recs.now self.entry.p 0 }
+    {
+        self.word(0)
+    }
 
-// Slot s of five, a register or absent.
-pub fn slot(recs: &[u32], p: usize, s: usize) -> u32
-    requires { Within recs.now p × (s < 5) }
-    ensures { result ≡ word recs.now p (2 + s) }
-{
-    word(recs, p, 2 + s)
-}
+    pub fn form(self) -> u32
+        ensures { result ≡ word self.entry.recs.now self.entry.p 1 }
+    {
+        self.word(1)
+    }
 
-pub fn list_start(recs: &[u32], p: usize) -> usize
-    requires { Within recs.now p }
-    ensures { result ≡ word recs.now p 7 }
-{
-    word(recs, p, 7) as usize
-}
+    // Slot s of five, a register or absent.
+    pub fn slot(self, s: usize) -> u32
+        requires { s < 5 }
+        ensures { result ≡ word self.entry.recs.now self.entry.p (2 + s) }
+    {
+        self.word(2 + s)
+    }
 
-pub fn list_len(recs: &[u32], p: usize) -> usize
-    requires { Within recs.now p }
-    ensures { result ≡ word recs.now p 8 }
-{
-    word(recs, p, 8) as usize
+    // Payload word k of seven.
+    pub fn payload(self, k: usize) -> u32
+        requires { k < 7 }
+        ensures { result ≡ word self.entry.recs.now self.entry.p (9 + k) }
+    {
+        self.word(9 + k)
+    }
+
+    pub fn list_start(self) -> usize
+        ensures { (result ≡ word self.entry.recs.now self.entry.p 7) × (result < 4294967296) }
+    {
+        self.word(7) as usize
+    }
+
+    pub fn list_len(self) -> usize
+        ensures { (result ≡ word self.entry.recs.now self.entry.p 8) × (result < 4294967296) }
+    {
+        self.word(8) as usize
+    }
 }

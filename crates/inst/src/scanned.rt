@@ -8,7 +8,7 @@ use model::ABSENT;
 
 // The first three registers that a record reads, slots first and then its list, and the first two that it writes, as the words
 // that stand there; absent where there is none. They stay words, each with its own name: each goes so into a field of a fact.
-#[derive(Clone, Copy)]
+#[derive(Clone, Copy, PartialEq, Eq, Debug)]
 pub struct Firsts {
     pub r0: u32,
     pub r1: u32,

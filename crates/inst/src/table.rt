@@ -4,11 +4,13 @@
 // that indexes it.
 ghost use Rattle.std.specs.Prelude.{◌≡◌, ◌<◌, ◌*◌, ◌/◌, ◌%◌, eqb};
 ghost use Rattle.model.specs.Kinds.{kind_of};
-ghost use Rattle.inst.specs.Table.{packed, rows, has_list, shape, arm, quiet, least, most, acts, wants, two_bits, spread, lift};
+ghost use Rattle.inst.specs.Table.{packed, rows, has_list, shape, arm, quiet, allows, acts, wants, two_bits, spread, lift};
 ghost use Rattle.inst.specs.Shape.{shape_of};
 
+use crate::kinds::KINDS;
+
 // How many words the table has: a row and a word of uses for each kind.
-const WORDS: usize = 202;
+const WORDS: usize = 2 * KINDS;
 
 const ROWS: [u32; WORDS] = [
     8388609, // 0 Const: Def
@@ -229,11 +231,11 @@ impl Table {
     }
 
     // The row of a kind.
-    pub fn row(&self, kind: u32) -> u32
+    pub fn row(&self, kind: u32) -> Row
         requires { kind < 101 }
-        ensures { result ≡ packed (kind_of kind) }
+        ensures { result.0 ≡ packed (kind_of kind) }
     {
-        self.words[kind as usize]
+        Row(self.words[kind as usize])
     }
 
     // What the slots of a kind do at a form, 2 bits a slot: 0 nothing, 1 reads, 2 writes.
@@ -241,7 +243,7 @@ impl Table {
         requires { kind < 101 }
         ensures { result ≡ spread (acts form) (packed (kind_of kind)) }
     {
-        (self.words[101 + kind as usize] >> lift(form)) % 1024
+        (self.words[KINDS + kind as usize] >> lift(form)) % 1024
     }
 }
 
@@ -250,13 +252,6 @@ fn lift(form: u32) -> u32
     ensures { result ≡ lift form }
 {
     10 * form.min(2)
-}
-
-// Does the kind have a list?
-pub fn has_list(row: u32) -> bool
-    ensures { result ≡ has_list row }
-{
-    row / 32768 % 2 == 1
 }
 
 // How a record's successors lie, if it ends a block: there are none, or they are the words of a Br or of a CondBr, or the targets
@@ -269,53 +264,80 @@ pub enum Shape {
     Cases,
 }
 
-impl Shape {
-    // How those of the row's kind lie.
-    pub fn of(row: u32) -> Shape
-        ensures { result ≡ shape_of (shape row) }
+// A row of the table: the slots of a kind, and what else is told of it, in one number as specs/Table.antt lays it down.
+#[derive(Clone, Copy, PartialEq, Eq, Debug)]
+pub struct Row(u32);
+
+impl Row {
+    // Does the kind have a list?
+    pub fn has_list(self) -> bool
+        ensures { result ≡ has_list self.0 }
     {
-        match row / 65536 % 4 {
+        self.0 / 32768 % 2 == 1
+    }
+
+    // How the successors of its records lie.
+    pub fn shape(self) -> Shape
+        ensures { result ≡ shape_of (shape self.0) }
+    {
+        match self.0 / 65536 % 4 {
             0 => Shape::Stops,
             1 => Shape::Goes,
             2 => Shape::Parts,
             _ => Shape::Cases,
         }
     }
-}
 
-// Are there none?
-pub fn stops(row: u32) -> bool
-    ensures { result ≡ eqb (shape row) 0 }
-{
-    row / 65536 % 4 == 0
-}
+    // Are there none?
+    pub fn stops(self) -> bool
+        ensures { result ≡ eqb (shape self.0) 0 }
+    {
+        matches!(self.shape(), Shape::Stops)
+    }
 
-// The number of the arm of `analyse` that takes it.
-pub fn arm(row: u32) -> u32
-    ensures { result ≡ arm row }
-{
-    row / 262144 % 32
-}
+    // The number of the arm of `analyse` that takes it.
+    pub fn arm(self) -> u32
+        ensures { result ≡ arm self.0 }
+    {
+        self.0 / 262144 % 32
+    }
 
-// Does it stand in `writes_nothing`?
-pub fn quiet(row: u32) -> bool
-    ensures { result ≡ quiet row }
-{
-    row / 8388608 % 2 == 1
-}
+    // Does it stand in `writes_nothing`?
+    pub fn quiet(self) -> bool
+        ensures { result ≡ quiet self.0 }
+    {
+        self.0 / 8388608 % 2 == 1
+    }
 
-// The least form.
-pub fn least(row: u32) -> u32
-    ensures { result ≡ least row }
-{
-    row / 16777216 % 8
-}
+    // May its records have this form?
+    pub fn allows(self, form: u32) -> bool
+        ensures { result ≡ allows self.0 form }
+    {
+        let least = self.0 / 16777216 % 8;
+        let most = self.0 / 134217728 % 8;
+        (least <= form) & (form <= most)
+    }
 
-// The greatest form.
-pub fn most(row: u32) -> u32
-    ensures { result ≡ most row }
-{
-    row / 134217728 % 8
+    // What each slot asks at a form.
+    pub fn asks(self, form: u32) -> u32
+        ensures { result ≡ spread (wants form) self.0 }
+    {
+        self.spread(wants(form))
+    }
+
+    // Each of its five slots gets what m has at the slot's number, 2 bits a slot. (Five terms, as specs/Table.antt has them: a fold
+    // would work out the same ten constants.)
+    fn spread(self, m: u32) -> u32
+        ensures { result ≡ spread m self.0 }
+    {
+        let row = self.0 as usize;
+        let r0 = two_bits(m, row % 8);
+        let r1 = two_bits(m, row / 8 % 8);
+        let r2 = two_bits(m, row / 64 % 8);
+        let r3 = two_bits(m, row / 512 % 8);
+        let r4 = two_bits(m, row / 4096 % 8);
+        r0 + 4 * r1 + 16 * r2 + 64 * r3 + 256 * r4
+    }
 }
 
 // What each slot number asks at a form, 2 bits a number: 0 absent, 1 a register, 2 either. (The codes stay bits of one word: that all
@@ -331,28 +353,9 @@ fn wants(form: u32) -> u32
 }
 
 // The two bits of m at place k.
-pub fn two_bits(m: u32, k: u32) -> u32
+pub fn two_bits(m: u32, k: usize) -> u32
     requires { k < 8 }
     ensures { result ≡ two_bits m k }
 {
     (m >> (2 * k)) % 4
-}
-
-// Each of the row's five slots gets what m has at its number, 2 bits a slot.
-fn spread(m: u32, row: u32) -> u32
-    ensures { result ≡ spread m row }
-{
-    let r0 = two_bits(m, row % 8);
-    let r1 = two_bits(m, row / 8 % 8);
-    let r2 = two_bits(m, row / 64 % 8);
-    let r3 = two_bits(m, row / 512 % 8);
-    let r4 = two_bits(m, row / 4096 % 8);
-    r0 + 4 * r1 + 16 * r2 + 64 * r3 + 256 * r4
-}
-
-// A row resolved at a form: what each slot asks.
-pub fn asks(row: u32, form: u32) -> u32
-    ensures { result ≡ spread (wants form) row }
-{
-    spread(wants(form), row)
 }

@@ -13,6 +13,7 @@ use effects::origin::{FRAME, RO, UNKNOWN};
 use facts::Fact;
 use inst::code::Code;
 use inst::index::Reg;
+use inst::record::Record;
 use summary::notes::Lasts;
 use summary::reads::all_read;
 use summary::stamps::{AWAITED, MEMBER_AT, ORIGIN, WRITER};
@@ -149,7 +150,8 @@ impl Kept<'_> {
             return self.org_ok(p, x - 1);
         }
         let g = f.rec as usize;
-        self.pieces_ok(code.list(g), p, inst::record::word(code.recs, g, 9))
+        let rec = Record { recs: code.recs, p: g };
+        self.pieces_ok(code.list(g), p, rec.payload(0))
     }
 
     // Rule 5 for what position p creates or writes.

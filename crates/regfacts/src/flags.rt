@@ -14,7 +14,7 @@ use effects::origin::{FRAME, RO, UNKNOWN, address};
 use inst::code::Code;
 use inst::constant::{Constant, decode};
 use inst::kinds::ADDR_OF;
-use inst::record::{form, kind};
+use inst::record::Record;
 use inst::written::{change, change_written};
 
 // A register's word counts what stands over its flags by this.
@@ -107,11 +107,12 @@ fn record_flags(recs: &[u32], q: usize) -> u64
     requires { Within recs.now q }
     ensures { result ≡ flags_of (known (inst recs.now q)) }
 {
-    if kind(recs, q) == ADDR_OF {
-        let o = address(form(recs, q));
+    let rec = Record { recs, p: q };
+    if rec.kind() == ADDR_OF {
+        let o = address(rec.form());
         return u64::from(o == RO) + 2 * u64::from(o == FRAME);
     }
-    constant_flags(decode(recs, q))
+    constant_flags(decode(rec))
 }
 
 // Where a register with these flags points, as an origin's number.

@@ -5,7 +5,7 @@ ghost use Rattle.rename.specs.Names.{Exists, Fit, Remade};
 
 use crate::lists::{append, changes};
 use crate::slots::{Anew, rename_slots};
-use inst::record::{list_len, list_start};
+use inst::record::Record;
 
 // Record p, where o operands are in use. Returns how many are in use then.
 pub(crate) fn remake(
@@ -19,8 +19,9 @@ pub(crate) fn remake(
     requires { Exists (λ u. Fit p uses u o anew.names.now anew.new recs.old ops.old) }
     ensures { Remade p o anew.entry.names.now anew.entry.new recs.old recs.new ops.old ops.new result }
 {
-    let s = list_start(recs, p);
-    let n = list_len(recs, p);
+    let rec = Record { recs, p };
+    let s = rec.list_start();
+    let n = rec.list_len();
     rename_slots(recs, p, uses, anew);
     let c = changes(&ops[s..s + n], anew.names);
     if c {

@@ -43,7 +43,7 @@ pub(crate) fn rename_slots(recs: &mut [u32], p: usize, uses: u32, anew: Anew)
 {
     let b = 16 * p;
     for s in 0..5 {
-        let does = two_bits(uses, s as u32);
+        let does = two_bits(uses, s);
         let r = Reg::new(recs[b + 2 + s], anew.names.len());
         recs[b + 2 + s] = slot_word(r, does, anew);
     }

@@ -13,7 +13,7 @@ use crate::parts::{Part, Walk, part_at};
 use crate::remake::remake;
 use crate::slots::Anew;
 use inst::code::{Code, Slots};
-use inst::record::{form, kind};
+use inst::record::Record;
 use inst::table::Table;
 use model::ABSENT;
 use position::PLACE;
@@ -33,7 +33,8 @@ fn pass(
     requires { Exists (λ u. Pass q u o names.old k.mark (word_of k.def) k.new recs.old ops.old) × Among (length names.old) k.def }
     ensures { Passed q o k.mark (word_of k.def) k.new names.old names.new recs.old recs.new ops.old ops.new result }
 {
-    let does = t.used(kind(recs, q), form(recs, q));
+    let rec = Record { recs, p: q };
+    let does = t.used(rec.kind(), rec.form());
     if k.mark == 0 {
         let slots = Slots { recs, p: q, does };
         forget(&slots, names);
@@ -80,7 +81,8 @@ fn own(t: &Table, recs: &mut [u32], q: usize, ops: &mut [u32], o: usize, names: 
     requires { Exists (λ u. Pass q u o names.old 1 absent absent recs.old ops.old) }
     ensures { Owned q o names.old names.new recs.old recs.new ops.old ops.new result }
 {
-    let does = t.used(kind(recs, q), form(recs, q));
+    let rec = Record { recs, p: q };
+    let does = t.used(rec.kind(), rec.form());
     let anew = Anew { names, new: ABSENT };
     let r = remake(recs, q, does, ops, o, anew);
     let slots = Slots { recs, p: q, does };

@@ -9,10 +9,10 @@ pub returns-then-e-s : goal.returns-then-e-s
 returns-then-e-s c = empty_end c.args.bounds.now c.args.recs.now c.args.b.0 (omega (arith, c.start-s.ensures, c.past-e.ensures, c.if-e-s.true))
 
 pub returns-then-k-eq-BR : goal.returns-then-k-eq-BR
-returns-then-k-eq-BR c = goes_end c.args.bounds.now c.args.recs.now c.args.b.0 _ _ (omega (arith, c.start-s.ensures, c.past-e.ensures, c.if-e-s.false)) (ap (λ (n : ℕ). n - 1) c.past-e.ensures) c.kind-k.ensures c.if-k-eq-BR.true c.word.ensures
+returns-then-k-eq-BR c = goes_end c.args.bounds.now c.args.recs.now c.args.b.0 _ _ (omega (arith, c.start-s.ensures, c.past-e.ensures, c.if-e-s.false)) (ap (λ (n : ℕ). n - 1) c.past-e.ensures) c.kind-k.ensures c.if-k-eq-BR.true c.payload.ensures
 
 pub returns-then-k-eq-COND_BR : goal.returns-then-k-eq-COND_BR
-returns-then-k-eq-COND_BR c = parts_end c.args.bounds.now c.args.recs.now c.args.b.0 _ _ (omega (arith, c.start-s.ensures, c.past-e.ensures, c.if-e-s.false)) (ap (λ (n : ℕ). n - 1) c.past-e.ensures) c.kind-k.ensures c.if-k-eq-BR.false c.if-k-eq-COND_BR.true c.word-then-k-eq-COND_BR.ensures c.word-then-k-eq-COND_BR-2.ensures
+returns-then-k-eq-COND_BR c = parts_end c.args.bounds.now c.args.recs.now c.args.b.0 _ _ (omega (arith, c.start-s.ensures, c.past-e.ensures, c.if-e-s.false)) (ap (λ (n : ℕ). n - 1) c.past-e.ensures) c.kind-k.ensures c.if-k-eq-BR.false c.if-k-eq-COND_BR.true c.payload-then-k-eq-COND_BR.ensures c.payload-then-k-eq-COND_BR-2.ensures
 
 pub returns : goal.returns
 returns c = other_end c.args.bounds.now c.args.recs.now c.args.b.0 _ _ (omega (arith, c.start-s.ensures, c.past-e.ensures, c.if-e-s.false)) (ap (λ (n : ℕ). n - 1) c.past-e.ensures) c.kind-k.ensures c.if-k-eq-BR.false c.if-k-eq-COND_BR.false

@@ -13,19 +13,20 @@ use borrow.Author.Rules.{rules}
 use Rattle.inst.proofs.constant.decode.Goals as goal
 
 pub returns-then-k-eq-CONST : goal.returns-then-k-eq-CONST
+unfolding signed
 returns-then-k-eq-CONST c = let a = c.args in
-    let i = inst a.recs.now a.p in
-    ap (λ z. Some (Whole z)) (search rules ∙ c.signed.ensures ∙ ap signed c.bits-n.ensures ∙ whole_is i)
+    let i = inst a.rec.recs.now a.rec.p in
+    ap (λ z. Some (Whole z)) (search rules ∙ ap signed c.bits-n.ensures ∙ whole_is i)
     ∙ sym (whole_constant i (eq-eqb _ _ (sym c.kind-k.ensures ∙ c.if-k-eq-CONST.true)))
 
 pub returns-then-k-ne-CONST_F : goal.returns-then-k-ne-CONST_F
 returns-then-k-ne-CONST_F c = let a = c.args in
-    let i = inst a.recs.now a.p in
+    let i = inst a.rec.recs.now a.rec.p in
     sym (constant_by i false false _ (ne_eqb _ _ (λ e. c.if-k-eq-CONST.false (c.kind-k.ensures ∙ e))) (ne_eqb _ _ (λ e. c.if-k-ne-CONST_F.true (c.kind-k.ensures ∙ e))) refl)
 
 pub returns-then-is_nan : goal.returns-then-is_nan
 returns-then-is_nan c = let a = c.args in
-    let i = inst a.recs.now a.p in
+    let i = inst a.rec.recs.now a.rec.p in
     ap (λ (n : ℕ). Some (Nan n)) c.bits-n.ensures
     ∙ sym (constant_by i false true true (ne_eqb _ _ (λ e. c.if-k-eq-CONST.false (c.kind-k.ensures ∙ e))) (eq-eqb _ _ (sym c.kind-k.ensures ∙ c.if-k-ne-CONST_F.false)) (ap (nan_bits binary64) (sym c.bits-n.ensures) ∙ sym c.is_nan.ensures ∙ c.if-is_nan.true))
 
@@ -34,6 +35,6 @@ float_from_bits-result c = rw (← c.is_nan.ensures, c.if-is_nan.false) tt
 
 pub returns : goal.returns
 returns c = let a = c.args in
-    let i = inst a.recs.now a.p in
+    let i = inst a.rec.recs.now a.rec.p in
     ap (λ (n : ℕ). Some (Float (of_bits binary64 n))) c.bits-n.ensures
     ∙ sym (constant_by i false true false (ne_eqb _ _ (λ e. c.if-k-eq-CONST.false (c.kind-k.ensures ∙ e))) (eq-eqb _ _ (sym c.kind-k.ensures ∙ c.if-k-ne-CONST_F.false)) (ap (nan_bits binary64) (sym c.bits-n.ensures) ∙ sym c.is_nan.ensures ∙ c.if-is_nan.false))

@@ -3,7 +3,7 @@ use Rattle.inst.proofs.Slots.{read_yes, read_no}
 use Rattle.inst.proofs.code.Slots.read_word.Goals as goal
 
 pub returns-then-two_bits-eq1 : goal.returns-then-two_bits-eq1
-returns-then-two_bits-eq1 c = read_yes _ _ _ _ c.args.self.now.used c.requires _ c.two_bits.ensures c.if-two_bits-eq1.true c.slot.ensures
+returns-then-two_bits-eq1 c = read_yes _ _ _ _ c.args.self.now.used c.requires _ c.two_bits.ensures c.if-two_bits-eq1.true c.word.ensures
 
 pub returns : goal.returns
 returns c = read_no _ _ _ _ c.args.self.now.used c.requires _ c.two_bits.ensures c.if-two_bits-eq1.false

@@ -18,4 +18,4 @@ pub pieces_ok-requires : goal.pieces_ok-requires
 pieces_ok-requires c = (list_low c.requires.0 c.list.ensures, c.requires.1)
 
 pub returns : goal.returns
-returns c = from_cat _ _ _ _ _ _ _ _ c.if-x.false c.list.ensures c.word.ensures c.pieces_ok.ensures
+returns c = from_cat _ _ _ _ _ _ _ _ c.if-x.false c.list.ensures c.payload.ensures c.pieces_ok.ensures

@@ -1,6 +1,6 @@
--- `inst::table::spread` meets its contract. Assumes nothing.
+-- `inst::table::Row::spread` meets its contract. Assumes nothing.
 use Rattle.inst.specs.Table.{spread}
-use Rattle.inst.proofs.table.spread.Goals as goal
+use Rattle.inst.proofs.table.Row.spread.Goals as goal
 
 pub returns : goal.returns
 unfolding spread
