@@ -2,6 +2,8 @@
 ghost use Rattle.std.specs.Prelude.{◌≡◌};
 ghost use Rattle.model.specs.Move.{minimum};
 
+use model::RECORDS;
+
 // The pass (01: "The thresholds 8, 3, 800 and 8 rounds belong to the pass itself").
 #[derive(Clone, Copy)]
 pub struct Sink;
@@ -11,7 +13,7 @@ impl Sink {
 
     pub const MIN_REPLAY: u32 = 3;
 
-    pub const MAX_SEQ: u32 = 800;
+    pub const MAX_SEQ: u32 = RECORDS as u32;
 
     pub const ROUNDS: u32 = 8;
 

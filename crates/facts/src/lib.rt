@@ -7,7 +7,7 @@
 // it a layout; whether it creates, is a barrier, may suspend; and whether it is in the set. Laid out as C does, 40 bytes, so that a
 // caller that is not Rattle can lend the list too.
 #[repr(C)]
-#[derive(Clone, Copy)]
+#[derive(Clone, Copy, Default)]
 pub struct Fact {
     pub rec: u32,
     pub class: u32,

@@ -11,15 +11,15 @@ use layout::{
     BLOCKS, BOUNDS, INSTS, OPERANDS, PAIRS, PICTURE_BYTES, Part, RECS, REGISTERS, REPLAY, Slices,
     TARGETS, VIAS,
 };
-use model::{Answer, CHAIN_WORDS};
+use model::Answer;
 use rounds::state::Ran;
 use sink::here::sink_here;
-use sizes::InUse;
+use sizes::{InUse, work32, work64};
 
 // The program's work slices: 64-bit words, eight a row of registers, and 32-bit words.
-const WORK64: usize = 4 * BLOCKS * 8 + 2 * REGISTERS;
+const WORK64: usize = work64(BLOCKS, REGISTERS);
 
-const WORK32: usize = 8 * REGISTERS + 16 * BLOCKS + CHAIN_WORDS;
+const WORK32: usize = work32(BLOCKS, REGISTERS);
 
 // Done and Short: the picture at the head of `res`.
 fn put_left(res: &mut [u8], answer: Answer, slices: Slices)

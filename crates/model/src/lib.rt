@@ -1,5 +1,5 @@
-// The plain types that contracts name, and the paper's numbers that several crates use. What the pass is to do is defined in specs/, one file for each section of
-// document 01, and proofs/ holds what is proved of those definitions.
+// The plain types that contracts name, and the paper's numbers that several crates use. What the pass is to do is defined in specs/, one
+// file for each section of document 01, and proofs/ holds what is proved of those definitions.
 #![tactic(auto)]
 
 ghost use Rattle.std.specs.Prelude.{◌≡◌, ◌≤◌};
@@ -14,7 +14,7 @@ pub const ABSENT: u32 = 4294967295;
 pub const RECORDS: usize = 800;
 
 // The words of the 32-bit slice that belong to a chain, ten a position (document 01, "Port order and sizes").
-pub const CHAIN_WORDS: usize = 8000;
+pub const CHAIN_WORDS: usize = 10 * RECORDS;
 
 // What was done, and what is in use then: rounds, registers, operands.
 #[derive(Clone, Copy, PartialEq, Eq, Debug)]

@@ -46,24 +46,7 @@ pub fn sink_here(
         × Work cause work64.old work32.old work64.new work32.new
         × (cause ≡ 0 → Kept P Q (rounds result.answer)) }
 {
-    let none = Fact {
-        rec: 0,
-        class: 0,
-        org: 0,
-        wrote: 0,
-        from: 0,
-        def: 0,
-        use0: 0,
-        use1: 0,
-        more: false,
-        len: false,
-        layout: false,
-        creates: false,
-        barrier: false,
-        suspends: false,
-        member: false,
-    };
-    let mut facts = [none; RECORDS];
+    let mut facts = [Fact::default(); RECORDS];
     sink_all(
         bounds, recs, locs, vias, types, regs, ops, opers, pairs, targets, replay, work64, work32,
         &mut facts,
