@@ -14,11 +14,11 @@ ghost use Rattle.analyse.specs.State.{Marked, Ranged, Below, Asked, fill_in, Low
 
 use crate::look::{is_divisor, value_of};
 use effects::arms::{Arm, Effect, Input};
-use inst::scanned::Firsts;
 use inst::constant::decode;
 use inst::index::Reg;
 use inst::kinds::CALL_NATIVE;
 use inst::record::Record;
+use inst::scanned::Firsts;
 use inst::table::Row;
 use regfacts::flags::is_length;
 
