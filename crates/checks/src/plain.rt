@@ -31,7 +31,7 @@ fn odd_slot(rec: Record, regs: u32, uses: u32, s: usize) -> bool
     let none = two_bits(uses, s) == 0;
     let r = rec.slot(s);
     let gone = r == ABSENT;
-    gone & !none | !gone & none | !gone & (regs <= r)
+    (gone != none) | (!gone & (regs <= r))
 }
 
 // None of the first four slots is so, and nothing is done with the last, which is absent. (Four tests with no branch between them: by

@@ -150,7 +150,10 @@ impl Kept<'_> {
             return self.org_ok(p, x - 1);
         }
         let g = f.rec as usize;
-        let rec = Record { recs: code.recs, p: g };
+        let rec = Record {
+            recs: code.recs,
+            p: g,
+        };
         self.pieces_ok(code.list(g), p, rec.payload(0))
     }
 

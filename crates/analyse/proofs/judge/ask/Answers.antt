@@ -50,7 +50,7 @@ returns c =
           let r2 = m2.1 ∙ h.r2 in
           record {
             form = sym c.form.ensures;
-            list = sym c.list_len.ensures;
+            list = sym c.list_len.ensures.0;
             small = sym (c.is_length.ensures ∙ ap is_length c.decode.ensures);
             p = sym e;
             o0 = rw r0 at k0.org;
