@@ -7,7 +7,6 @@ ghost use Rattle.plan.specs.Sweep.{part, place, counts, Visitable, Visit, Sweepa
 use facts::Fact;
 use legality::backward::back;
 use legality::forward::{Given, forth};
-use legality::kept::Fences;
 use legality::rules::Elsewhere;
 use legality::start::begins_in;
 use summary::notes::Lasts;
@@ -31,13 +30,12 @@ pub struct Span {
     pub n: usize,
 }
 
-// Which sweep it is, and over what; `k` turns; the last kept suspension and barrier.
+// Which sweep it is, and over what; `k` turns.
 #[derive(Clone, Copy, Debug, PartialEq, Eq)]
 pub struct Sweep {
     pub phase: Phase,
     pub span: Span,
     pub k: usize,
-    pub fences: Fences,
 }
 
 // Turn i's position.
@@ -90,11 +88,11 @@ fn forth_in(
     p: usize,
 ) -> bool
     requires { Written given.now.code.recs.now (length given.now.regs.now) f.rec f.def f.more × Readable given.now.code.recs.now given.now.code.ops.now (length given.now.regs.now) f × Small f × Near (part g.span.s (length given.now.regs.now) work.old) × (p < 800) × (g.span.s + length given.now.regs.now ≤ length work.old) }
-    ensures { Forwarded given.now.code.recs.now given.now.code.ops.now given.now.regs.now f g.fences.sus g.fences.bar p (part g.span.s (length given.now.regs.now) work.old) lasts.old (part g.span.s (length given.now.regs.now) work.new) lasts.new result × Around g.span.s (length given.now.regs.now) work.old work.new }
+    ensures { Forwarded given.now.code.recs.now given.now.code.ops.now given.now.regs.now f p (part g.span.s (length given.now.regs.now) work.old) lasts.old (part g.span.s (length given.now.regs.now) work.new) lasts.new result × Around g.span.s (length given.now.regs.now) work.old work.new }
 {
     let s = g.span.s;
     let e = s + given.regs.len();
-    forth(given, f, &mut work[s..e], lasts, g.fences, p)
+    forth(given, f, &mut work[s..e], lasts, p)
 }
 
 // Position p, of fact f, is visited. Says whether it is in the set.

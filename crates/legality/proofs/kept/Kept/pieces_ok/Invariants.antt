@@ -11,7 +11,7 @@ abbrev pub invariant-loop-rest : goal.invariant-loop-rest
 invariant-loop-rest l =
     record {
       low : (k : ℕ) → k < length l.rest → get_or l.rest k 0 < length l.self.st.now;
-      same : all (piece_test l.self.regs.now l.self.st.now l.self.lasts.now.writes l.self.fences.bar l.p) (picked l.sc l.rest) ≡ all (piece_test l.self.regs.now l.self.st.now l.self.lasts.now.writes l.self.fences.bar l.p) (picked l.scalars l.xs);
+      same : all (piece_test l.self.regs.now l.self.st.now l.self.lasts.now.writes l.self.lasts.now.barrier l.p) (picked l.sc l.rest) ≡ all (piece_test l.self.regs.now l.self.st.now l.self.lasts.now.writes l.self.lasts.now.barrier l.p) (picked l.scalars l.xs);
     }
 
 abbrev pub decreases-loop-rest : goal.decreases-loop-rest
