@@ -40,13 +40,7 @@ fn stamp_of(f: Fact, member: bool) -> u64
 }
 
 // Position p, of fact f: dropped if it is a member that breaks one of rules 3 to 6. Its writes are noted. Says whether it is in the set.
-pub fn forth(
-    given: &Given<'_>,
-    f: Fact,
-    st: &mut [u64],
-    lasts: &mut Lasts,
-    p: usize,
-) -> bool
+pub fn forth(given: &Given<'_>, f: Fact, st: &mut [u64], lasts: &mut Lasts, p: usize) -> bool
     requires { Written given.now.code.recs.now (length st.old) f.rec f.def f.more × Readable given.now.code.recs.now given.now.code.ops.now (length st.old) f × Small f × Near st.old × (length given.now.regs.now ≡ length st.old) × (p < 800) }
     ensures { Forwarded given.now.code.recs.now given.now.code.ops.now given.now.regs.now f p st.old lasts.old st.new lasts.new result }
 {

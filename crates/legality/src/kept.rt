@@ -113,16 +113,14 @@ impl Kept<'_> {
         requires { ((k : ℕ) → k < length xs.now → get_or xs.now k 0 < length self.now.st.now) × (p < 800) }
         ensures { result ≡ all (piece_test self.now.regs.now self.now.st.now self.now.lasts.now.writes self.now.lasts.now.barrier p) (picked scalars xs.now) }
     {
-        let mut rest = xs;
         let mut sc = scalars;
-        while let [x, _, after @ ..] = rest {
-            let Some(r) = Reg::new(*x, self.st.len()) else {
+        for pair in xs.chunks_exact(2) {
+            let Some(r) = Reg::new(pair[0], self.st.len()) else {
                 return false;
             };
             if !self.piece_ok(p, sc, r) {
                 return false;
             }
-            rest = after;
             sc /= 2;
         }
         true

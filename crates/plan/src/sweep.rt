@@ -83,14 +83,13 @@ fn forth_in(
     given: &Given<'_>,
     f: Fact,
     work: &mut [u64],
-    g: Sweep,
+    s: usize,
     lasts: &mut Lasts,
     p: usize,
 ) -> bool
-    requires { Written given.now.code.recs.now (length given.now.regs.now) f.rec f.def f.more × Readable given.now.code.recs.now given.now.code.ops.now (length given.now.regs.now) f × Small f × Near (part g.span.s (length given.now.regs.now) work.old) × (p < 800) × (g.span.s + length given.now.regs.now ≤ length work.old) }
-    ensures { Forwarded given.now.code.recs.now given.now.code.ops.now given.now.regs.now f p (part g.span.s (length given.now.regs.now) work.old) lasts.old (part g.span.s (length given.now.regs.now) work.new) lasts.new result × Around g.span.s (length given.now.regs.now) work.old work.new }
+    requires { Written given.now.code.recs.now (length given.now.regs.now) f.rec f.def f.more × Readable given.now.code.recs.now given.now.code.ops.now (length given.now.regs.now) f × Small f × Near (part s (length given.now.regs.now) work.old) × (p < 800) × (s + length given.now.regs.now ≤ length work.old) }
+    ensures { Forwarded given.now.code.recs.now given.now.code.ops.now given.now.regs.now f p (part s (length given.now.regs.now) work.old) lasts.old (part s (length given.now.regs.now) work.new) lasts.new result × Around s (length given.now.regs.now) work.old work.new }
 {
-    let s = g.span.s;
     let e = s + given.regs.len();
     forth(given, f, &mut work[s..e], lasts, p)
 }
@@ -110,7 +109,7 @@ fn visit(
     match g.phase {
         Phase::Start => starts(given, f, work, g.span, p),
         Phase::Back => back_in(given, f, work, g.span.s, lasts, p),
-        Phase::Forth => forth_in(given, f, work, g, lasts, p),
+        Phase::Forth => forth_in(given, f, work, g.span.s, lasts, p),
     }
 }
 
