@@ -32,10 +32,10 @@ pub struct Span {
 
 // Which sweep it is, and over what; `k` turns.
 #[derive(Clone, Copy, Debug, PartialEq, Eq)]
-pub struct Sweep {
-    pub phase: Phase,
-    pub span: Span,
-    pub k: usize,
+pub(crate) struct Sweep {
+    pub(crate) phase: Phase,
+    pub(crate) span: Span,
+    pub(crate) k: usize,
 }
 
 // Turn i's position.
