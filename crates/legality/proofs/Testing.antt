@@ -2,13 +2,12 @@
 use mathlib.Core.Path.{◌≡◌, refl, sym, ap, ap₂, ◌∙◌, subst}
 use mathlib.Core.Logic.{◌⊎◌, inl, inr}
 use mathlib.Core.Bool.{Bool, true, false, not, ◌&&◌, ◌||◌, cond, and-true}
-use mathlib.Core.List.{List, [], ◌∷◌, map}
+use mathlib.Core.List.{List, [], ◌∷◌, map, ◌++◌}
 use Prim.Native.Nat.{ℕ, zero, suc, ◌+◌, ◌-◌, ◌/◌, ◌%◌, ◌≤◌, ◌<◌}
 use native.Mathlib.Omega.{arith}
 use borrow.Author.Tests.{eq-eqb, ne_eqb, le-leb, lt-leb, not-true, not-false}
 use lib.Dec.{eqb, leb}
-use lib.ListN.{get_or, length, take, drop}
-use Rattle.std.proofs.lemmas.List.{take_all, length-drop, get_or-drop}
+use lib.ListN.{get_or, length}
 use Rattle.words.specs.Lists.{all, conj}
 use Rattle.words.proofs.Alls.{and_yes, and_nay}
 use Rattle.words.proofs.Lists.{get_d_any}
@@ -84,51 +83,50 @@ module _ (regs st lasts : List ℕ) (bar p : ℕ) where
   unfolding piece_test
   piece_even sc r {o} e f g = g ∙ ap (org_test lasts bar p) f ∙ sym (ap (λ (b : Bool). not b || org_test lasts bar p (word_org regs r (get_or st r 0))) (eq-eqb (sc % 2) 0 e))
 
--- a Cat's list xs, of which at is the first and tail what comes after the first two
-module _ (xs : List ℕ) where
-  abbrev tail : List ℕ
-  tail = take (length xs - 2) (drop 2 xs)
-
-  tail_is : tail ≡ drop 2 xs
-  tail_is = take_all (length xs - 2) (drop 2 xs) (let e = length-drop 2 xs in omega (arith, e))
-
-  pub tail_low : {n : ℕ} → 2 ≤ length xs → ((k : ℕ) → k < length xs → get_or xs k 0 < n) → (k : ℕ) → k < length tail → get_or tail k 0 < n
-  tail_low {n} l h k m =
-      let e : get_or tail k 0 ≡ get_or xs (2 + k) 0 = ap (λ (ys : List ℕ). get_or ys k 0) tail_is ∙ get_or-drop 2 xs k 0 in
-      let j : get_or xs (2 + k) 0 < n = h (2 + k) (omega (arith, m, ap length tail_is, length-drop 2 xs)) in
-      subst (λ (x : ℕ). x < n) (sym e) j
-
-two : (xs : List ℕ) (sc : ℕ) → 2 ≤ length xs → picked sc xs ≡ cond (eqb (sc % 2) 0) (get_or xs 0 0 ∷ picked (sc / 2) (drop 2 xs)) (picked (sc / 2) (drop 2 xs))
-unfolding picked
-two [] sc h = absurd (omega (arith, h))
-two (a ∷ []) sc h = absurd (omega (arith, h))
-two (a ∷ n ∷ rs) sc h = refl
-
-module _ (f : ℕ → Bool) (xs : List ℕ) (sc : ℕ) where
-  both : {b : Bool} {r : ℕ} → 2 ≤ length xs → get_or xs 0 0 ≡ r → b ≡ (not (eqb (sc % 2) 0) || f r) → all f (picked sc xs) ≡ (b && all f (picked (sc / 2) (tail xs)))
-  both {b} {r} h q e =
-      ap (all f) (two xs sc h) ∙ go (eqb (sc % 2) 0)
-      ∙ ap₂ (λ (x : Bool) (ys : List ℕ). x && all f (picked (sc / 2) ys)) (ap (λ (x : ℕ). not (eqb (sc % 2) 0) || f x) q ∙ sym e) (sym (tail_is xs))
+-- a Cat's list xs, of which a pair is the first two and next what comes after
+module _ {xs : List ℕ} (pair next : List ℕ) (e : xs ≡ pair ++ next) (l : length pair ≡ 2) where
+  pub next_low : {n : ℕ} → ((k : ℕ) → k < length xs → get_or xs k 0 < n) → (k : ℕ) → k < length next → get_or next k 0 < n
+  next_low {n} h = go pair l (subst (λ (ys : List ℕ). (k : ℕ) → k < length ys → get_or ys k 0 < n) e h)
     where
-      go : (c : Bool) → all f (cond c (get_or xs 0 0 ∷ picked (sc / 2) (drop 2 xs)) (picked (sc / 2) (drop 2 xs))) ≡ ((not c || f (get_or xs 0 0)) && all f (picked (sc / 2) (drop 2 xs)))
-      go true = refl
-      go false = refl
+      go : (ys : List ℕ) → length ys ≡ 2 → ((k : ℕ) → k < length (ys ++ next) → get_or (ys ++ next) k 0 < n) → (k : ℕ) → k < length next → get_or next k 0 < n
+      go [] z h = absurd (omega arith)
+      go (a ∷ []) z h = absurd (omega arith)
+      go (a ∷ b ∷ []) z h = λ k m. h (suc (suc k)) (omega arith)
+      go (a ∷ b ∷ c ∷ ys) z h = absurd (omega arith)
 
-  module _ {n : Bool} (i : all f (picked sc xs) ≡ n) where
-    pub pick_no : {b : Bool} {r : ℕ} → 2 ≤ length xs → get_or xs 0 0 ≡ r → b ≡ (not (eqb (sc % 2) 0) || f r) → b ≡ false → false ≡ n
-    pick_no h q e t = ap (λ (x : Bool). x && all f (picked (sc / 2) (tail xs))) (sym t) ∙ sym (both h q e) ∙ i
+  pub first_low : {n : ℕ} → ((k : ℕ) → k < length xs → get_or xs k 0 < n) → get_or pair 0 0 < n
+  first_low {n} h = go pair l (subst (λ (ys : List ℕ). (k : ℕ) → k < length ys → get_or ys k 0 < n) e h)
+    where
+      go : (ys : List ℕ) → length ys ≡ 2 → ((k : ℕ) → k < length (ys ++ next) → get_or (ys ++ next) k 0 < n) → get_or ys 0 0 < n
+      go [] z h = absurd (omega arith)
+      go (a ∷ ys) z h = h 0 (omega arith)
 
-    pub pick_on : {b : Bool} {r : ℕ} → 2 ≤ length xs → get_or xs 0 0 ≡ r → b ≡ (not (eqb (sc % 2) 0) || f r) → b ≡ true → all f (picked (sc / 2) (tail xs)) ≡ n
-    pick_on h q e t = ap (λ (x : Bool). x && all f (picked (sc / 2) (tail xs))) (sym t) ∙ sym (both h q e) ∙ i
-
-    pub pick_end : length xs < 2 → true ≡ n
+  module _ (f : ℕ → Bool) (sc : ℕ) {b n : Bool} {r : ℕ} (i : all f (picked sc xs) ≡ n) (q : get_or pair 0 0 ≡ r) (d : b ≡ (not (eqb (sc % 2) 0) || f r)) where
+    both : (b && all f (picked (sc / 2) next)) ≡ n
     unfolding picked
-    pick_end h = go xs h ∙ i
+    both = ap (λ (y : Bool). y && all f (picked (sc / 2) next)) (d ∙ ap (λ (x : ℕ). not (eqb (sc % 2) 0) || f x) (sym q)) ∙ sym (go pair l (eqb (sc % 2) 0) refl) ∙ ap (λ (ys : List ℕ). all f (picked sc ys)) (sym e) ∙ i
       where
-        go : (ys : List ℕ) → length ys < 2 → true ≡ all f (picked sc ys)
-        go [] l = refl
-        go (a ∷ []) l = refl
-        go (a ∷ b ∷ ys) l = absurd (omega (arith, l))
+        go : (ys : List ℕ) → length ys ≡ 2 → (c : Bool) → eqb (sc % 2) 0 ≡ c → all f (picked sc (ys ++ next)) ≡ ((not c || f (get_or ys 0 0)) && all f (picked (sc / 2) next))
+        go [] z c t = absurd (omega arith)
+        go (a ∷ []) z c t = absurd (omega arith)
+        go (a ∷ b ∷ []) z true t = ap (λ (x : Bool). all f (cond x (a ∷ picked (sc / 2) next) (picked (sc / 2) next))) t
+        go (a ∷ b ∷ []) z false t = ap (λ (x : Bool). all f (cond x (a ∷ picked (sc / 2) next) (picked (sc / 2) next))) t
+        go (a ∷ b ∷ c ∷ ys) z x t = absurd (omega arith)
+
+    pub pick_no : b ≡ false → false ≡ n
+    pick_no t = ap (λ (x : Bool). x && all f (picked (sc / 2) next)) (sym t) ∙ both
+
+    pub pick_on : b ≡ true → all f (picked (sc / 2) next) ≡ n
+    pick_on t = ap (λ (x : Bool). x && all f (picked (sc / 2) next)) (sym t) ∙ both
+
+pub pick_end : (f : ℕ → Bool) (xs : List ℕ) (sc : ℕ) {n : Bool} → all f (picked sc xs) ≡ n → length xs < 2 → true ≡ n
+unfolding picked
+pick_end f xs sc i h = go xs h ∙ i
+  where
+    go : (ys : List ℕ) → length ys < 2 → true ≡ all f (picked sc ys)
+    go [] l = refl
+    go (a ∷ []) l = refl
+    go (a ∷ b ∷ ys) l = absurd (omega (arith, l))
 
 all_map : {A B : Type 0} (f : B → Bool) (g : A → B) (xs : List A) → all f (map g xs) ≡ all (λ x. f (g x)) xs
 all_map f g [] = refl

@@ -2,7 +2,7 @@
 ghost use Rattle.std.specs.Prelude.{◌≡◌, not, ◌&&◌, ◌*◌, ◌<◌, length};
 ghost use Rattle.summary.specs.Passes.{fact_word, stay_test, Near, Forwarded, Written, Readable, Small};
 
-use crate::kept::{Fences, Kept};
+use crate::kept::Kept;
 use facts::Fact;
 use inst::code::Code;
 use summary::notes::Lasts;
@@ -22,7 +22,7 @@ const IN_SET: u64 = WRITER + MEMBER_AT;
 // A member that keeps rules 3 to 6, the cheap ones first.
 fn may_stay(code: &Code, f: Fact, kept: &Kept, p: usize) -> bool
     requires { Readable code.now.recs.now code.now.ops.now (length kept.now.st.now) f × Small f × (p < 800) }
-    ensures { result ≡ (f.member && stay_test code.now.recs.now code.now.ops.now kept.now.regs.now kept.now.st.now kept.now.lasts.now.writes f kept.now.fences.sus kept.now.fences.bar p) }
+    ensures { result ≡ (f.member && stay_test code.now.recs.now code.now.ops.now kept.now.regs.now kept.now.st.now kept.now.lasts.now.writes f kept.now.lasts.now.suspension kept.now.lasts.now.barrier p) }
 {
     f.member && kept.rule4(p) && kept.rule6(f) && kept.rule5(code, f, p) && kept.rule3(code, f, p)
 }
@@ -40,22 +40,14 @@ fn stamp_of(f: Fact, member: bool) -> u64
 }
 
 // Position p, of fact f: dropped if it is a member that breaks one of rules 3 to 6. Its writes are noted. Says whether it is in the set.
-pub fn forth(
-    given: &Given<'_>,
-    f: Fact,
-    st: &mut [u64],
-    lasts: &mut Lasts,
-    fences: Fences,
-    p: usize,
-) -> bool
+pub fn forth(given: &Given<'_>, f: Fact, st: &mut [u64], lasts: &mut Lasts, p: usize) -> bool
     requires { Written given.now.code.recs.now (length st.old) f.rec f.def f.more × Readable given.now.code.recs.now given.now.code.ops.now (length st.old) f × Small f × Near st.old × (length given.now.regs.now ≡ length st.old) × (p < 800) }
-    ensures { Forwarded given.now.code.recs.now given.now.code.ops.now given.now.regs.now f fences.sus fences.bar p st.old lasts.old st.new lasts.new result }
+    ensures { Forwarded given.now.code.recs.now given.now.code.ops.now given.now.regs.now f p st.old lasts.old st.new lasts.new result }
 {
     let kept = Kept {
         regs: given.regs,
         st,
         lasts,
-        fences,
     };
     let stays = may_stay(&given.code, f, &kept, p);
     if f.member & !stays {

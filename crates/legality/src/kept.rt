@@ -21,21 +21,13 @@ use summary::stamps::{AWAITED, MEMBER_AT, ORIGIN, WRITER};
 // Memory of an origin that is not known, which may be any.
 const ANY: usize = UNKNOWN as usize + 1;
 
-// The last kept suspension and the last kept barrier, each and 1.
-#[derive(Clone, Copy, Debug, PartialEq, Eq)]
-pub struct Fences {
-    pub sus: u32,
-    pub bar: u32,
-}
-
 // What rules 3 to 6 ask: of each register in use what was known of it before round 1, and what is stamped of it; what the kept
-// positions do, and of that the fences.
+// positions do.
 #[derive(Clone, Copy)]
 pub(crate) struct Kept<'a> {
     pub(crate) regs: &'a [u32],
     pub(crate) st: &'a [u64],
     pub(crate) lasts: &'a Lasts,
-    pub(crate) fences: Fences,
     ghost near: { Near st.now },
     ghost alike: { length regs.now ≡ length st.now },
 }
@@ -69,20 +61,20 @@ impl Kept<'_> {
     // Rule 4: no kept position after p may suspend.
     pub(crate) fn rule4(&self, p: usize) -> bool
         requires { p < 800 }
-        ensures { result ≡ leb self.now.fences.sus (p + 1) }
+        ensures { result ≡ leb self.now.lasts.now.suspension (p + 1) }
     {
-        self.fences.sus <= p as u32 + 1
+        self.lasts.suspension <= p as u32 + 1
     }
 
     // Rule 5 for the origin of number o. It asks of writes only from Frame on.
     fn org_ok(&self, p: usize, o: u32) -> bool
         requires { (o < 2005) × (p < 800) }
-        ensures { result ≡ org_test self.now.lasts.now.writes self.now.fences.bar p o }
+        ensures { result ≡ org_test self.now.lasts.now.writes self.now.lasts.now.barrier p o }
     {
         let e = p as u32 + 1;
         let k = o as usize + 1;
         ((o == RO) | (FRAME <= o))
-            & ((self.fences.bar <= e) | (o == RO))
+            & ((self.lasts.barrier <= e) | (o == RO))
             & (self.lasts.last_write(ANY) <= e)
             & ((o <= 2) | (self.lasts.last_write(k) <= e))
     }
@@ -109,7 +101,7 @@ impl Kept<'_> {
     // Rule 5 for a Cat's piece, if its bit says that it is an address.
     fn piece_ok(&self, p: usize, sc: u32, r: Reg) -> bool
         requires { (r.0 < length self.now.st.now) × (p < 800) }
-        ensures { result ≡ (not (eqb (sc % 2) 0) || piece_test self.now.regs.now self.now.st.now self.now.lasts.now.writes self.now.fences.bar p r.0) }
+        ensures { result ≡ (not (eqb (sc % 2) 0) || piece_test self.now.regs.now self.now.st.now self.now.lasts.now.writes self.now.lasts.now.barrier p r.0) }
     {
         if sc % 2 != 0 {
             return true;
@@ -120,18 +112,16 @@ impl Kept<'_> {
     // Rule 5 for all of a Cat's pieces, the registers xs.
     fn pieces_ok(&self, xs: &[u32], p: usize, scalars: u32) -> bool
         requires { ((k : ℕ) → k < length xs.now → get_or xs.now k 0 < length self.now.st.now) × (p < 800) }
-        ensures { result ≡ all (piece_test self.now.regs.now self.now.st.now self.now.lasts.now.writes self.now.fences.bar p) (picked scalars xs.now) }
+        ensures { result ≡ all (piece_test self.now.regs.now self.now.st.now self.now.lasts.now.writes self.now.lasts.now.barrier p) (picked scalars xs.now) }
     {
-        let mut rest = xs;
         let mut sc = scalars;
-        while let [x, _, after @ ..] = rest {
-            let Some(r) = Reg::new(*x, self.st.len()) else {
+        for pair in xs.chunks_exact(2) {
+            let Some(r) = Reg::new(pair[0], self.st.len()) else {
                 return false;
             };
             if !self.piece_ok(p, sc, r) {
                 return false;
             }
-            rest = after;
             sc /= 2;
         }
         true
@@ -140,7 +130,7 @@ impl Kept<'_> {
     // Rule 5 for all that position p reads.
     fn froms_ok(&self, code: &Code, f: Fact, p: usize) -> bool
         requires { Good code.now.recs.now code.now.ops.now (length self.now.st.now) f.rec × (p < 800) × ((f.from ≤ 2004) ⊎ (f.from ≡ 4294967295)) }
-        ensures { result ≡ from_test self.now.regs.now code.now.ops.now (inst code.now.recs.now f.rec) self.now.st.now self.now.lasts.now.writes self.now.fences.bar f.from p }
+        ensures { result ≡ from_test self.now.regs.now code.now.ops.now (inst code.now.recs.now f.rec) self.now.st.now self.now.lasts.now.writes self.now.lasts.now.barrier f.from p }
     {
         let x = f.from;
         if x == 0 {
@@ -160,16 +150,16 @@ impl Kept<'_> {
     // Rule 5 for what position p creates or writes.
     fn still(&self, f: Fact, p: usize) -> bool
         requires { p < 800 }
-        ensures { result ≡ still_fine p self.now.fences.bar f.creates f.wrote }
+        ensures { result ≡ still_fine p self.now.lasts.now.barrier f.creates f.wrote }
     {
-        (self.fences.bar <= p as u32 + 1) | (!f.creates & (f.wrote == 0))
+        (self.lasts.barrier <= p as u32 + 1) | (!f.creates & (f.wrote == 0))
     }
 
     // Rule 5: after p no kept barrier if p creates, writes memory, or reads other than Ro or Heap; no kept write that may alias what p
     // reads; and p's reads are Ro, Frame, Img or Temp.
     pub(crate) fn rule5(&self, code: &Code, f: Fact, p: usize) -> bool
         requires { Good code.now.recs.now code.now.ops.now (length self.now.st.now) f.rec × (p < 800) × ((f.from ≤ 2004) ⊎ (f.from ≡ 4294967295)) }
-        ensures { result ≡ memory_test code.now.recs.now code.now.ops.now self.now.regs.now self.now.st.now self.now.lasts.now.writes f self.now.fences.bar p }
+        ensures { result ≡ memory_test code.now.recs.now code.now.ops.now self.now.regs.now self.now.st.now self.now.lasts.now.writes f self.now.lasts.now.barrier p }
     {
         if !self.still(f, p) {
             return false;

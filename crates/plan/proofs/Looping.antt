@@ -116,7 +116,7 @@ module _ {recs ops regs work₀ work : List ℕ} {ls : Lasts} {fs₀ fs : List F
   left_is Forth e t = t.settling.count
 
   module _ {work' : List ℕ} {ls' : Lasts} where
-    may : (p : Phase) → At p → Readied (length regs) c.span p work ls work' ls' → Sweepable recs ops regs work' fs (sweep_of c.span p ls)
+    may : (p : Phase) → At p → Readied (length regs) c.span p work ls work' ls' → Sweepable recs ops regs work' fs (sweep_of c.span p)
     may p t r =
         let x = r.around.size in
         let y = i.around.size in
@@ -139,7 +139,7 @@ module _ {recs ops regs work₀ work : List ℕ} {ls : Lasts} {fs₀ fs : List F
 
     module _ {work'' : List ℕ} {ls'' : Lasts} {fs'' : List Fact} {k : ℕ} where
       -- what was dropped
-      passed : (p : Phase) → is_start p ≡ false → At p → Readied (length regs) c.span p work ls work' ls' → Swept recs ops regs (sweep_of c.span p ls) work' ls' fs (sweep_of c.span p ls).k work'' ls'' fs'' k
+      passed : (p : Phase) → is_start p ≡ false → At p → Readied (length regs) c.span p work ls work' ls' → Swept recs ops regs (sweep_of c.span p) work' ls' fs (sweep_of c.span p).k work'' ls'' fs'' k
           → Passed (pass_ok (view recs ops (bare fs₀) regs) c.span.n (is_forth p)) 0 c.span.m (marks c.span.n fs) (marks c.span.n fs'') k
           × (is_forth p ≡ false → Summed recs (bare fs₀) c.span.n 0 (part c.span.s (length regs) work'') ls'' (marks c.span.n fs''))
       passed Start e t r s = clash refl e
@@ -149,11 +149,11 @@ module _ {recs ops regs work₀ work : List ℕ} {ls : Lasts} {fs₀ fs : List F
             pass_forth (may Forth t r) i.bare_same in_x refl refl
                 (subst (λ (q : List ℕ). Summed recs (bare fs₀) c.span.n 0 (part c.span.s (length regs) q) ls' (marks c.span.n fs)) (sym y.0)
                 (subst (λ (q : Lasts). Summed recs (bare fs₀) c.span.n 0 (part c.span.s (length regs) work) q (marks c.span.n fs)) (sym y.1) (t.sum refl)))
-                (ap (λ (q : Lasts). q.suspension) (sym y.1)) (ap (λ (q : Lasts). q.barrier) (sym y.1)) refl s,
+                refl s,
             λ u. clash refl u,
           )
 
-      on : (p : Phase) → At p → Readied (length regs) c.span p work ls work' ls' → Swept recs ops regs (sweep_of c.span p ls) work' ls' fs (sweep_of c.span p ls).k work'' ls'' fs'' k
+      on : (p : Phase) → At p → Readied (length regs) c.span p work ls work' ls' → Swept recs ops regs (sweep_of c.span p) work' ls' fs (sweep_of c.span p).k work'' ls'' fs'' k
           → Standing recs ops regs (bare fs₀) work₀ (go_on c p k) work'' ls'' fs'' (go_on c p k).next
       on Start t r s =
           let d = subst (λ (w : List Fact). Ended recs w c.span.n regs) (sym i.bare_same) (subst (λ (s : Span). Ended recs (bare fs₀) s.n regs) (sym i.span) h.ended) in
@@ -163,7 +163,7 @@ module _ {recs ops regs work₀ work : List ℕ} {ls : Lasts} {fs₀ fs : List F
       on Back t r s = let d = passed Back refl t r s in choosing_more regs work₀ c safe in_x work'' ls'' fs'' Back Forth refl refl t d.0 d.1
       on Forth t r s = let d = passed Forth refl t r s in choosing_more regs work₀ c safe in_x work'' ls'' fs'' Forth Back refl refl t d.0 d.1
 
-      less : (p : Phase) → At p → Readied (length regs) c.span p work ls work' ls' → Swept recs ops regs (sweep_of c.span p ls) work' ls' fs (sweep_of c.span p ls).k work'' ls'' fs'' k
+      less : (p : Phase) → At p → Readied (length regs) c.span p work ls work' ls' → Swept recs ops regs (sweep_of c.span p) work' ls' fs (sweep_of c.span p).k work'' ls'' fs'' k
           → to_come (go_on c p k) fs'' < to_come_of c.span.n (marks c.span.n fs) c.quiet (Some p)
       less Start t r s =
           let e = marks_long c.span.n fs'' (let l = swept_long s in let m = long in omega arith) in
@@ -178,10 +178,10 @@ module _ {recs ops regs work₀ work : List ℕ} {ls : Lasts} {fs₀ fs : List F
 
     module _ {work' : List ℕ} {ls' : Lasts} (r : Readied (length regs) c.span p work ls work' ls') where
       -- the sweep may be made
-      pub sweep_may : Sweepable recs ops regs work' fs (sweep_of c.span p ls)
+      pub sweep_may : Sweepable recs ops regs work' fs (sweep_of c.span p)
       sweep_may = may p at r
 
-      module _ {work'' : List ℕ} {ls'' : Lasts} {fs'' : List Fact} {k : ℕ} (s : Swept recs ops regs (sweep_of c.span p ls) work' ls' fs (sweep_of c.span p ls).k work'' ls'' fs'' k) where
+      module _ {work'' : List ℕ} {ls'' : Lasts} {fs'' : List Fact} {k : ℕ} (s : Swept recs ops regs (sweep_of c.span p) work' ls' fs (sweep_of c.span p).k work'' ls'' fs'' k) where
         pub go_on_may : is_start p ≡ false → k ≤ c.left
         go_on_may u = let a = (passed p u at r s).0.count in let b = left_is p u at in omega arith
 

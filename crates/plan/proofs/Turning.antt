@@ -26,7 +26,7 @@ use Rattle.plan.specs.declared.sweep.Sweep.{Sweep}
 use Rattle.summary.specs.Passes.{blank, writer_word, begin_test, Summed, Ended, Shows, Near, Around}
 use Rattle.plan.specs.Sweep.{part, place, counts, Visit, Sweepable, Swept, none, more, marks_of, marks, is_start, is_forth}
 use Rattle.summary.proofs.Backing.{Backing, GoneBack, backing_none, backing_more, backing_end, gone_back}
-use Rattle.summary.proofs.Forwarding.{Going, GoneOn, going_none, going_more, going_end, gone_on, now_in}
+use Rattle.summary.proofs.Forwarding.{Going, going_none, going_more, going_end, gone_on, now_in}
 use Rattle.legality.proofs.Starting.{begins_in}
 use Rattle.summary.proofs.Summing.{safe_len}
 use Rattle.legality.proofs.Marking.{past_marks}
@@ -107,7 +107,7 @@ module _ {recs ops regs work : List ℕ} {fs : List Fact} {g : Sweep} (r : Sweep
 
     -- ---- forward, by the summary that the sweep backward left
 
-    module _ (e : (is_start g.phase) ≡ false) (u : (is_forth g.phase) ≡ true) (z : Summed recs (bare fs) g.span.n 0 st₀ ls (marks g.span.n fs)) (sus : g.fences.sus ≡ ls.suspension) (bar : g.fences.bar ≡ ls.barrier) where
+    module _ (e : (is_start g.phase) ≡ false) (u : (is_forth g.phase) ≡ true) (z : Summed recs (bare fs) g.span.n 0 st₀ ls (marks g.span.n fs)) where
       pub swept_forth : {i : ℕ} {work' : List ℕ} {ls' : Lasts} {fs' : List Fact} {count : ℕ} → i ≤ g.span.n → Swept recs ops regs g work ls fs i work' ls' fs' count
           → Going recs ops (bare fs) regs g.span.n i st₀ ls (marks g.span.n fs) (part g.span.s (length regs) work') ls' (marks g.span.n fs') count
       swept_forth h none = going_none z
@@ -120,9 +120,7 @@ module _ {recs ops regs work : List ℕ} {fs : List Fact} {g : Sweep} (r : Sweep
           subst (λ (j : ℕ). Going recs ops (bare fs) regs g.span.n (i + 1) st₀ ls (marks g.span.n fs) (part g.span.s (length regs) work'') ls'' (marks g.span.n (set fs' j (marked (get_or fs' j no_fact) keep))) (count + hit (counts g.phase (get_or fs' j no_fact) keep))) p
           (subst (λ (S : List ℕ). Going recs ops (bare fs) regs g.span.n (i + 1) st₀ ls (marks g.span.n fs) (part g.span.s (length regs) work'') ls'' S (count + hit (counts g.phase (get_or fs' i no_fact) keep))) (sym (marks_set g.span.n fs' i keep l))
           (subst (Going recs ops (bare fs) regs g.span.n (i + 1) st₀ ls (marks g.span.n fs) (part g.span.s (length regs) work'') ls'' (set (marks g.span.n fs') i (num keep))) (sym (ap (λ (x : Bool). count + hit x) (counts_dropped g.phase (get_or fs' i no_fact) keep e)))
-          (going_more safe l z b (says s i) (let x = marks_long g.span.n fs r.long in omega arith)
-          (subst (λ (x : ℕ). GoneOn recs ops (bare fs) regs (get_or fs' i no_fact) x ls.barrier i (part g.span.s (length regs) work') ls' (marks g.span.n fs') (part g.span.s (length regs) work'') ls'' (set (marks g.span.n fs') i (num keep)) (hit ((get_or fs' i no_fact).member && not keep))) sus
-          (subst (λ (x : ℕ). GoneOn recs ops (bare fs) regs (get_or fs' i no_fact) g.fences.sus x i (part g.span.s (length regs) work') ls' (marks g.span.n fs') (part g.span.s (length regs) work'') ls'' (set (marks g.span.n fs') i (num keep)) (hit ((get_or fs' i no_fact).member && not keep))) bar k)))))
+          (going_more safe l z b (says s i) (let x = marks_long g.span.n fs r.long in omega arith) k)))
 
       pub passed_forth : {work' : List ℕ} {ls' : Lasts} {fs' : List Fact} {count : ℕ} → Swept recs ops regs g work ls fs g.k work' ls' fs' count
           → Passed (own (forward_ok (view recs ops (bare fs) regs) g.span.n)) 0 g.k (marks g.span.n fs) (marks g.span.n fs') count × (length (part g.span.s (length regs) work') ≡ length st₀)
@@ -223,9 +221,9 @@ module _ {recs ops regs : List ℕ} {w : List Fact} {work : List ℕ} {ls : Last
         subst (λ (v : List Fact). Summed recs v g.span.n 0 (part g.span.s (length regs) work') ls' (marks g.span.n fs')) is z.2,
       )
 
-  pub pass_forth : (is_forth g.phase) ≡ true → Summed recs w g.span.n 0 (part g.span.s (length regs) work) ls (marks g.span.n fs) → g.fences.sus ≡ ls.suspension → g.fences.bar ≡ ls.barrier → g.k ≡ g.span.m → Swept recs ops regs g work ls fs g.k work' ls' fs' count
+  pub pass_forth : (is_forth g.phase) ≡ true → Summed recs w g.span.n 0 (part g.span.s (length regs) work) ls (marks g.span.n fs) → g.k ≡ g.span.m → Swept recs ops regs g work ls fs g.k work' ls' fs' count
       → Passed (pass_ok (view recs ops w regs) g.span.n (is_forth g.phase)) 0 g.span.m (marks g.span.n fs) (marks g.span.n fs') count
-  pass_forth u sum sus bar m s =
-      let z = passed_forth r e u (subst (λ (v : List Fact). Summed recs v g.span.n 0 (part g.span.s (length regs) work) ls (marks g.span.n fs)) (sym is) sum) sus bar s in
+  pass_forth u sum m s =
+      let z = passed_forth r e u (subst (λ (v : List Fact). Summed recs v g.span.n 0 (part g.span.s (length regs) work) ls (marks g.span.n fs)) (sym is) sum) s in
       subst (λ (v : List Fact). Passed (pass_ok (view recs ops v regs) g.span.n (is_forth g.phase)) 0 g.span.m (marks g.span.n fs) (marks g.span.n fs') count) is
       (ahead_passed (view recs ops (bare fs) regs) g.span.n g.span.m u (subst (λ (x : ℕ). Passed (own (forward_ok (view recs ops (bare fs) regs) g.span.n)) 0 x (marks g.span.n fs) (marks g.span.n fs') count) m z.0))

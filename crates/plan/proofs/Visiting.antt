@@ -65,11 +65,11 @@ module _ {recs ops : List ℕ} {f : Fact} {p s k : ℕ} (work : List ℕ) {ys : 
     words_around s k work ys l d.size,
   )
 
-  pub forth_part : {regs : List ℕ} {sus bar : ℕ} → Forwarded recs ops regs f sus bar p (part s (s + k - s) work) ls ys ls' b
-      → Forwarded recs ops regs f sus bar p (part s k work) ls (part s k (put_mid s (s + k - s) work ys)) ls' b × Around s k work (put_mid s (s + k - s) work ys)
-  forth_part {regs} {sus} {bar} d = (
-    subst (λ (x : List ℕ). Forwarded recs ops regs f sus bar p (part s k work) ls x ls' b) (sym (words_are s k work ys l d.stamped.size))
-        (subst (λ (x : ℕ). Forwarded recs ops regs f sus bar p (part s x work) ls ys ls' b) (sized s k) d),
+  pub forth_part : {regs : List ℕ} → Forwarded recs ops regs f p (part s (s + k - s) work) ls ys ls' b
+      → Forwarded recs ops regs f p (part s k work) ls (part s k (put_mid s (s + k - s) work ys)) ls' b × Around s k work (put_mid s (s + k - s) work ys)
+  forth_part {regs} d = (
+    subst (λ (x : List ℕ). Forwarded recs ops regs f p (part s k work) ls x ls' b) (sym (words_are s k work ys l d.stamped.size))
+        (subst (λ (x : ℕ). Forwarded recs ops regs f p (part s x work) ls ys ls' b) (sized s k) d),
     words_around s k work ys l d.stamped.size,
   )
 
@@ -112,7 +112,7 @@ module _ {recs ops regs : List ℕ} {g : Sweep} {f : Fact} {p : ℕ} {work : Lis
       around = m;
     }
 
-    pub visit_forth : (is_forth g.phase) ≡ true → Forwarded recs ops regs f g.fences.sus g.fences.bar p (part g.span.s (length regs) work) ls (part g.span.s (length regs) work') ls' b → Visit recs ops regs g f p work ls work' ls' b
+    pub visit_forth : (is_forth g.phase) ≡ true → Forwarded recs ops regs f p (part g.span.s (length regs) work) ls (part g.span.s (length regs) work') ls' b → Visit recs ops regs g f p work ls work' ls' b
     visit_forth u d = record {
       size = m.size;
       begun = λ v. clash v e;

@@ -13,9 +13,9 @@ use Rattle.summary.specs.declared.notes.Lasts.{Lasts}
 use Rattle.summary.specs.Passes.{blank, Around, Ended, Greatest}
 use Rattle.plan.specs.Sweep.{part, marks, is_start, is_forth}
 
--- the sweep of this phase; the last suspension and barrier as the notes ls have them
-abbrev pub sweep_of : Span → Phase → Lasts → Sweep
-sweep_of s p ls = record { phase = p; span = s; k = cond (is_forth p) s.m s.n; fences = record { sus = ls.suspension; bar = ls.barrier } }
+-- the sweep of this phase
+abbrev pub sweep_of : Span → Phase → Sweep
+sweep_of s p = record { phase = p; span = s; k = cond (is_forth p) s.m s.n }
 
 -- before a sweep backward the words of the R registers and the notes are cleared
 pub record Readied (R : ℕ) (s : Span) (p : Phase) (work : List ℕ) (ls : Lasts) (work' : List ℕ) (ls' : Lasts) : Type 0 where

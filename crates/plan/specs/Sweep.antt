@@ -61,7 +61,7 @@ pub record Visit (recs ops regs : List ℕ) (g : Sweep) (f : Fact) (p : ℕ) (wo
   pub begun : (is_start g.phase) ≡ true → (stays ≡ (ltb p g.span.m && begin_test recs regs work f g.span.o p)) × (work' ≡ work)
   pub backed : (is_start g.phase) ≡ false → (is_forth g.phase) ≡ false → Backed recs ops f p (part g.span.s (length regs) work) ls (part g.span.s (length regs) work') ls' stays
   pub forwarded : (is_start g.phase) ≡ false → (is_forth g.phase) ≡ true
-      → Forwarded recs ops regs f g.fences.sus g.fences.bar p (part g.span.s (length regs) work) ls (part g.span.s (length regs) work') ls' stays
+      → Forwarded recs ops regs f p (part g.span.s (length regs) work) ls (part g.span.s (length regs) work') ls' stays
   pub around : Around g.span.s (length regs) work work'
 
 -- what a sweep asks

@@ -7,7 +7,6 @@ ghost use Rattle.plan.specs.Cycle.{sweep_of, went, go_on, Readied, Choosable, Ch
 use crate::sweep::{Phase, Span, Sweep, run};
 use facts::Fact;
 use legality::forward::Given;
-use legality::kept::Fences;
 use summary::notes::Lasts;
 
 // The sweep that comes next, if one does. `quiet`: the last one dropped nothing. `left` members are left; with fewer than `least` no more
@@ -22,8 +21,8 @@ pub struct Cycle {
 }
 
 // The sweep of this phase.
-fn sweep_of(span: Span, phase: Phase, lasts: &Lasts) -> Sweep
-    ensures { result ≡ sweep_of span phase lasts.now }
+fn sweep_of(span: Span, phase: Phase) -> Sweep
+    ensures { result ≡ sweep_of span phase }
 {
     Sweep {
         phase,
@@ -31,10 +30,6 @@ fn sweep_of(span: Span, phase: Phase, lasts: &Lasts) -> Sweep
         k: match phase {
             Phase::Forth => span.m,
             _ => span.n,
-        },
-        fences: Fences {
-            sus: lasts.suspension,
-            bar: lasts.barrier,
         },
     }
 }
@@ -48,9 +43,9 @@ pub(crate) fn ready(
     regs: usize,
 ) -> Sweep
     requires { span.s + regs ≤ length work.old }
-    ensures { (result ≡ sweep_of span phase lasts.old) × Readied regs span phase work.old lasts.old work.new lasts.new }
+    ensures { (result ≡ sweep_of span phase) × Readied regs span phase work.old lasts.old work.new lasts.new }
 {
-    let g = sweep_of(span, phase, lasts);
+    let g = sweep_of(span, phase);
     match phase {
         Phase::Back => {
             work[span.s..span.s + regs].fill(0);

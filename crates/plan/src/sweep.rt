@@ -7,7 +7,6 @@ ghost use Rattle.plan.specs.Sweep.{part, place, counts, Visitable, Visit, Sweepa
 use facts::Fact;
 use legality::backward::back;
 use legality::forward::{Given, forth};
-use legality::kept::Fences;
 use legality::rules::Elsewhere;
 use legality::start::begins_in;
 use summary::notes::Lasts;
@@ -31,13 +30,12 @@ pub struct Span {
     pub n: usize,
 }
 
-// Which sweep it is, and over what; `k` turns; the last kept suspension and barrier.
+// Which sweep it is, and over what; `k` turns.
 #[derive(Clone, Copy, Debug, PartialEq, Eq)]
-pub struct Sweep {
-    pub phase: Phase,
-    pub span: Span,
-    pub k: usize,
-    pub fences: Fences,
+pub(crate) struct Sweep {
+    pub(crate) phase: Phase,
+    pub(crate) span: Span,
+    pub(crate) k: usize,
 }
 
 // Turn i's position.
@@ -85,16 +83,15 @@ fn forth_in(
     given: &Given<'_>,
     f: Fact,
     work: &mut [u64],
-    g: Sweep,
+    s: usize,
     lasts: &mut Lasts,
     p: usize,
 ) -> bool
-    requires { Written given.now.code.recs.now (length given.now.regs.now) f.rec f.def f.more × Readable given.now.code.recs.now given.now.code.ops.now (length given.now.regs.now) f × Small f × Near (part g.span.s (length given.now.regs.now) work.old) × (p < 800) × (g.span.s + length given.now.regs.now ≤ length work.old) }
-    ensures { Forwarded given.now.code.recs.now given.now.code.ops.now given.now.regs.now f g.fences.sus g.fences.bar p (part g.span.s (length given.now.regs.now) work.old) lasts.old (part g.span.s (length given.now.regs.now) work.new) lasts.new result × Around g.span.s (length given.now.regs.now) work.old work.new }
+    requires { Written given.now.code.recs.now (length given.now.regs.now) f.rec f.def f.more × Readable given.now.code.recs.now given.now.code.ops.now (length given.now.regs.now) f × Small f × Near (part s (length given.now.regs.now) work.old) × (p < 800) × (s + length given.now.regs.now ≤ length work.old) }
+    ensures { Forwarded given.now.code.recs.now given.now.code.ops.now given.now.regs.now f p (part s (length given.now.regs.now) work.old) lasts.old (part s (length given.now.regs.now) work.new) lasts.new result × Around s (length given.now.regs.now) work.old work.new }
 {
-    let s = g.span.s;
     let e = s + given.regs.len();
-    forth(given, f, &mut work[s..e], lasts, g.fences, p)
+    forth(given, f, &mut work[s..e], lasts, p)
 }
 
 // Position p, of fact f, is visited. Says whether it is in the set.
@@ -112,7 +109,7 @@ fn visit(
     match g.phase {
         Phase::Start => starts(given, f, work, g.span, p),
         Phase::Back => back_in(given, f, work, g.span.s, lasts, p),
-        Phase::Forth => forth_in(given, f, work, g, lasts, p),
+        Phase::Forth => forth_in(given, f, work, g.span.s, lasts, p),
     }
 }
 

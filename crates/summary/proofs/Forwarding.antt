@@ -240,11 +240,11 @@ module _ (S ls : List ℕ) (p : ℕ) (ok : Bool) (h : p < 800) (long : p < lengt
 -- ---- one position, by marks
 
 -- position p of fact f was looked at: st, lasts and marks after those before
-pub record GoneOn (recs ops : List ℕ) (w : List Fact) (regs : List ℕ) (f : Fact) (sus bar p : ℕ) (st : List ℕ) (lasts : Lasts) (marks st' : List ℕ) (lasts' : Lasts) (marks' : List ℕ) (r : ℕ) : Type 0 where
+pub record GoneOn (recs ops : List ℕ) (w : List Fact) (regs : List ℕ) (f : Fact) (p : ℕ) (st : List ℕ) (lasts : Lasts) (marks st' : List ℕ) (lasts' : Lasts) (marks' : List ℕ) (r : ℕ) : Type 0 where
   pub stamped : Stamped (defs_of recs w p) 2048 0 (2048 * writer_word w (in_set marks') (suc p)) st st'
-  pub sifts : marks' ≡ sifted marks p (stay_test recs ops regs st lasts.writes f sus bar p)
-  pub forgets : lasts' ≡ with_writes (forgot (in_set marks p && not (stay_test recs ops regs st lasts.writes f sus bar p)) p lasts.writes) lasts
-  pub loses : r ≡ lost marks p (stay_test recs ops regs st lasts.writes f sus bar p)
+  pub sifts : marks' ≡ sifted marks p (stay_test recs ops regs st lasts.writes f lasts.suspension lasts.barrier p)
+  pub forgets : lasts' ≡ with_writes (forgot (in_set marks p && not (stay_test recs ops regs st lasts.writes f lasts.suspension lasts.barrier p)) p lasts.writes) lasts
+  pub loses : r ≡ lost marks p (stay_test recs ops regs st lasts.writes f lasts.suspension lasts.barrier p)
 
 -- the mark m of position p becomes that of a member that keeps a rule
 module _ (S : List ℕ) (p : ℕ) (m ok : Bool) {keep : Bool} (e : get_or S p 0 ≡ num m) (k : keep ≡ (m && ok)) where
@@ -281,15 +281,15 @@ unfolding in_set num
 now_in S p true h = ap (λ (x : ℕ). not (eqb x 0)) (get_or-set_same S p 1 0 h)
 now_in S p false h = ap (λ (x : ℕ). not (eqb x 0)) (get_or-set_same S p 0 0 h)
 
-pub gone_on : {recs ops : List ℕ} {w : List Fact} {regs : List ℕ} {f : Fact} {sus bar p : ℕ} {st : List ℕ} {ls : Lasts} {st' : List ℕ} {ls' : Lasts} {keep : Bool} (S : List ℕ) → Shows w p f → p < length S → get_or S p 0 ≡ num f.member → Forwarded recs ops regs f sus bar p st ls st' ls' keep
-    → GoneOn recs ops w regs f sus bar p st ls S st' ls' (set S p (num keep)) (hit (f.member && not keep))
+pub gone_on : {recs ops : List ℕ} {w : List Fact} {regs : List ℕ} {f : Fact} {p : ℕ} {st : List ℕ} {ls : Lasts} {st' : List ℕ} {ls' : Lasts} {keep : Bool} (S : List ℕ) → Shows w p f → p < length S → get_or S p 0 ≡ num f.member → Forwarded recs ops regs f p st ls st' ls' keep
+    → GoneOn recs ops w regs f p st ls S st' ls' (set S p (num keep)) (hit (f.member && not keep))
 unfolding writer_word fact_word
-gone_on {recs} {ops} {w} {regs} {f} {sus} {bar} {p} {st} {ls} {st'} {ls'} {keep} S t h e d = record {
+gone_on {recs} {ops} {w} {regs} {f} {p} {st} {ls} {st'} {ls'} {keep} S t h e d = record {
   stamped = subst (λ (y : Fact). Stamped (writes (inst recs y.rec)) 2048 0 (2048 * (1 + 2 * hit (in_set (set S p (num keep)) p) + 4 * y.org)) st st') (sym t.same)
       (subst (λ (b : Bool). Stamped (writes (inst recs f.rec)) 2048 0 (2048 * (1 + 2 * hit b + 4 * f.org)) st st') (sym (now_in S p keep h)) d.stamped);
-  sifts = is_sifted S p f.member (stay_test recs ops regs st ls.writes f sus bar p) e d.keeps;
-  forgets = d.forgets ∙ ap (λ (b : Bool). with_writes (forgot b p ls.writes) ls) (is_dropped S p f.member (stay_test recs ops regs st ls.writes f sus bar p) e d.keeps);
-  loses = is_lost S p f.member (stay_test recs ops regs st ls.writes f sus bar p) e d.keeps;
+  sifts = is_sifted S p f.member (stay_test recs ops regs st ls.writes f ls.suspension ls.barrier p) e d.keeps;
+  forgets = d.forgets ∙ ap (λ (b : Bool). with_writes (forgot b p ls.writes) ls) (is_dropped S p f.member (stay_test recs ops regs st ls.writes f ls.suspension ls.barrier p) e d.keeps);
+  loses = is_lost S p f.member (stay_test recs ops regs st ls.writes f ls.suspension ls.barrier p) e d.keeps;
 }
 
 -- the first p positions are done
@@ -297,27 +297,31 @@ pub record Going (recs ops : List ℕ) (w : List Fact) (regs : List ℕ) (n p : 
   pub size : length st ≡ length st₀
   pub stamps : Stamps w (defs_of recs w) (in_set marks₀) (in_set marks) n p st
   pub ls_size : length ls.writes ≡ 2006
+  pub suspension : ls.suspension ≡ ls₀.suspension
+  pub barrier : ls.barrier ≡ ls₀.barrier
   pub lows : (j : ℕ) → get_or ls.writes j 0 % 1024 ≡ get_or ls₀.writes j 0 % 1024
   pub flags : (j : ℕ) → j < 2006 → get_or ls.writes j 0 / 1024 ≡ hit (member_at (in_set marks) 0 j)
   pub passed : Passed (own (forward_ok (view recs ops w regs) n)) 0 p marks₀ marks r
 
 pub going_none : {recs ops : List ℕ} {w : List Fact} {regs : List ℕ} {n : ℕ} {st : List ℕ} {lasts : Lasts} {marks : List ℕ} → Summed recs w n 0 st lasts marks → Going recs ops w regs n 0 st lasts marks st lasts marks 0
-going_none {recs} {ops} {w} {regs} {n} {st} {lasts} {marks} s = record { size = refl; stamps = s.stamps; ls_size = s.size; lows = λ j. refl; flags = s.flags; passed = passed_none (forward_ok (view recs ops w regs) n) 0 marks }
+going_none {recs} {ops} {w} {regs} {n} {st} {lasts} {marks} s = record { size = refl; stamps = s.stamps; ls_size = s.size; suspension = refl; barrier = refl; lows = λ j. refl; flags = s.flags; passed = passed_none (forward_ok (view recs ops w regs) n) 0 marks }
 
 -- the last kept writes are as they were
 writes_on : (w : List Fact) {L : ℕ → Bool} {n : ℕ} {ls₀ ls : List ℕ} → ((j : ℕ) → get_or ls j 0 % 1024 ≡ get_or ls₀ j 0 % 1024) → Writes (λ q. (fact_in w q).wrote) L n ls₀ → Writes (λ q. (fact_in w q).wrote) L n ls
 writes_on w f z = record { each = λ o h. f o ∙ z.each o h }
 
 module _ {recs ops : List ℕ} {w : List Fact} {regs : List ℕ} {n p : ℕ} {st₀ : List ℕ} {ls₀ : Lasts} {marks₀ st : List ℕ} {ls : Lasts} {marks : List ℕ} {r : ℕ} (s : Safe recs ops w n (length st₀)) (h : p < n) (z : Summed recs w n 0 st₀ ls₀ marks₀) (i : Going recs ops w regs n p st₀ ls₀ marks₀ st ls marks r) where
-  pub going_more : {f : Fact} {st' : List ℕ} {ls' : Lasts} {marks' : List ℕ} {d : ℕ} → Shows w p f → n ≤ length marks₀ → GoneOn recs ops w regs f ls₀.suspension ls₀.barrier p st ls marks st' ls' marks' d
+  pub going_more : {f : Fact} {st' : List ℕ} {ls' : Lasts} {marks' : List ℕ} {d : ℕ} → Shows w p f → n ≤ length marks₀ → GoneOn recs ops w regs f p st ls marks st' ls' marks' d
       → Going recs ops w regs n (p + 1) st₀ ls₀ marks₀ st' ls' marks' (r + d)
   going_more {f} t long k = let few = s.few in let size = i.passed.size in record {
     size = k.stamped.size ∙ i.size;
     stamps = stamps_more (λ z l. sym (ap (λ (S : List ℕ). in_set S z) k.sifts ∙ sifted_other marks _ _ z (λ e. omega arith))) i.stamps k.stamped;
     ls_size = ap (λ (x : Lasts). length x.writes) k.forgets ∙ forgot_size _ p ls.writes ∙ i.ls_size;
+    suspension = ap (λ (x : Lasts). x.suspension) k.forgets ∙ i.suspension;
+    barrier = ap (λ (x : Lasts). x.barrier) k.forgets ∙ i.barrier;
     lows = λ j. ap (λ (x : Lasts). get_or x.writes j 0 % 1024) k.forgets ∙ forgot_low _ p ls.writes j (omega arith) i.ls_size ∙ i.lows j;
     flags = forgot_flags marks ls.writes p _ (omega arith) (omega arith) i.ls_size i.flags k.sifts (ap (λ (x : Lasts). x.writes) k.forgets);
-    passed = passed_up (forward_ok (view recs ops w regs) n) (forward_mono (view recs ops w regs) n) i.passed (stay_is regs marks s h i.size i.stamps (writes_on w i.lows z.writes) z.barrier z.suspension i.flags t) k.sifts k.loses;
+    passed = passed_up (forward_ok (view recs ops w regs) n) (forward_mono (view recs ops w regs) n) i.passed (stay_is regs marks s h i.size i.stamps (writes_on w i.lows z.writes) (i.barrier ∙ z.barrier) (i.suspension ∙ z.suspension) i.flags t) k.sifts k.loses;
   }
 
 pub going_end : {recs ops : List ℕ} {w : List Fact} {regs : List ℕ} {n p m : ℕ} {st₀ : List ℕ} {ls₀ : Lasts} {marks₀ st : List ℕ} {ls : Lasts} {marks : List ℕ} {r : ℕ} → Going recs ops w regs n p st₀ ls₀ marks₀ st ls marks r → p ≤ m → m ≤ p
@@ -327,16 +331,16 @@ going_end {recs} {ops} {w} {regs} {n} {p} {m} {marks₀ = marks₀} {marks = mar
 
 -- ---- by the position's fact
 
-module _ {recs ops regs : List ℕ} {ls : Lasts} {st st' : List ℕ} {f : Fact} {sus bar p v : ℕ} {b : Bool} (t : b ≡ (f.member && stay_test recs ops regs st ls.writes f sus bar p)) (e : v ≡ 2048 * fact_word f b) (k : Stamped (writes (inst recs f.rec)) 2048 0 v st st') where
-  pub forwarded : {ls' : Lasts} → ls' ≡ with_writes (forgot (f.member && not b) p ls.writes) ls → Forwarded recs ops regs f sus bar p st ls st' ls' b
+module _ {recs ops regs : List ℕ} {ls : Lasts} {st st' : List ℕ} {f : Fact} {p v : ℕ} {b : Bool} (t : b ≡ (f.member && stay_test recs ops regs st ls.writes f ls.suspension ls.barrier p)) (e : v ≡ 2048 * fact_word f b) (k : Stamped (writes (inst recs f.rec)) 2048 0 v st st') where
+  pub forwarded : {ls' : Lasts} → ls' ≡ with_writes (forgot (f.member && not b) p ls.writes) ls → Forwarded recs ops regs f p st ls st' ls' b
   forwarded g = record { keeps = t; stamped = subst (λ (x : ℕ). Stamped (writes (inst recs f.rec)) 2048 0 x st st') e k; forgets = g }
 
   -- dropped, or not
-  pub forwarded_less : {ls' : Lasts} → (f.member && not b) ≡ true → ls' ≡ forgotten p ls → Forwarded recs ops regs f sus bar p st ls st' ls' b
+  pub forwarded_less : {ls' : Lasts} → (f.member && not b) ≡ true → ls' ≡ forgotten p ls → Forwarded recs ops regs f p st ls st' ls' b
   unfolding forgot
   forwarded_less d g = forwarded (g ∙ sym (ap (λ (x : Bool). with_writes (forgot x p ls.writes) ls) d))
 
-  pub forwarded_same : (f.member && not b) ≡ false → Forwarded recs ops regs f sus bar p st ls st' ls b
+  pub forwarded_same : (f.member && not b) ≡ false → Forwarded recs ops regs f p st ls st' ls b
   unfolding forgot
   forwarded_same d = forwarded (sym (ap (λ (x : Bool). with_writes (forgot x p ls.writes) ls) d))
 

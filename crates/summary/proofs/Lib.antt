@@ -1,4 +1,5 @@
 pub mod Along
+pub mod Asking
 pub mod Backing
 pub mod Forwarding
 pub mod Places

@@ -187,8 +187,8 @@ unfoldable pub fact_word : F.Fact → Bool → ℕ
 fact_word f in? = 1 + 2 * hit in? + 4 * f.org
 
 -- position p of fact f was looked at: st and lasts after those before, and whether it stays in the set
-pub record Forwarded (recs ops regs : List ℕ) (f : F.Fact) (sus bar p : ℕ) (st : List ℕ) (lasts : Lasts) (st' : List ℕ) (lasts' : Lasts) (keep : Bool) : Type 0 where
-  pub keeps : keep ≡ (f.member && stay_test recs ops regs st lasts.writes f sus bar p)
+pub record Forwarded (recs ops regs : List ℕ) (f : F.Fact) (p : ℕ) (st : List ℕ) (lasts : Lasts) (st' : List ℕ) (lasts' : Lasts) (keep : Bool) : Type 0 where
+  pub keeps : keep ≡ (f.member && stay_test recs ops regs st lasts.writes f lasts.suspension lasts.barrier p)
   pub stamped : Stamped (writes (inst recs f.rec)) 2048 0 (2048 * fact_word f keep) st st'
   pub forgets : lasts' ≡ with_writes (forgot (f.member && not keep) p lasts.writes) lasts
 

@@ -70,7 +70,8 @@ impl<'a> Iterator for Reads<'a> {
     }
 }
 
-// Do all registers, of count, that the slots write pass a test, which none passes?
+// Do all registers, of count, that the slots write pass a test, which none passes? (A loop: in an `all` over the range the closure would
+// ask that s is one of the five slots, in a contract of its own.)
 pub fn all_written<F: Fn(Option<Reg>) -> bool>(slots: &Slots, count: usize, test: F) -> bool
     requires fits { Fits slots.now.recs.now count slots.now.p }
     requires can { (m : Option RegAt) → Among count m → F.pre test m }
@@ -90,10 +91,5 @@ pub fn all_read<F: Fn(Option<Reg>) -> bool>(code: &Code, g: usize, count: usize,
     requires can { (m : Option RegAt) → Among count m → F.pre test m }
     ensures { (t : ℕ → Bool) → Tests count (F.post test) t → result ≡ all t (reads code.now.ops.now (inst code.now.recs.now g)) }
 {
-    for r in Reads::new(code, g, count) {
-        if !test(r) {
-            return false;
-        }
-    }
-    true
+    Reads::new(code, g, count).all(test)
 }

@@ -1,5 +1,5 @@
 // A word a register, in a lent slice: the registers that a position writes, or reads, are stamped. Its fact says which they are where
-// it has all, else its record does.
+// it has all, else its record does. (The slice is the caller's work, so what is stamped of a register stays packed in its word.)
 ghost use Rattle.std.specs.Prelude.{◌≡◌, ◌≤◌, length};
 ghost use Rattle.model.specs.Picture.{inst, reads, writes};
 ghost use Rattle.inst.specs.Index.{word_of, Among};

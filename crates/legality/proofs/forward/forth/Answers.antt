@@ -12,6 +12,6 @@ invariant_of-d c = record { beside = writer_stamp c.stamp_of.ensures (fact_low _
 
 pub returns : goal.returns
 returns c = elim c.if-f-stays.branch [
-  then-f-stays w ↦ rw w.lasts-is (forwarded_less c.may_stay-stays.ensures c.stamp_of.ensures c.put_writes.ensures w.if-f-stays.true w.forget.ensures)
+  | then-f-stays w ↦ rw w.lasts-is (forwarded_less c.may_stay-stays.ensures c.stamp_of.ensures c.put_writes.ensures w.if-f-stays.true w.forget.ensures)
   | else-f-stays w ↦ rw w.lasts-is (forwarded_same c.may_stay-stays.ensures c.stamp_of.ensures c.put_writes.ensures w.if-f-stays.false)
 ]

@@ -8,7 +8,7 @@ pub forth-requires : goal.forth-requires
 forth-requires c =
     let p = c.requires in
     let a = c.args in
-    let s = a.g.span.s in
+    let s = a.s in
     let n = length a.given.now.regs.now in
     let w = a.work.now in
     (words_written s n w p.5 p.0, words_readable s n w p.5 p.1, p.2, words_near s n w p.5 p.3, sym (words_long s n w p.5), p.4)
