@@ -13,8 +13,9 @@ use inst::code::{Code, Slots};
 use inst::index::Reg;
 use words::bits::{set_in, unset_in};
 
-// The two rows of a block: the words where what it reads first and what it writes begin, and of how many registers they are.
-#[derive(Clone, Copy)]
+// The two rows of a block: the words where what it reads first and what it writes begin, and of how many registers they are. (That both
+// lie in the slice each function asks for itself: the slice is written, and no field can speak of what a `&mut` points at.)
+#[derive(Clone, Copy, PartialEq, Eq, Debug)]
 pub struct Pair {
     pub u: usize,
     pub d: usize,

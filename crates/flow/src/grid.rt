@@ -21,7 +21,7 @@ impl Grid {
     }
 
     // Where the row of what is live into block b begins.
-    pub fn live(self, b: BlockId) -> usize
+    pub(crate) fn live(self, b: BlockId) -> usize
         requires { b.0 * self.width < 2 ^ 64 }
         ensures { result ≡ b.0 * self.width }
     {
@@ -29,7 +29,7 @@ impl Grid {
     }
 
     // Where the row of what block b writes begins.
-    pub fn writes(self, b: BlockId) -> usize
+    pub(crate) fn writes(self, b: BlockId) -> usize
         requires { (self.blocks + b.0) * self.width < 2 ^ 64 }
         ensures { result ≡ (self.blocks + b.0) * self.width }
     {
@@ -45,7 +45,7 @@ impl Grid {
     }
 
     // Where the row of what block b reads before it writes it begins.
-    pub fn first(self, b: BlockId) -> usize
+    pub(crate) fn first(self, b: BlockId) -> usize
         requires { (2 * self.blocks + 1 + b.0) * self.width < 2 ^ 64 }
         ensures { result ≡ (2 * self.blocks + 1 + b.0) * self.width }
     {

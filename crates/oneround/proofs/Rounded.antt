@@ -13,6 +13,9 @@ use Rattle.apply.specs.Apply.{Rest}
 use Rattle.sizes.specs.declared.Sizes.{Sizes}
 use Rattle.chainwords.specs.Work.{Shown, Begun, chain_words}
 use Rattle.apply.specs.declared.moves.Move.{Move}
+use Rattle.laws.proofs.Accepted.{accepted}
+use Rattle.cfg.specs.Graph.{Graph}
+use Rattle.flow.proofs.Accepted.{graph_given}
 use Rattle.find.specs.Find.{Finding, Searched}
 use Rattle.oneround.specs.declared.weigh.Step.{Step}
 use Rattle.oneround.specs.Weigh.{Beside, Ready, Weighed, IsPrepared}
@@ -32,6 +35,9 @@ module _ {bounds recs locs vias types ops pairs targets replay : List ℕ} {s : 
   rest = record { pairs = pairs; targets = targets; replay = replay }
 
   -- ---- the move found
+
+  pub graphed : Graph bounds recs pairs targets
+  graphed = graph_given P (accepted P (length work64) (length work32) records o.accepted)
 
   shown : Shown P bounds recs ops pairs targets replay s (length work64) (length work32)
   shown = record {

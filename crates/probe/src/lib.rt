@@ -14,7 +14,8 @@ ghost use Rattle.cfg.specs.Preds.{Preds};
 
 use acceptance::accept;
 use acceptance::lent::Lent;
-use cfg::graph::{Func, find_preds};
+use cfg::graph::Func;
+use cfg::preds::find_preds;
 use flow::live::live_in;
 use flow::rows::all_rows;
 use inst::code::Code;

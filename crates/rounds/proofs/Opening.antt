@@ -28,6 +28,8 @@ use Rattle.acceptance.proofs.Chain.{whatever_replay}
 use Rattle.sizes.specs.declared.Room.{Room}
 use Rattle.sizes.specs.declared.Sizes.{Sizes}
 use Rattle.sizes.specs.Parts.{sizes_of}
+use Rattle.cfg.specs.Graph.{Graph}
+use Rattle.flow.proofs.Accepted.{graph_given}
 use Rattle.search.specs.Search.{Beginning, Began}
 use Rattle.rounds.specs.Ended.{Did}
 use Rattle.rounds.specs.Going.{Started}
@@ -109,6 +111,9 @@ module _ (l : Lent) (replay work64 work32 : List ℕ) (nf : ℕ) where
 
       pub blocks_small : nblocks P ≤ 4096
       blocks_small = few_blocks P (accepted P (length work64) (length work32) nf opens.0)
+
+      pub graphed : Graph P.bounds P.recs P.pairs P.targets
+      graphed = graph_given P (accepted P (length work64) (length work32) nf opens.0)
 
       pub beginning : Beginning P.bounds P.recs P.ops P.pairs P.targets work64 work32 (sizes_of P)
       beginning = record { P = P; accepted = enough; bounds_are = refl; recs_are = refl; ops_are = refl; pairs_are = refl; targets_are = refl; blocks_are = refl; lent_are = refl; insts_are = refl; regs_are = refl }

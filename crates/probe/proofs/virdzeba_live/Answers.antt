@@ -11,6 +11,13 @@ use Rattle.search.proofs.Start.{rows_asked}
 use Rattle.probe.proofs.Given.{none, its_number, live_of}
 use Rattle.probe.proofs.virdzeba_live.Goals as goal
 
+pub invariant_of-func : goal.invariant_of-func
+invariant_of-func c =
+    let a = c.args in
+    let P = picture_of a.bounds.now a.recs.now a.locs.now a.vias.now a.types.now a.registers a.ops.now a.operands a.pairs.now a.targets.now [] in
+    let z = none P (length a.bits.now) a.w32 a.records c.accept.ensures c.in_default.is in
+    record { graphed = graph_given P (accepted P (length a.bits.now) a.w32 a.records z) }
+
 pub all_rows-requires : goal.all_rows-requires
 all_rows-requires c =
     let a = c.args in
@@ -24,11 +31,8 @@ live_in-requires c =
     let a = c.args in
     let P = picture_of a.bounds.now a.recs.now a.locs.now a.vias.now a.types.now a.registers a.ops.now a.operands a.pairs.now a.targets.now [] in
     let z = none P (length a.bits.now) a.w32 a.records c.accept.ensures c.in_default.is in
-    let k = rows_asked P a.w32 a.bits.now (needed_records P (length a.bits.now) a.w32 a.records z) refl refl refl refl in (
-      graph_given P (accepted P (length a.bits.now) a.w32 a.records z),
-      record { fits = rw c.all_rows.ensures.bits_len_unchanged k.2.fits },
-      k.1.few,
-    )
+    let k = rows_asked P a.w32 a.bits.now (needed_records P (length a.bits.now) a.w32 a.records z) refl refl refl refl in
+    (record { fits = rw c.all_rows.ensures.bits_len_unchanged k.2.fits }, k.1.few)
 
 pub returns-clause-live : goal.returns-clause-live
 returns-clause-live c =

@@ -1,7 +1,10 @@
 -- `oneround::round::round` meets its contract. Assumes nothing.
-use Rattle.oneround.proofs.Rounded.{finding, ready, making, stepped}
+use Rattle.oneround.proofs.Rounded.{graphed, finding, ready, making, stepped}
 use Rattle.oneround.proofs.Kept.{step_kept}
 use Rattle.oneround.proofs.round.round.Goals as goal
+
+pub invariant_of-func : goal.invariant_of-func
+invariant_of-func c = record { graphed = graphed c.requires.0 }
 
 pub find_move-found-requires : goal.find_move-found-requires
 find_move-found-requires c = (finding c.requires.0, c.requires.1)

@@ -5,9 +5,7 @@ use Rattle.probe.proofs.Seeking.{looking, seen}
 use Rattle.probe.proofs.attempt.seek.Goals as goal
 
 pub live_in-requires : goal.live_in-requires
-live_in-requires c =
-    let z = live_ask (looking c.requires c.begin.ensures) _ refl in
-    (z.0, z.1, z.2)
+live_in-requires c = live_ask (looking c.requires c.begin.ensures) _ refl
 
 pub returns : goal.returns
 returns c =
