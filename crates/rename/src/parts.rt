@@ -6,8 +6,8 @@ use inst::index::Reg;
 use position::{DEF, MARK, NEW, PLACE};
 use std::ops::Range;
 
-// A position of x: whether it is a member, the register that it writes, and the word of the one that it gets in its place. That one is no `Reg`:
-// it is written, and nothing goes by it.
+// A position of x: whether it is a member, the register that it writes, and the word of the one that it gets in its place. That one is no
+// `Reg`: it is written, and nothing goes by it.
 #[derive(Clone, Copy, Debug, PartialEq, Eq)]
 pub(crate) struct Part {
     pub(crate) goes: bool,
