@@ -18,7 +18,6 @@ use mover::marks::count;
 use mover::moving::move_all;
 use pool::types::add_types;
 use rename::all::rename_all;
-use rename::parts::Walk;
 
 // Move m, where c registers and operands are in use. (The slices that are written stay apart: a struct of `&mut` slices cannot be lent
 // on twice.)
@@ -39,13 +38,7 @@ pub fn apply(
     requires fits { Fits m.from.0 m.into.0 m.inside m.places c.regs c.opers bounds.old recs.old types.old ops.old w.now × Vias locs.old vias.old }
     ensures { (rest : Rest) (run : List Fact) (set : List Bool) → let P = picture bounds.old recs.old locs.old vias.old types.old c.regs ops.old c.opers rest in let a = plan m.from.0 m.into.0 run set in Stands P a m.inside m.places w.now → Given P a m.inside w.now → Holds (apply P a) bounds.new recs.new locs.new vias.new types.new ops.new }
 {
-    let walk = Walk {
-        from: m.from.start(bounds),
-        inside: m.inside,
-        places: m.places,
-        target: m.target(bounds),
-        w,
-    };
+    let walk = m.walk(bounds, w);
     add_types(types, c.regs, w, m.inside);
     rename_all(t, recs, &walk, ops, c.opers, names);
     move_all(recs, locs, vias, w, walk.from, m.inside, walk.target.start);

@@ -1,8 +1,8 @@
-// A move as a value, and where its two blocks lie.
+// A move as a value, and what is walked for it.
 ghost use Rattle.std.specs.Prelude.{◌≡◌, ◌+◌, ◌*◌, ◌<◌, length, get_or};
 
 use inst::index::BlockId;
-use std::ops::Range;
+use rename::parts::Walk;
 
 // From and into which block; the positions of the chain that are in the first one, but for its last, and of the whole chain; how
 // many of them move.
@@ -16,12 +16,21 @@ pub struct Move {
 }
 
 impl Move {
-    // The records of the block that it moves into.
-    pub(crate) fn target(self, bounds: &[u32]) -> Range<usize>
-        requires { 2 * self.into.0 + 1 < length bounds.now }
-        ensures start { result.start ≡ get_or bounds.now (2 * self.into.0) 0 }
-        ensures end { result.end ≡ get_or bounds.now (2 * self.into.0 + 1) 0 }
+    // What is walked for it, by the chain's words w.
+    pub(crate) fn walk<'a>(self, bounds: &[u32], w: &'a [u32]) -> Walk<'a>
+        requires { (2 * self.from.0 + 1 < length bounds.now) × (2 * self.into.0 + 1 < length bounds.now) }
+        ensures from { result.from ≡ get_or bounds.now (2 * self.from.0) 0 }
+        ensures inside { (result.inside ≡ self.inside) × (result.places ≡ self.places) }
+        ensures start { result.target.start ≡ get_or bounds.now (2 * self.into.0) 0 }
+        ensures end { result.target.end ≡ get_or bounds.now (2 * self.into.0 + 1) 0 }
+        ensures words { result.w.now ≡ w.now }
     {
-        self.into.start(bounds)..self.into.past(bounds)
+        Walk {
+            from: self.from.start(bounds),
+            inside: self.inside,
+            places: self.places,
+            target: self.into.start(bounds)..self.into.past(bounds),
+            w,
+        }
     }
 }

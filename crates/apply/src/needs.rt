@@ -8,7 +8,6 @@ use crate::moves::Move;
 use inst::code::Code;
 use pool::allot::allot;
 use rename::all::count_all;
-use rename::parts::Walk;
 
 // Registers and operands in use. (It is no `sizes::InUse`: what is counted may be more operands than a word says, until it is weighed.)
 #[derive(Clone, Copy, Debug, PartialEq, Eq)]
@@ -31,13 +30,7 @@ pub fn needs(
     ensures { Counted m.from.0 m.into.0 m.inside m.places c.regs c.opers bounds.now code.now.recs.now types.now code.now.ops.now w.old w.new result.regs result.opers }
 {
     let regs = allot(w, m.inside, c.regs, types);
-    let walk = Walk {
-        from: m.from.start(bounds),
-        inside: m.inside,
-        places: m.places,
-        target: m.target(bounds),
-        w,
-    };
+    let walk = m.walk(bounds, w);
     let more = count_all(code, &walk, names);
     Counts {
         regs,

@@ -2,8 +2,8 @@
 #![tactic(auto)]
 
 mod parts; // parts.rt: how long each part is, and where it begins
-pub mod read;
-pub mod write;
+pub mod read; // a picture from bytes
+pub mod write; // a picture as bytes
 
 // The program's sizes (document 01, "One listing whole", "Program: 64 blocks, .."): of each the most that it takes.
 pub const BLOCKS: usize = 64;

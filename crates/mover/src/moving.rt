@@ -56,6 +56,7 @@ fn move_words(xs: &mut [u32], chain: &[u32], r: Records, t: usize)
 }
 
 // The members among the m instructions from lo on go before instruction t: records, locs and vias, of which there may be none.
+// (Seven parameters: three slices are written; and m is a count and no range with lo, since the positions go by it.)
 pub fn move_all(
     recs: &mut [u32],
     locs: &mut [u32],

@@ -1,8 +1,8 @@
 // A segment of the block that the members leave: at most 64 records, so that a few kilobytes are enough to save those of them
 // that go (01, "The move"). Places before and behind are counted in words here: a record has w of them.
 //
-// `sink` and `raise` differ in which words lie between and in both places that are written; one function of both would be two
-// arms with a contract of two cases.
+// `sink` and `raise` differ in which words lie between and in both places that are written. One function with an enum for the way was
+// tried: its two arms are these bodies whole, what is asked and what results is a definition of two cases each, and it is longer.
 ghost use Rattle.std.specs.Prelude.{◌≡◌, ◌+◌, ◌*◌, ◌≤◌, length};
 ghost use Rattle.mover.specs.Order.{Ask, cells, gone, sunk, raised};
 

@@ -4,7 +4,6 @@ use mathlib.Core.Path.{◌≡◌, refl, sym, ap, ap₂, ◌∙◌, subst}
 use mathlib.Core.Bool.{Bool, true, false, cond}
 use mathlib.Core.List.{List, [], ◌∷◌, map}
 use Prim.Native.Nat.{ℕ, zero, suc, ◌+◌, ◌*◌, ◌≤◌, ◌<◌}
-use native.Mathlib.Nat.{le_antisymm}
 use native.Mathlib.Numerals.{add-one}
 use native.Mathlib.Omega.{arith}
 use borrow.Author.Tests.{eq-eqb, ne_eqb, eqb-true, eqb-false}
@@ -20,7 +19,7 @@ use Rattle.inst.specs.declared.index.Reg.{Reg}
 use Rattle.model.specs.Move.{Pool, release, gives}
 use Rattle.inst.proofs.Indices.{among_made, word_made}
 use Rattle.pool.specs.declared.held.Pool.{Pool as Words}
-use Rattle.pool.specs.Pool.{Is, Turn, Ready, Positioned, Allotted, Allots, mark_at, last_at, wrote_at, new_at, after, typed, start, reg_or, regs_of, grow_if, piled, held_of, held_words, free_words, in_pool}
+use Rattle.pool.specs.Pool.{Is, Turn, Ready, Positioned, Allotted, mark_at, last_at, wrote_at, new_at, after, typed, start, reg_or, regs_of, grow_if, piled, held_of, held_words, free_words, in_pool}
 
 -- ---- one position
 
@@ -102,19 +101,6 @@ allotting_none {R} {m} {types} {w} {a} r held free next =
         low = record { free_low = λ f i. absurd i; held_low = λ h i. absurd i };
       };
       rest = record { size = refl; keeps = λ q k h. refl; next_is = n; types_are = refl; given_are = λ q x h. absurd (omega arith); given_later = λ q x h. refl; none_new = λ q h. absurd (omega arith) };
-    }
-
-pub allotting_ready : {R m p : ℕ} {types w v : List ℕ} {a : Words} → Ready R m types w → Allotting R m types w v a p → Ready R m types v
-allotting_ready {R} {m} {p} {types} {w} {v} r h =
-    let k = h.rest.keeps in
-    record {
-      regs = r.regs;
-      few_regs = r.few_regs;
-      few = r.few;
-      size = let a = r.size in let b = h.rest.size in omega arith;
-      types_ok = r.types_ok;
-      until_ok = λ q l. subst (λ (n : ℕ). n < 4096) (sym (k q 7 (omega arith))) (r.until_ok q l);
-      wrote_ok = λ q l. subst (λ (n : ℕ). (n ≡ absent → ⊥) → n < R) (sym (k q 8 (omega arith))) (r.wrote_ok q l);
     }
 
 -- what a position's turn makes of the pool
@@ -245,8 +231,3 @@ module _ {R m p : ℕ} {types w v v' : List ℕ} {a b : Words} (r : Ready R m ty
           none_new = none_next;
         });
       }
-
-pub allotting_end : {R m p : ℕ} {types w v : List ℕ} {a : Words} → Allotting R m types w v a p → m ≤ p → Allots R m types w v a.next
-allotting_end {R} {m} {p} {types} {w} {v} {a} h l =
-    let e : p ≡ m = le_antisymm h.high l in
-    record { all = subst (Allotted R types w v a.next) e h.rest; above = h.is.enough; below = let b = h.below in omega arith }

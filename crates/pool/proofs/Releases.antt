@@ -1,16 +1,14 @@
 -- What `release` makes free. Assumes nothing.
 use mathlib.Core.Path.{◌≡◌, refl, sym, ap, ◌∙◌, subst}
 use mathlib.Core.Bool.{Bool, true, false, not, cond}
-use mathlib.Core.List.{List, [], ◌∷◌, ◌++◌, append_assoc, append-nil}
+use mathlib.Core.List.{List, [], ◌∷◌, ◌++◌, append-nil}
 use Prim.Native.Nat.{ℕ, suc, ◌+◌, ◌<◌, ◌≤◌}
-use native.Mathlib.Numerals.{add-one}
 use native.Mathlib.Omega.{arith}
-use lib.ListN.{length, take, get_or, length-append}
+use lib.ListN.{length, take, length-append}
 use lib.Seq.{take-suc}
 use Rattle.std.specs.List.Retain.{RetainsInTurn}
 use Rattle.pool.specs.declared.held.Pool.{Pool as Words}
 use Rattle.pool.specs.Pool.{past, held_words, free_words, Released}
-use Rattle.words.proofs.Lists.{filter_yes, filter_no}
 use Rattle.words.specs.Lists.{filter}
 
 module _ (p : ℕ) where
@@ -68,24 +66,6 @@ module _ (p : ℕ) where
   releasing_none fs xs = record { gone = sym (append-nil fs) }
 
   module _ {fs xs gs : List ℕ} {i : ℕ} (h : Releasing fs xs gs i) (lt : i < length xs) where
-    abbrev w : ℕ
-    w = get_or xs i 0
-
-    front : take (i + 1) xs ≡ take i xs ++ (w ∷ [])
-    front = ap (λ (k : ℕ). take k xs) (add-one i) ∙ take-suc xs i 0 lt
-
-    pub releasing_gone : past p w ≡ true → Releasing fs xs (gs ++ (w ∷ [])) (i + 1)
-    releasing_gone e =
-        record {
-          gone =
-              ap (λ (l : List ℕ). l ++ (w ∷ [])) h.gone ∙ append_assoc fs (go_on (take i xs)) (w ∷ [])
-              ∙ ap (λ (l : List ℕ). fs ++ l) (sym (filter_yes (past p) (take i xs) w e) ∙ ap (filter (past p)) (sym front));
-        }
-
-    pub releasing_kept : past p w ≡ false → Releasing fs xs gs (i + 1)
-    releasing_kept e =
-        record { gone = h.gone ∙ ap (λ (l : List ℕ). fs ++ l) (sym (filter_no (past p) (take i xs) w e) ∙ ap (filter (past p)) (sym front)) }
-
     -- there is room for one more
     pub releasing_room : (n : ℕ) → length xs + length fs ≤ n → length gs < n
     releasing_room n few =

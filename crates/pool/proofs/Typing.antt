@@ -42,8 +42,8 @@ width_of ty b e = ap (λ (t : Bool). suc (from_bool t)) e
 grows : (n reg : ℕ) (ts : List ℕ) (ty : ℕ) (b : Bool) → reg ≡ n → eqb ty 4 ≡ b → grow_if (eqb reg n) ts ty ≡ ts ++ cond b (4 ∷ 0 ∷ []) (ty ∷ [])
 grows n reg ts ty b e f = ap (λ (c : Bool). grow_if c ts ty) (eq-eqb reg n e) ∙ ap (λ (c : Bool). ts ++ cond c (4 ∷ 0 ∷ []) (ty ∷ [])) f
 
-pub added_plain : {n d reg ty : ℕ} {xs : List ℕ} → reg ≡ n → n + width (get_or xs d 0) ≤ length xs → ty ≡ get_or xs d 0 → (ty ≡ 4 → ⊥) → TypeAdded n d reg xs (set xs n ty) (n + 1)
-added_plain {n} {d} {reg} {ty} {xs} is room et n4 =
+plain_added : {n d reg ty : ℕ} {xs : List ℕ} → reg ≡ n → n + width (get_or xs d 0) ≤ length xs → ty ≡ get_or xs d 0 → (ty ≡ 4 → ⊥) → TypeAdded n d reg xs (set xs n ty) (n + 1)
+plain_added {n} {d} {reg} {ty} {xs} is room et n4 =
     let b : eqb (get_or xs d 0) 4 ≡ false = ne_eqb (get_or xs d 0) 4 (λ q. n4 (et ∙ q)) in
     let wd = width_of (get_or xs d 0) false b in
     record {
@@ -55,8 +55,8 @@ added_plain {n} {d} {reg} {ty} {xs} is room et n4 =
           );
     }
 
-pub added_signal : {n d reg ty : ℕ} {xs : List ℕ} → reg ≡ n → n + width (get_or xs d 0) ≤ length xs → ty ≡ get_or xs d 0 → ty ≡ 4 → TypeAdded n d reg xs (set (set xs n ty) (n + 1) 0) (n + 2)
-added_signal {n} {d} {reg} {ty} {xs} is room et four =
+signal_added : {n d reg ty : ℕ} {xs : List ℕ} → reg ≡ n → n + width (get_or xs d 0) ≤ length xs → ty ≡ get_or xs d 0 → ty ≡ 4 → TypeAdded n d reg xs (set (set xs n ty) (n + 1) 0) (n + 2)
+signal_added {n} {d} {reg} {ty} {xs} is room et four =
     let b : eqb (get_or xs d 0) 4 ≡ true = eq-eqb (get_or xs d 0) 4 (sym et ∙ four) in
     let wd = width_of (get_or xs d 0) true b in
     record {
@@ -71,8 +71,21 @@ added_signal {n} {d} {reg} {ty} {xs} is room et four =
           );
     }
 
-pub signal_fits : (n ty l : ℕ) → n + width ty ≤ l → ty ≡ 4 → n + 1 < l
-signal_fits n ty l h e = let w = width_of ty true (eq-eqb ty 4 e) in omega arith
+-- a signal reference is just what takes two
+two : (ty : ℕ) (b : Bool) → eqb ty 4 ≡ b → width ty ≡ 2 → ty ≡ 4
+two ty true e w = eqb-true ty 4 e
+two ty false e w = let z : ◌≡◌ {A = ℕ} 1 2 = sym (width_of ty false e) ∙ w in absurd (omega arith)
+
+pub added_two : {n d reg ty k : ℕ} {xs : List ℕ} → k ≡ width ty → k ≡ 2 → reg ≡ n → n + width (get_or xs d 0) ≤ length xs → ty ≡ get_or xs d 0
+    → TypeAdded n d reg xs (set (set xs n ty) (n + 1) 0) (n + k)
+added_two {n} {d} {reg} {ty} {k} {xs} kw is2 is room et =
+    subst (λ (j : ℕ). TypeAdded n d reg xs (set (set xs n ty) (n + 1) 0) (n + j)) (sym is2) (signal_added is room et (two ty (eqb ty 4) refl (sym kw ∙ is2)))
+
+pub added_one : {n d reg ty k : ℕ} {xs : List ℕ} → k ≡ width ty → (k ≡ 2 → ⊥) → reg ≡ n → n + width (get_or xs d 0) ≤ length xs → ty ≡ get_or xs d 0
+    → TypeAdded n d reg xs (set xs n ty) (n + k)
+added_one {n} {d} {reg} {ty} {k} {xs} kw not2 is room et =
+    let n4 : ty ≡ 4 → ⊥ = λ q. not2 (kw ∙ width_of ty true (eq-eqb ty 4 q)) in
+    subst (λ (j : ℕ). TypeAdded n d reg xs (set xs n ty) (n + j)) (sym (kw ∙ width_of ty false (ne_eqb ty 4 n4))) (plain_added is room et n4)
 
 -- ---- the loop
 

@@ -3,8 +3,8 @@
 // fits are the new registers' types written, by `add_types`.
 #![tactic(auto)]
 
-pub mod allot;
-pub mod free;
-pub mod held;
-pub mod turn;
-pub mod types;
+pub mod allot; // every member's turn
+mod free; // the registers that are free
+mod held; // the pool
+mod turn; // one member's turn
+pub mod types; // the new registers' types

@@ -30,12 +30,12 @@ fn add_type(types: &mut [u32], n: usize, d: Option<Reg>, reg: u32) -> usize
         return n;
     };
     let ty = types[k.at()];
+    let width = width_of(ty) as usize;
     types[n] = ty;
-    if ty == SIG {
+    if width == 2 {
         types[n + 1] = 0;
-        return n + 2;
     }
-    n + 1
+    n + width
 }
 
 // The types of the registers that `allot` gave, where r are in use. Returns how many are in use then.

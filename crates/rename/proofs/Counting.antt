@@ -1,12 +1,11 @@
 -- Counting what the walk would append. Assumes nothing.
 use mathlib.Core.Path.{◌≡◌, refl, sym, ap, ap₂, ◌∙◌, subst}
-use mathlib.Core.Bool.{Bool, true, false, not, ◌&&◌, cond}
+use mathlib.Core.Bool.{Bool, true, false, false≢true, not, ◌&&◌, cond}
 use mathlib.Core.List.{List, [], ◌∷◌, ◌++◌, map}
 use Prim.Native.Nat.{ℕ, ◌+◌, ◌-◌, ◌*◌, ◌≤◌, ◌<◌}
 use native.Mathlib.Nat.{le_antisymm}
 use native.Mathlib.Numerals.{add-one}
 use native.Mathlib.Omega.{arith}
-use borrow.Author.Tests.{eqb-true, eqb-false}
 use lib.Dec.{eqb}
 use lib.ListN.{length, get_or, drop, length-append, length-map, length-drop}
 use lib.Seq.{length-take-le}
@@ -58,20 +57,20 @@ module _ {q u : ℕ} {ws xs ops : List ℕ} (k : CountAsk q u ws xs ops) where
 
 -- ---- one position
 
-pub counted_kept : {q u mark d nw : ℕ} {ws vs xs ops : List ℕ} → CountAsk q u ws xs ops → mark ≡ 0 → Forgot (inst xs q) ws vs 5 → Counted q mark d nw ws vs xs ops 0
+pub counted_kept : {q u d nw : ℕ} {gone : Bool} {ws vs xs ops : List ℕ} → CountAsk q u ws xs ops → gone ≡ false → Forgot (inst xs q) ws vs 5 → Counted q gone d nw ws vs xs ops 0
 counted_kept k z f = record {
   names_size = f.size;
   small = omega arith;
   kept = λ e. (refl, forgot_all k.line.known.within f);
-  moved = λ g. absurd (g z);
+  moved = λ g. absurd (false≢true (sym z ∙ g));
 }
 
-pub counted_moved : {q mark d nw r : ℕ} {ws vs xs ops : List ℕ} → (mark ≡ 0 → ⊥) → (r ≡ length (more_of ops (job (inst xs q) ws absent))) × (r ≤ 4294967295) → ((d ≡ absent → ⊥) → d < length ws) → nw < 4294967296
-    → vs ≡ put_name ws d nw → Counted q mark d nw ws vs xs ops r
-counted_moved {q} {mark} {d} {nw} {r} {ws} z c ok small e = record {
+pub counted_moved : {q d nw r : ℕ} {gone : Bool} {ws vs xs ops : List ℕ} → gone ≡ true → (r ≡ length (more_of ops (job (inst xs q) ws absent))) × (r ≤ 4294967295) → ((d ≡ absent → ⊥) → d < length ws) → nw < 4294967296
+    → vs ≡ put_name ws d nw → Counted q gone d nw ws vs xs ops r
+counted_moved {q} {d} {nw} {r} {ws} z c ok small e = record {
   names_size = ap length e ∙ put_size ws d nw;
   small = c.1;
-  kept = λ f. absurd (z f);
+  kept = λ f. absurd (false≢true (sym f ∙ z));
   moved = λ f. (c.0, λ y. ap (λ (l : List ℕ). named l y) e ∙ named_put ws d nw ok small y);
 }
 
@@ -92,7 +91,7 @@ pub counting_none : (lo m : ℕ) (ws xs ops w : List ℕ) → CountingX lo m ws 
 unfolding rd_after
 counting_none lo m ws xs ops w = record { high = omega arith; so_far = record { count = refl; small = omega arith; names_size = refl; names = λ y. refl } }
 
-module _ {lo m n p r : ℕ} {ws₀ ws vs xs ops w : List ℕ} (h : CountingX lo m ws₀ ws xs ops w n p) (lt : p < m) (c : Counted (lo + p) (mark_at w p) (wrote_at w p) (new_at w p) ws vs xs ops r) where
+module _ {lo m n p r : ℕ} {ws₀ ws vs xs ops w : List ℕ} (h : CountingX lo m ws₀ ws xs ops w n p) (lt : p < m) (c : Counted (lo + p) (goes w p) (wrote_at w p) (new_at w p) ws vs xs ops r) where
   abbrev jobs_at : ℕ → List Job
   jobs_at i = gone_jobs (named ws₀) w xs lo i
 
@@ -124,10 +123,10 @@ module _ {lo m n p r : ℕ} {ws₀ ws vs xs ops w : List ℕ} (h : CountingX lo 
     where
       go : (b : Bool) → eqb (mark_at w p) 0 ≡ b → CountingX lo m ws₀ vs xs ops w (n + r) (p + 1)
       go true e =
-          let k = c.kept (eqb-true (mark_at w p) 0 e) in
+          let k = c.kept (ap not e) in
           record { high = omega arith; so_far = record { count = count_is true e k.0; small = omega (arith, h.so_far.small, c.small); names_size = c.names_size ∙ h.so_far.names_size; names = λ y. next_is true e (named vs) y (k.1 y) } }
       go false e =
-          let k = c.moved (eqb-false (mark_at w p) 0 e) in
+          let k = c.moved (ap not e) in
           record { high = omega arith; so_far = record { count = count_is false e k.0; small = omega (arith, h.so_far.small, c.small); names_size = c.names_size ∙ h.so_far.names_size; names = λ y. next_is false e (named vs) y (k.1 y) } }
 
 pub counting_end : {lo m n p : ℕ} {ws₀ ws xs ops w : List ℕ} → CountingX lo m ws₀ ws xs ops w n p → m ≤ p → CountedX lo m ws₀ ws xs ops w n

@@ -1,6 +1,6 @@
 -- One record of a walk: what the walk asks of it, and what is left of that after others were made anew. Assumes nothing.
 use mathlib.Core.Path.{◌≡◌, refl, sym, ap, ap₂, ◌∙◌, subst}
-use mathlib.Core.Bool.{Bool, true, false, cond}
+use mathlib.Core.Bool.{Bool, true, false, false≢true, cond}
 use mathlib.Core.List.{List}
 use Prim.Native.Nat.{ℕ, ◌+◌, ◌*◌, ◌≤◌, ◌<◌}
 use native.Mathlib.Omega.{arith}
@@ -26,7 +26,7 @@ use Rattle.rename.proofs.Records.{inst_length, inst_same, one, made_slot}
 pub used_is : {R u q d : ℕ} {xs : List ℕ} → Line R u xs q → d ≡ uses_of (inst xs q) → Used xs q d
 used_is l e = record { within = l.known.within; uses = e }
 
-pub line_fit : {q u o mark d nw does : ℕ} {ws xs ops : List ℕ} → Pass q u o ws mark d nw xs ops → (mark ≡ 0 → ⊥) → does ≡ uses_of (inst xs q) → Fit q does u o ws nw xs ops
+pub line_fit : {q u o d nw does : ℕ} {gone : Bool} {ws xs ops : List ℕ} → Pass q u o ws gone d nw xs ops → gone ≡ true → does ≡ uses_of (inst xs q) → Fit q does u o ws nw xs ops
 line_fit p f e = record {
   known = used_is p.line e;
   few_regs = p.line.few_regs;
@@ -86,22 +86,22 @@ operands_still {R} {R'} {u} {o} {ops} {ops'} p e h size front = record {
 
 -- ---- one position of x
 
-pub pass_kept : {q u o mark d nw : ℕ} {ws vs xs ops : List ℕ} → Line (length ws) u xs q → mark ≡ 0 → Forgot (inst xs q) ws vs 5 → Passed q o mark d nw ws vs xs xs ops ops o
+pub pass_kept : {q u o d nw : ℕ} {gone : Bool} {ws vs xs ops : List ℕ} → Line (length ws) u xs q → gone ≡ false → Forgot (inst xs q) ws vs 5 → Passed q o gone d nw ws vs xs xs ops ops o
 pass_kept l z f = record {
   size = refl;
   ops_size = refl;
   names_size = f.size;
   kept = λ e. (refl, refl, refl, forgot_all l.known.within f);
-  moved = λ g. absurd (g z);
+  moved = λ g. absurd (false≢true (sym z ∙ g));
 }
 
-pub pass_moved : {q o mark d nw r : ℕ} {ws vs xs ys ops ops' : List ℕ} → (mark ≡ 0 → ⊥) → Remade q o ws nw xs ys ops ops' r → ((d ≡ absent → ⊥) → d < length ws) → nw < 4294967296 → vs ≡ put_name ws d nw
-    → Passed q o mark d nw ws vs xs ys ops ops' r
-pass_moved {q} {o} {mark} {d} {nw} {r} {ws} z m ok small e = record {
+pub pass_moved : {q o d nw r : ℕ} {gone : Bool} {ws vs xs ys ops ops' : List ℕ} → gone ≡ true → Remade q o ws nw xs ys ops ops' r → ((d ≡ absent → ⊥) → d < length ws) → nw < 4294967296 → vs ≡ put_name ws d nw
+    → Passed q o gone d nw ws vs xs ys ops ops' r
+pass_moved {q} {o} {d} {nw} {r} {ws} z m ok small e = record {
   size = m.size;
   ops_size = m.ops_size;
   names_size = ap length e ∙ put_size ws d nw;
-  kept = λ f. absurd (z f);
+  kept = λ f. absurd (false≢true (sym f ∙ z));
   moved = λ f. (m, λ y. ap (λ (l : List ℕ). named l y) e ∙ named_put ws d nw ok small y);
 }
 

@@ -95,7 +95,7 @@ module _ {u o a e n q : ℕ} {ws₀ ws xs ys ops₀ ops : List ℕ} (k : AskOwn 
   fits : n + length (more_of ops₀ J) ≤ length ops₀
   fits = let t = total in let r = k.room in let c = h.run.count in omega arith
 
-  pub owning_ask : Pass q u n ws 1 absent absent ys ops
+  pub owning_ask : Pass q u n ws true absent absent ys ops
   owning_ask =
       let c = h.run.count in
       let ku = k.used in

@@ -1,12 +1,11 @@
 -- The walk along x and the rest of the chain. Assumes nothing.
 use mathlib.Core.Path.{◌≡◌, refl, sym, ap, ap₂, ◌∙◌, subst}
-use mathlib.Core.Bool.{Bool, true, false, not, ◌&&◌, cond}
+use mathlib.Core.Bool.{Bool, true, false, false≢true, not, ◌&&◌, cond}
 use mathlib.Core.List.{List, [], ◌∷◌, ◌++◌, map, append-nil}
 use Prim.Native.Nat.{ℕ, suc, ◌+◌, ◌-◌, ◌*◌, ◌≤◌, ◌<◌}
 use native.Mathlib.Nat.{zero-add, le_antisymm}
 use native.Mathlib.Numerals.{add-one}
 use native.Mathlib.Omega.{arith}
-use borrow.Author.Tests.{eqb-true, eqb-false, eq-eqb, ne_eqb}
 use lib.Dec.{eqb}
 use lib.ListN.{length, get_or, drop, length-append, length-map, length-drop}
 use lib.Seq.{length-take-le}
@@ -22,6 +21,10 @@ use Rattle.rename.specs.Runs.{Line, Run, goes, rd_after, rd_rest, gone_places, g
 use Rattle.rename.proofs.Naming.{forgot_all}
 use Rattle.rename.proofs.Sequence.{parts_same, appended_append, appended_one, run_none, run_more}
 use Rattle.rename.proofs.Lines.{line_still, still, operands_still}
+
+stays_not : (b : Bool) → not b ≡ true → b ≡ false
+stays_not true e = absurd (false≢true e)
+stays_not false e = refl
 
 pub funext : (f g : ℕ → ℕ) → ((x : ℕ) → f x ≡ g x) → f ≡ g
 funext f g h = λ i x. h x i
@@ -105,11 +108,11 @@ module _ {u lo m n p : ℕ} {ws₀ ws xs ys ops₀ ops w : List ℕ} (k : AskX u
   abbrev jobs_at : ℕ → List Job
   jobs_at i = gone_jobs (named ws₀) w xs lo i
 
-  fits : (mark_at w p ≡ 0 → ⊥) → n + length (more_of ops₀ J) ≤ length ops₀
+  fits : eqb (mark_at w p) 0 ≡ false → n + length (more_of ops₀ J) ≤ length ops₀
   fits z =
       let rest : List Job = map (gone_job (named ws₀) w xs lo) (filter (goes w) (range (p + 1) (m - (p + 1)))) in
       let more : jobs_at (p + 1) ≡ jobs_at p ++ (J ∷ []) =
-      taken_more (gone_job (named ws₀) w xs lo) (goes w) p ∙ ap₂ (λ (b : Bool) (j : Job). jobs_at p ++ cond (not b) (j ∷ []) []) (ne_eqb (mark_at w p) 0 z) (sym job_is) in
+      taken_more (gone_job (named ws₀) w xs lo) (goes w) p ∙ ap₂ (λ (b : Bool) (j : Job). jobs_at p ++ cond (not b) (j ∷ []) []) z (sym job_is) in
       let total : length (appended ops₀ (jobs_at m)) ≡ length (appended ops₀ (jobs_at p)) + length (more_of ops₀ J) + length (appended ops₀ rest) =
       ap (λ (l : List Job). length (appended ops₀ l)) (taken_split (gone_job (named ws₀) w xs lo) (goes w) (p + 1) m (omega arith) ∙ ap (λ (l : List Job). l ++ rest) more)
       ∙ ap length (appended_append ops₀ (jobs_at p ++ (J ∷ [])) rest ∙ ap (λ (l : List ℕ). l ++ appended ops₀ rest) (appended_append ops₀ (jobs_at p) (J ∷ []) ∙ ap (λ (l : List ℕ). appended ops₀ (jobs_at p) ++ l) (appended_one ops₀ J)))
@@ -132,7 +135,7 @@ module _ {u lo m n p : ℕ} {ws₀ ws xs ys ops₀ ops w : List ℕ} (k : AskX u
       let c = h.run.count in
       omega arith
 
-  pub passing_ask : Pass q u n ws (mark_at w p) (wrote_at w p) nw ys ops
+  pub passing_ask : Pass q u n ws (goes w p) (wrote_at w p) nw ys ops
   passing_ask = record {
     line = line_still ys h.run.size line h.names_size word;
     operands = operands_still {o = u} k.operands h.names_size (omega arith) h.run.ops_size h.run.ops_front;
@@ -145,20 +148,19 @@ module _ {u lo m n p : ℕ} {ws₀ ws xs ys ops₀ ops w : List ℕ} (k : AskX u
         ∙ sym (word_is xs q 8 (omega arith)) ∙ sym (word 8 (omega arith)) in
         let more : length (more_of ops₀ J) ≡ get_or ys (16 * q + 8) 0 =
         ap (λ (b : Bool). length {A = ℕ} (elim b as (λ y. List ℕ) [ true ↦ new_list ops₀ J | false ↦ [] ])) (sym changes_is ∙ g) ∙ list_long in
-        let f = fits z in
+        let f = fits (stays_not (eqb (mark_at w p) 0) z) in
         let s = h.run.ops_size in
         omega arith;
   }
 
-  module _ {vs zs ops₂ : List ℕ} {r : ℕ} (s : Passed q n (mark_at w p) (wrote_at w p) nw ws vs ys zs ops ops₂ r) where
+  module _ {vs zs ops₂ : List ℕ} {r : ℕ} (s : Passed q n (goes w p) (wrote_at w p) nw ws vs ys zs ops ops₂ r) where
     abbrev places_at : ℕ → List ℕ
     places_at i = gone_places w lo i
 
-    kept_more : mark_at w p ≡ 0 → Passing u lo m ws₀ vs xs zs ops₀ ops₂ w r (p + 1)
+    kept_more : eqb (mark_at w p) 0 ≡ true → Passing u lo m ws₀ vs xs zs ops₀ ops₂ w r (p + 1)
     unfolding rd_after
-    kept_more z =
-        let a = s.kept z in
-        let t : eqb (mark_at w p) 0 ≡ true = eq-eqb (mark_at w p) 0 z in
+    kept_more t =
+        let a = s.kept (ap not t) in
         let ps_is : places_at p ≡ places_at (p + 1) =
         sym (taken_more (λ x. lo + x) (goes w) p ∙ ap (λ (b : Bool). places_at p ++ cond (not b) ((lo + p) ∷ []) []) t ∙ append-nil (places_at p)) in
         let js_is : jobs_at p ≡ jobs_at (p + 1) =
@@ -175,11 +177,10 @@ module _ {u lo m n p : ℕ} {ws₀ ws xs ys ops₀ ops w : List ℕ} (k : AskX u
               ∙ ap (λ (z : ℕ). rd_after (named ws₀) w xs lo z y) (sym (add-one p));
         }
 
-    moved_more : (mark_at w p ≡ 0 → ⊥) → Passing u lo m ws₀ vs xs zs ops₀ ops₂ w r (p + 1)
+    moved_more : eqb (mark_at w p) 0 ≡ false → Passing u lo m ws₀ vs xs zs ops₀ ops₂ w r (p + 1)
     unfolding rd_after
-    moved_more z =
-        let a = s.moved z in
-        let t : eqb (mark_at w p) 0 ≡ false = ne_eqb (mark_at w p) 0 z in
+    moved_more t =
+        let a = s.moved (ap not t) in
         let ps_is : places_at p ++ (q ∷ []) ≡ places_at (p + 1) =
         sym (taken_more (λ x. lo + x) (goes w) p ∙ ap (λ (b : Bool). places_at p ++ cond (not b) ((lo + p) ∷ []) []) t) in
         let js_is : jobs_at p ++ (J ∷ []) ≡ jobs_at (p + 1) =
@@ -200,8 +201,8 @@ module _ {u lo m n p : ℕ} {ws₀ ws xs ys ops₀ ops w : List ℕ} (k : AskX u
     passing_more = go (eqb (mark_at w p) 0) refl
       where
         go : (b : Bool) → eqb (mark_at w p) 0 ≡ b → Passing u lo m ws₀ vs xs zs ops₀ ops₂ w r (p + 1)
-        go true e = kept_more (eqb-true (mark_at w p) 0 e)
-        go false e = moved_more (eqb-false (mark_at w p) 0 e)
+        go true e = kept_more e
+        go false e = moved_more e
 
 pub passing_end : {u lo m n p : ℕ} {ws₀ ws xs ys ops₀ ops w : List ℕ} → Passing u lo m ws₀ ws xs ys ops₀ ops w n p → m ≤ p → PassedX u lo m ws₀ ws xs ys ops₀ ops w n
 passing_end {u} {lo} {m} {n} {p} {ws₀} {ws} {xs} {ys} {ops₀} {ops} {w} h l =

@@ -1,5 +1,5 @@
 -- 01, "The move": counting what the walk would append. Assumes nothing.
-use Rattle.std.specs.Prelude.{◌≡◌, cond, not, ◌&&◌, List, ℕ, ◌+◌, ◌*◌, ◌≤◌, ◌<◌, eqb, length}
+use Rattle.std.specs.Prelude.{◌≡◌, Bool, true, false, cond, not, ◌&&◌, List, ℕ, ◌+◌, ◌*◌, ◌≤◌, ◌<◌, eqb, length}
 use Rattle.words.specs.Lists.{mem}
 use Rattle.model.specs.Picture.{inst, absent, writes}
 use Rattle.model.specs.Move.{appended, more_of}
@@ -12,12 +12,12 @@ pub record CountAsk (q u : ℕ) (ws xs ops : List ℕ) : Type 0 where
   pub line : Line (length ws) u xs q
   pub operands : Operands (length ws) u ops
 
--- record q of x, by its mark
-pub record Counted (q mark d nw : ℕ) (ws vs xs ops : List ℕ) (r : ℕ) : Type 0 where
+-- record q of x, whether it goes or stays
+pub record Counted (q : ℕ) (gone : Bool) (d nw : ℕ) (ws vs xs ops : List ℕ) (r : ℕ) : Type 0 where
   pub names_size : length vs ≡ length ws
   pub small : r ≤ 4294967295
-  pub kept : mark ≡ 0 → (r ≡ 0) × ((y : ℕ) → named vs y ≡ pick (mem y (writes (inst xs q))) y (named ws y))
-  pub moved : (mark ≡ 0 → ⊥) → (r ≡ length (more_of ops (job (inst xs q) ws nw))) × ((y : ℕ) → named vs y ≡ cond (not (eqb d absent) && eqb y d) (reg_or nw y) (named ws y))
+  pub kept : gone ≡ false → (r ≡ 0) × ((y : ℕ) → named vs y ≡ pick (mem y (writes (inst xs q))) y (named ws y))
+  pub moved : gone ≡ true → (r ≡ length (more_of ops (job (inst xs q) ws nw))) × ((y : ℕ) → named vs y ≡ cond (not (eqb d absent) && eqb y d) (reg_or nw y) (named ws y))
 
 pub record CountX (u lo m : ℕ) (ws xs ops w : List ℕ) : Type 0 where
   pub lines : (p : ℕ) → p < m → Line (length ws) u xs (lo + p)

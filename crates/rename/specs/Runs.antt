@@ -71,25 +71,25 @@ gone_jobs rd w xs lo p = map (gone_job rd w xs lo) (filter (goes w) (upto p))
 -- ---- one position
 
 -- what its words say, of count registers
-pub record Parted (w : List ℕ) (p count : ℕ) (mark : ℕ) (def : Option Reg) (new : ℕ) : Type 0 where
-  pub mark_is : mark ≡ mark_at w p
+pub record Parted (w : List ℕ) (p count : ℕ) (gone : Bool) (def : Option Reg) (new : ℕ) : Type 0 where
+  pub goes_is : gone ≡ goes w p
   pub def_is : def ≡ reg_of (wrote_at w p) count
   pub new_is : new ≡ new_at w p
 
-pub record Pass (q u o : ℕ) (ws : List ℕ) (mark d nw : ℕ) (xs ops : List ℕ) : Type 0 where
+pub record Pass (q u o : ℕ) (ws : List ℕ) (gone : Bool) (d nw : ℕ) (xs ops : List ℕ) : Type 0 where
   pub line : Line (length ws) u xs q
   pub operands : Operands (length ws) u ops
   pub used : u ≤ o
   pub lent : o ≤ length ops
   pub wrote_ok : (d ≡ absent → ⊥) → d < length ws
-  pub room : (mark ≡ 0 → ⊥) → changes ops (job (inst xs q) ws nw) ≡ true → o + get_or xs (16 * q + 8) 0 ≤ length ops
+  pub room : gone ≡ true → changes ops (job (inst xs q) ws nw) ≡ true → o + get_or xs (16 * q + 8) 0 ≤ length ops
 
-pub record Passed (q o mark d nw : ℕ) (ws vs xs ys ops ops' : List ℕ) (r : ℕ) : Type 0 where
+pub record Passed (q o : ℕ) (gone : Bool) (d nw : ℕ) (ws vs xs ys ops ops' : List ℕ) (r : ℕ) : Type 0 where
   pub size : length ys ≡ length xs
   pub ops_size : length ops' ≡ length ops
   pub names_size : length vs ≡ length ws
-  pub kept : mark ≡ 0 → (ys ≡ xs) × (ops' ≡ ops) × (r ≡ o) × ((y : ℕ) → named vs y ≡ pick (mem y (writes (inst xs q))) y (named ws y))
-  pub moved : (mark ≡ 0 → ⊥) → Remade q o ws nw xs ys ops ops' r × ((y : ℕ) → named vs y ≡ cond (not (eqb d absent) && eqb y d) (reg_or nw y) (named ws y))
+  pub kept : gone ≡ false → (ys ≡ xs) × (ops' ≡ ops) × (r ≡ o) × ((y : ℕ) → named vs y ≡ pick (mem y (writes (inst xs q))) y (named ws y))
+  pub moved : gone ≡ true → Remade q o ws nw xs ys ops ops' r × ((y : ℕ) → named vs y ≡ cond (not (eqb d absent) && eqb y d) (reg_or nw y) (named ws y))
 
 -- ---- all m positions of the block that starts at lo
 

@@ -31,9 +31,9 @@ fn count_list(code: &Code, q: usize, names: &[u64]) -> usize
 // Record q of x, which is position k.
 fn count_pass(code: &Code, q: usize, names: &mut [u64], k: Part) -> usize
     requires { Exists (λ u. CountAsk q u names.old code.now.recs.now code.now.ops.now) × Among (length names.old) k.def }
-    ensures { Counted q k.mark (word_of k.def) k.new names.old names.new code.now.recs.now code.now.ops.now result }
+    ensures { Counted q k.goes (word_of k.def) k.new names.old names.new code.now.recs.now code.now.ops.now result }
 {
-    if k.mark == 0 {
+    if !k.goes {
         forget(&code.slots(q), names);
         return 0;
     }

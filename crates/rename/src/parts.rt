@@ -6,11 +6,11 @@ use inst::index::Reg;
 use position::{DEF, MARK, NEW, PLACE};
 use std::ops::Range;
 
-// A position of x: its mark, the register that it writes, and the word of the one that it gets in its place. That one is no `Reg`:
-// it is written, and nothing goes by it.
+// A position of x: whether it is a member, the register that it writes, and the word of the one that it gets in its place. That one is no
+// `Reg`: it is written, and nothing goes by it.
 #[derive(Clone, Copy, Debug, PartialEq, Eq)]
 pub(crate) struct Part {
-    pub(crate) mark: u32,
+    pub(crate) goes: bool,
     pub(crate) def: Option<Reg>,
     pub(crate) new: u32,
 }
@@ -29,12 +29,12 @@ pub struct Walk<'a> {
 // Position p, where names has `count` words.
 pub(crate) fn part_at(w: &[u32], p: usize, count: usize) -> Part
     requires { 10 * p + 10 ≤ length w.now }
-    ensures { Parted w.now p count result.mark result.def result.new }
+    ensures { Parted w.now p count result.goes result.def result.new }
 {
     let b = PLACE * p;
     let def = Reg::new(w[b + DEF], count);
     Part {
-        mark: w[b + MARK],
+        goes: w[b + MARK] != 0,
         def,
         new: w[b + NEW],
     }

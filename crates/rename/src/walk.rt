@@ -1,7 +1,7 @@
 // The walk that renames (01, "The move"): along x, whose members are made anew, on through the chain's other blocks, whose writes
 // are all kept, and through the target, whose reads are renamed until it writes the register itself. (The three slices that are
 // written stand side by side: a struct of them that is lent on in each turn gets no proof.)
-ghost use Rattle.std.specs.Prelude.{◌≡◌, ◌-◌, length};
+ghost use Rattle.std.specs.Prelude.{◌≡◌, true, ◌-◌, length};
 ghost use Rattle.inst.specs.Index.{word_of, Among};
 ghost use Rattle.model.specs.Picture.{absent};
 ghost use Rattle.words.specs.Lists.{range};
@@ -30,12 +30,12 @@ fn pass(
     names: &mut [u64],
     k: Part,
 ) -> usize
-    requires { Exists (λ u. Pass q u o names.old k.mark (word_of k.def) k.new recs.old ops.old) × Among (length names.old) k.def }
-    ensures { Passed q o k.mark (word_of k.def) k.new names.old names.new recs.old recs.new ops.old ops.new result }
+    requires { Exists (λ u. Pass q u o names.old k.goes (word_of k.def) k.new recs.old ops.old) × Among (length names.old) k.def }
+    ensures { Passed q o k.goes (word_of k.def) k.new names.old names.new recs.old recs.new ops.old ops.new result }
 {
     let rec = Record { recs, p: q };
     let does = t.used(rec.kind(), rec.form());
-    if k.mark == 0 {
+    if !k.goes {
         let slots = Slots { recs, p: q, does };
         forget(&slots, names);
         return o;
@@ -78,7 +78,7 @@ pub(crate) fn skip_all(code: &Code, walk: &Walk, names: &mut [u64])
 
 // Record q of the target: its reads are renamed, and then what it writes keeps its name.
 fn own(t: &Table, recs: &mut [u32], q: usize, ops: &mut [u32], o: usize, names: &mut [u64]) -> usize
-    requires { Exists (λ u. Pass q u o names.old 1 absent absent recs.old ops.old) }
+    requires { Exists (λ u. Pass q u o names.old true absent absent recs.old ops.old) }
     ensures { Owned q o names.old names.new recs.old recs.new ops.old ops.new result }
 {
     let rec = Record { recs, p: q };

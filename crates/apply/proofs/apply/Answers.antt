@@ -5,11 +5,8 @@ use Rattle.apply.proofs.Asked.{x_words, t_words, types_fit, move_at, bounds_at}
 use Rattle.apply.proofs.Done.{ask_at, room_at, apply_law}
 use Rattle.apply.proofs.apply.Goals as goal
 
-pub start-requires : goal.start-requires
-start-requires c = x_words c.requires.t_value
-
-pub target-requires : goal.target-requires
-target-requires c = t_words c.requires.t_value
+pub walk-walk-requires : goal.walk-walk-requires
+walk-walk-requires c = (x_words c.requires.t_value, t_words c.requires.t_value)
 
 pub add_types-requires : goal.add_types-requires
 add_types-requires c = types_fit c.requires.t_value c.requires.fits.0
@@ -19,18 +16,17 @@ rename_all-requires c =
     let g = c.args in
     let m = g.m in
     let k = c.requires.t_value in
-    let el = c.start.ensures in
-    let ea = c.target.ensures.start in
-    let ee = c.target.ensures.end in
-    let room = room_at m.from.0 m.into.0 m.inside m.places g.c.opers g.bounds.now g.recs.now g.ops.now g.w.now el ea ee c.requires.fits.0.opers in
+    let walk = c.walk-walk.ensures in
+    let room = room_at m.from.0 m.into.0 m.inside m.places g.c.opers g.bounds.now g.recs.now g.ops.now g.w.now walk.from walk.start walk.end c.requires.fits.0.opers in
     record {
-      t_value = (ask_at k el ea ee);
-      past_in_bounds = room;
+      t_value = rw (walk.inside.0, walk.inside.1, walk.words) (ask_at k walk.from walk.start walk.end);
+      past_in_bounds = rw (walk.inside.0, walk.inside.1, walk.words) room;
     }
 
 pub move_all-requires : goal.move_all-requires
 move_all-requires c =
-    move_at c.requires.t_value _ _ _ refl c.requires.fits.1 c.rename_all.ensures.size c.start.ensures c.target.ensures.start
+    let walk = c.walk-walk.ensures in
+    move_at c.requires.t_value _ _ _ refl c.requires.fits.1 c.rename_all.ensures.size walk.from walk.start
 
 pub count-requires : goal.count-requires
 count-requires c =
@@ -42,5 +38,6 @@ move_bounds-requires c = bounds_at c.requires.t_value c.count.ensures
 
 pub returns : goal.returns
 returns c =
-    apply_law c.requires.t_value c.start.ensures c.target.ensures.start c.target.ensures.end c.count.ensures c.add_types.ensures.0
-    c.rename_all.ensures c.move_all.ensures c.requires.fits.1.each_or_none c.move_bounds.ensures
+    let walk = c.walk-walk.ensures in
+    apply_law c.requires.t_value walk.from walk.start walk.end c.count.ensures c.add_types.ensures.0
+    (rw (walk.inside.0, walk.inside.1, walk.words) at c.rename_all.ensures) c.move_all.ensures c.requires.fits.1.each_or_none c.move_bounds.ensures

@@ -6,18 +6,17 @@ use Rattle.apply.proofs.needs.needs.Goals as goal
 pub allot-regs-requires : goal.allot-regs-requires
 allot-regs-requires c = ready c.requires.is
 
-pub start-requires : goal.start-requires
-start-requires c = x_words c.requires.is
-
-pub target-requires : goal.target-requires
-target-requires c = t_words c.requires.is
+pub walk-walk-requires : goal.walk-walk-requires
+walk-walk-requires c = (x_words c.requires.is, t_words c.requires.is)
 
 pub count_all-more-requires : goal.count_all-more-requires
 count_all-more-requires c =
     let l = c.allot-regs.ensures in
+    let walk = c.walk-walk.ensures in
     let kept = asks_kept _ _ l.all.keeps l.all.size c.requires.is in
-    (record { u = c.args.c.opers; is = ask_at kept c.start.ensures c.target.ensures.start c.target.ensures.end })
+    record { u = c.args.c.opers; is = rw (walk.inside.0, walk.inside.1, walk.words) (ask_at kept walk.from walk.start walk.end) }
 
 pub returns : goal.returns
 returns c =
-    needs_law c.requires.is c.allot-regs.ensures c.start.ensures c.target.ensures.start c.target.ensures.end c.count_all-more.ensures.0
+    let walk = c.walk-walk.ensures in
+    needs_law c.requires.is c.allot-regs.ensures walk.from walk.start walk.end (rw (walk.inside.0, walk.inside.1, walk.words) at c.count_all-more.ensures.0)

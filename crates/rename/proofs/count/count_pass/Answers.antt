@@ -1,4 +1,5 @@
 -- `rename::count::count_pass` meets its contract. Assumes nothing.
+use Rattle.std.proofs.Common.{rules}
 use native.Mathlib.Omega.{arith}
 use Rattle.rename.proofs.Lines.{slots_ok, slots_forgot}
 use Rattle.rename.proofs.Positions.{among_ok}
@@ -14,8 +15,8 @@ forget-requires c =
     let e = c.slots.ensures in
     record { few = l.few_regs; by_index = slots_ok l e.recs e.place }
 
-pub returns-then-k-eq0 : goal.returns-then-k-eq0
-returns-then-k-eq0 c = counted_kept c.requires.0.is c.if-k-eq0.true (slots_forgot c.slots.ensures.recs c.slots.ensures.place c.forget.ensures)
+pub returns-then-not-k : goal.returns-then-not-k
+returns-then-not-k c = counted_kept c.requires.0.is (search rules) (slots_forgot c.slots.ensures.recs c.slots.ensures.place c.forget.ensures)
 
 pub returns : goal.returns
-returns c = counted_moved c.if-k-eq0.false c.count_list-r.ensures (among_ok _ c.args.k.def c.requires.1) (omega arith) c.put.ensures
+returns c = counted_moved (search rules) c.count_list-r.ensures (among_ok _ c.args.k.def c.requires.1) (omega arith) c.put.ensures

@@ -1,11 +1,11 @@
 -- `rename::walk::own` meets its contract. Assumes nothing.
-use native.Mathlib.Omega.{arith}
+use mathlib.Core.Path.{refl}
 use Rattle.inst.proofs.Resolved.{uses_by}
 use Rattle.rename.proofs.Lines.{line_fit, used_after, written_after, own_law}
 use Rattle.rename.proofs.walk.own.Goals as goal
 
 pub remake-r-requires : goal.remake-r-requires
-remake-r-requires c = let p = c.requires in record { u = p.u; is = line_fit p.is (λ z. omega arith) (uses_by _ c.kind.ensures c.form.ensures c.used-does.ensures) }
+remake-r-requires c = let p = c.requires in record { u = p.u; is = line_fit p.is refl (uses_by _ c.kind.ensures c.form.ensures c.used-does.ensures) }
 
 pub invariant_of-slots : goal.invariant_of-slots
 invariant_of-slots c = record { used = used_after c.requires.is.line (uses_by _ c.kind.ensures c.form.ensures c.used-does.ensures) c.remake-r.ensures }

@@ -1,4 +1,5 @@
 -- `rename::walk::pass` meets its contract. Assumes nothing.
+use Rattle.std.proofs.Common.{rules}
 use native.Mathlib.Omega.{arith}
 use Rattle.inst.proofs.Resolved.{uses_by}
 use Rattle.rename.proofs.Lines.{used_is, line_fit, written_ok, pass_kept, pass_moved}
@@ -11,11 +12,11 @@ pub forget-requires : goal.forget-requires
 forget-requires c = let l = c.requires.0.is.line in
     record { few = l.few_regs; by_index = written_ok l }
 
-pub returns-then-k-eq0 : goal.returns-then-k-eq0
-returns-then-k-eq0 c = pass_kept c.requires.0.is.line c.if-k-eq0.true c.forget.ensures
+pub returns-then-not-k : goal.returns-then-not-k
+returns-then-not-k c = pass_kept c.requires.0.is.line (search rules) c.forget.ensures
 
 pub remake-r-requires : goal.remake-r-requires
-remake-r-requires c = let p = c.requires.0 in record { u = p.u; is = line_fit p.is c.if-k-eq0.false (uses_by _ c.kind.ensures c.form.ensures c.used-does.ensures) }
+remake-r-requires c = let p = c.requires.0 in record { u = p.u; is = line_fit p.is (search rules) (uses_by _ c.kind.ensures c.form.ensures c.used-does.ensures) }
 
 pub returns : goal.returns
-returns c = pass_moved c.if-k-eq0.false c.remake-r.ensures c.requires.0.is.wrote_ok (omega arith) c.put.ensures
+returns c = pass_moved (search rules) c.remake-r.ensures c.requires.0.is.wrote_ok (omega arith) c.put.ensures
