@@ -15,7 +15,7 @@ fn past(w: u32, p: u32) -> bool
     w / UNTIL < p
 }
 
-// Those of them whose last reader is before p go behind those that are free.
+// Those held whose last reader is before p go behind those that are free.
 fn free_past(held: &[u32], free: &mut ArrayVec<u32, RECORDS>, p: u32)
     requires { length held.now + length free.old.items ≤ 800 }
     ensures { free.new.items ≡ free.old.items ++ filter (past p) held.now }
@@ -46,8 +46,8 @@ fn last_of(words: &[u32], ty: u32) -> Option<usize>
 impl Pool {
     ghost use Rattle.pool.specs.Pool.{Released, Top};
 
-    // Those held whose last reader is before p become free ("once its last reader is before the present member"). In many turns there
-    // are none, and the others need no second look then.
+    // Those held whose last reader is before p become free ("once its last reader is before the present member"). Where there are none,
+    // those held are not looked at again.
     pub(crate) fn release(&mut self, p: u32)
         ensures { Released p self.old self.new }
     {
