@@ -121,8 +121,8 @@ module _ (ss : List ℕ) (n w into other : ℕ) (hi : into < n) (ho : other < n)
     same_back : (xs : List ℕ) → drop (n * w + n * w + w) (front ++ xs) ≡ drop w xs
     same_back xs = ap (λ (k : ℕ). drop (k + w) (front ++ xs)) (sym lf) ∙ drop-append-add front xs w
 
-    pub row_put : {work : List ℕ} {i : ℕ} → work ≡ old → w ≤ i → Going front ss n w into other i row → Put work ss n w into other w new
-    row_put {work} {i} e wi g = subst (λ (l : List ℕ). Put l ss n w into other w new) (sym e) (record {
+    pub row_put : {work : List ℕ} {i : ℕ} → work ≡ old → w ≤ i → Going front ss n w into other i row → Put work ss n w into other new
+    row_put {work} {i} e wi g = subst (λ (l : List ℕ). Put l ss n w into other new) (sym e) (record {
       size = let a = length-append front (row ++ drop w back) in let b = length-append row (drop w back) in let c = length-append front back in let d = length-drop w back in omega arith;
       front = same_front (row ++ drop w back) ∙ sym (same_front back);
       back = same_back (row ++ drop w back) ∙ ap (λ (k : ℕ). drop k (row ++ drop w back)) (sym lr) ∙ drop-append_seam row (drop w back) ∙ sym (same_back back);
@@ -153,5 +153,5 @@ module _ {bounds recs pairs targets : List ℕ} {into : ℕ} (ss : List ℕ) (e 
         block : {b : ℕ} → b < length bounds / 2 → b < nblocks P
         block {b} l = subst (λ (x : List ℕ). b < length x / 2) (sym sh.bounds_are) l
 
-    pub needed_is : {m : List ℕ} → Put bits ss (length bounds / 2) w into other w m → Needed bounds recs pairs targets w into other bits m
+    pub needed_is : {m : List ℕ} → Put bits ss (length bounds / 2) w into other m → Needed bounds recs pairs targets w into other bits m
     needed_is p = record { size = p.size; front = p.front; back = p.back; row = λ P sh live wrote r h. p.row r h ∙ wanted_is P sh live wrote r h }

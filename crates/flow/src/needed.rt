@@ -32,7 +32,7 @@ fn needed_word(
 // The whole row.
 fn put_row(work: &mut [u64], succs: Succs<'_>, grid: Grid, into: BlockId, other: BlockId)
     requires { Fits grid.blocks grid.width into.0 other.0 work.old × (succs.count ≡ grid.blocks) }
-    ensures { Put work.old succs.entry.list.now grid.blocks grid.width into.0 other.0 grid.width work.new }
+    ensures { Put work.old succs.entry.list.now grid.blocks grid.width into.0 other.0 work.new }
 {
     let (rows, row) = work.split_at_mut(grid.needed());
     for (i, word) in row[..grid.width].iter_mut().enumerate() {
