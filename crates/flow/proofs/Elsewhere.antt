@@ -2,13 +2,14 @@
 use mathlib.Core.Path.{◌≡◌, sym, ap, ap₂, ◌∙◌, subst}
 use mathlib.Core.Logic.{⊎_elim}
 use mathlib.Core.Bool.{Bool, not, ◌&&◌, ◌||◌}
-use mathlib.Core.List.{List, []}
-use Prim.Native.Nat.{ℕ, ◌+◌, ◌-◌, ◌*◌, ◌/◌, ◌%◌, ◌^◌, ◌<◌, min, max}
+use mathlib.Core.List.{List, [], ◌++◌}
+use Prim.Native.Nat.{ℕ, ◌+◌, ◌-◌, ◌*◌, ◌/◌, ◌%◌, ◌^◌, ◌≤◌, ◌<◌, min, max}
 use native.Mathlib.Nat.{add-mul, zero-max}
 use native.Mathlib.Omega.{arith}
 use lib.Bits.{bit_and, bit_or}
-use lib.ListN.{length, get_or, set, take, length-set}
-use lib.Seq.{get_or-set_same, get_or-set_other, take-set-le, drop-set-lt}
+use lib.ListN.{length, get_or, set, take, drop, length-drop, length-append, get_or-append}
+use lib.Seq.{get_or-set_same, get_or-set_other, drop-append-add, drop-append_seam}
+use Rattle.std.proofs.lemmas.List.{get_or-append-add, take-append-le}
 use Rattle.words.specs.Bits.{digit, digit_in, is_in}
 use Rattle.words.specs.Lists.{any, hit}
 use Rattle.words.proofs.Bools.{hit_or, hit_and, hit_not, hit_inj, eq?}
@@ -27,7 +28,7 @@ use Rattle.flow.proofs.Whole.{succs_whole}
 use Rattle.cfg.proofs.Successors.{next_block}
 use Rattle.flow.proofs.Least.{cell_is}
 use Rattle.flow.proofs.Outs.{gathered_bit}
-use Rattle.flow.specs.Needed.{Fits, wanted, Word, Put, Shows, Needed}
+use Rattle.flow.specs.Needed.{wanted, Word, Put, Shows, Needed}
 
 -- ---- a word of the row
 
@@ -63,43 +64,70 @@ in_word : (l : List ℕ) (at r : ℕ) → hit (is_in l (64 * at + r)) ≡ digit 
 unfolding digit_in
 in_word l at r = hit_in l (64 * at + r) ∙ ap₂ (λ (a b : ℕ). digit (get_or l a 0) b) (row_word at r) (row_place at r)
 
-module _ {bits : List ℕ} {n w into other : ℕ} (f : Fits n w into other bits) where
-  abbrev o : ℕ
-  o = n * w + n * w
+in_row : (l : List ℕ) (r : ℕ) → hit (is_in l r) ≡ digit (get_or l (r / 64) 0) (r % 64)
+unfolding digit_in
+in_row l r = hit_in l r
 
-  module _ (ss : List ℕ) (next : (j : ℕ) → j < length ss → get_or ss j 0 < n) where
-    -- the rows in front are as they were, so they say the same of each register
-    wanted_front : (m : List ℕ) → take o m ≡ take o bits → (r : ℕ) → r < 64 * w → wanted m ss n w into other r ≡ wanted bits ss n w into other r
-    unfolding wanted
-    wanted_front m e r h = ap₂ (λ (a b : Bool). a || b) (in_front m bits o (64 * (other * w) + r) e (omega (arith, row_fits w f.branch)))
-        (ap₂ (λ (a b : Bool). a && b)
-        (any_on (λ s. is_in m (64 * (s * w) + r)) (λ s. is_in bits (64 * (s * w) + r)) ss
-        (λ s i. let z = in_index 0 s ss i in let l : s < n = subst (λ (x : ℕ). x < n) z.2 (next z.0 z.1) in in_front m bits o (64 * (s * w) + r) e (omega (arith, row_fits w l))))
-        (ap not (in_front m bits o (64 * ((n + into) * w) + r) e (omega (arith, row_fits w f.target, add-mul n into w)))))
+-- the first i words of the row are put, from the rows in `bits`
+pub record Going (bits ss : List ℕ) (n w into other i : ℕ) (row : List ℕ) : Type 0 where
+  pub bit : (r : ℕ) → r < 64 * i → is_in row r ≡ wanted bits ss n w into other r
 
-    put_more : {i v : ℕ} (m : List ℕ) → Put bits ss n w into other i m → i < w → Word m ss n w into other i v → Put bits ss n w into other (i + 1) (set m (o + i) v)
-    put_more {i} {v} m p l k = record {
-      size = length-set m (o + i) v ∙ p.size;
-      front = take-set-le o m (o + i) v (omega arith) ∙ p.front;
-      back = drop-set-lt (o + w) m (o + i) v (omega arith) ∙ p.back;
-      row = λ r h. ⊎_elim (here r) (λ (d : r / 64 ≡ i → ⊥). there r d (omega arith)) (eq? (r / 64) i);
-    }
-      where
-        fits : o + i < length m
-        fits = omega (arith, p.size, f.room)
+module _ {bits ss : List ℕ} {n w into other : ℕ} where
+  pub row_none : (row : List ℕ) → Going bits ss n w into other 0 row
+  row_none row = record { bit = λ r h. absurd (omega arith) }
 
-        here : (r : ℕ) → r / 64 ≡ i → is_in (set m (o + i) v) (64 * o + r) ≡ wanted bits ss n w into other r
-        here r e = hit_inj (is_in (set m (o + i) v) (64 * o + r)) (wanted bits ss n w into other r)
-            (in_word (set m (o + i) v) o r ∙ ap (λ (k : ℕ). digit (get_or (set m (o + i) v) (o + k) 0) (r % 64)) e
-            ∙ ap (λ (x : ℕ). digit x (r % 64)) (get_or-set_same m (o + i) v 0 fits) ∙ k.bit r e ∙ ap hit (wanted_front m p.front r (omega arith)))
+  pub row_next : {i v : ℕ} (m : List ℕ) → Going bits ss n w into other i m → i < length m → Word bits ss n w into other i v → Going bits ss n w into other (i + 1) (set m i v)
+  row_next {i} {v} m p l k = record { bit = λ r h. ⊎_elim (here r) (λ (d : r / 64 ≡ i → ⊥). there r d (omega arith)) (eq? (r / 64) i) }
+    where
+      here : (r : ℕ) → r / 64 ≡ i → is_in (set m i v) r ≡ wanted bits ss n w into other r
+      here r e = hit_inj (is_in (set m i v) r) (wanted bits ss n w into other r)
+          (in_row (set m i v) r ∙ ap (λ (k : ℕ). digit (get_or (set m i v) k 0) (r % 64)) e
+          ∙ ap (λ (x : ℕ). digit x (r % 64)) (get_or-set_same m i v 0 l) ∙ k.bit r e)
 
-        there : (r : ℕ) → (r / 64 ≡ i → ⊥) → r < 64 * i → is_in (set m (o + i) v) (64 * o + r) ≡ wanted bits ss n w into other r
-        there r d h = hit_inj (is_in (set m (o + i) v) (64 * o + r)) (is_in m (64 * o + r))
-            (in_word (set m (o + i) v) o r ∙ ap (λ (x : ℕ). digit x (r % 64)) (get_or-set_other m (o + i) (o + r / 64) v 0 (λ q. d (omega arith))) ∙ sym (in_word m o r))
-            ∙ p.row r h
+      there : (r : ℕ) → (r / 64 ≡ i → ⊥) → r < 64 * i → is_in (set m i v) r ≡ wanted bits ss n w into other r
+      there r d h = hit_inj (is_in (set m i v) r) (is_in m r)
+          (in_row (set m i v) r ∙ ap (λ (x : ℕ). digit x (r % 64)) (get_or-set_other m i (r / 64) v 0 (λ q. d (omega arith))) ∙ sym (in_row m r))
+          ∙ p.bit r h
 
-    pub put_next : {at i v : ℕ} (m : List ℕ) → at ≡ o → Put bits ss n w into other i m → i < w → Word m ss n w into other i v → Put bits ss n w into other (i + 1) (set m (at + i) v)
-    put_next {at} {i} {v} m e p l k = subst (λ (x : ℕ). Put bits ss n w into other (i + 1) (set m (x + i) v)) (sym e) (put_more m p l k)
+-- ---- the whole row, between the rows `front` and what lies behind
+
+module _ (ss : List ℕ) (n w into other : ℕ) (hi : into < n) (ho : other < n) (next : (j : ℕ) → j < length ss → get_or ss j 0 < n) where
+  -- rows that are the same say the same of each register
+  wanted_front : (bits m : List ℕ) → take (n * w + n * w) m ≡ take (n * w + n * w) bits → (r : ℕ) → r < 64 * w → wanted m ss n w into other r ≡ wanted bits ss n w into other r
+  unfolding wanted
+  wanted_front bits m e r h = ap₂ (λ (a b : Bool). a || b) (in_front m bits (n * w + n * w) (64 * (other * w) + r) e (omega (arith, row_fits w ho)))
+      (ap₂ (λ (a b : Bool). a && b)
+      (any_on (λ s. is_in m (64 * (s * w) + r)) (λ s. is_in bits (64 * (s * w) + r)) ss
+      (λ s i. let z = in_index 0 s ss i in let l : s < n = subst (λ (x : ℕ). x < n) z.2 (next z.0 z.1) in in_front m bits (n * w + n * w) (64 * (s * w) + r) e (omega (arith, row_fits w l))))
+      (ap not (in_front m bits (n * w + n * w) (64 * ((n + into) * w) + r) e (omega (arith, row_fits w hi, add-mul n into w)))))
+
+  module _ (front back row : List ℕ) (lf : length front ≡ n * w + n * w) (lb : w ≤ length back) (lr : length row ≡ w) where
+    abbrev old : List ℕ
+    old = front ++ back
+
+    abbrev new : List ℕ
+    new = front ++ (row ++ drop w back)
+
+    the_row : (r : ℕ) → r < 64 * w → is_in new (64 * (n * w + n * w) + r) ≡ is_in row r
+    the_row r h = hit_inj (is_in new (64 * (n * w + n * w) + r)) (is_in row r)
+        (in_word new (n * w + n * w) r
+        ∙ ap (λ (k : ℕ). digit (get_or new (k + r / 64) 0) (r % 64)) (sym lf)
+        ∙ ap (λ (x : ℕ). digit x (r % 64)) (get_or-append-add front (row ++ drop w back) (r / 64) 0 ∙ get_or-append row (drop w back) 0 (r / 64) (omega arith))
+        ∙ sym (in_row row r))
+
+    same_front : (xs : List ℕ) → take (n * w + n * w) (front ++ xs) ≡ take (n * w + n * w) front
+    same_front xs = take-append-le (n * w + n * w) front xs (omega arith)
+
+    same_back : (xs : List ℕ) → drop (n * w + n * w + w) (front ++ xs) ≡ drop w xs
+    same_back xs = ap (λ (k : ℕ). drop (k + w) (front ++ xs)) (sym lf) ∙ drop-append-add front xs w
+
+    pub row_put : {work : List ℕ} {i : ℕ} → work ≡ old → w ≤ i → Going front ss n w into other i row → Put work ss n w into other new
+    row_put {work} {i} e wi g = subst (λ (l : List ℕ). Put l ss n w into other new) (sym e) (record {
+      size = let a = length-append front (row ++ drop w back) in let b = length-append row (drop w back) in let c = length-append front back in let d = length-drop w back in omega arith;
+      front = same_front (row ++ drop w back) ∙ sym (same_front back);
+      back = same_back (row ++ drop w back) ∙ ap (λ (k : ℕ). drop k (row ++ drop w back)) (sym lr) ∙ drop-append_seam row (drop w back) ∙ sym (same_back back);
+      row = λ r h. the_row r h ∙ g.bit r (omega arith) ∙ sym (wanted_front front old (same_front back) r h);
+    })
 
 -- ---- of a whole picture
 
@@ -125,5 +153,5 @@ module _ {bounds recs pairs targets : List ℕ} {into : ℕ} (ss : List ℕ) (e 
         block : {b : ℕ} → b < length bounds / 2 → b < nblocks P
         block {b} l = subst (λ (x : List ℕ). b < length x / 2) (sym sh.bounds_are) l
 
-    pub needed_is : {m : List ℕ} → Put bits ss (length bounds / 2) w into other w m → Needed bounds recs pairs targets w into other bits m
+    pub needed_is : {m : List ℕ} → Put bits ss (length bounds / 2) w into other m → Needed bounds recs pairs targets w into other bits m
     needed_is p = record { size = p.size; front = p.front; back = p.back; row = λ P sh live wrote r h. p.row r h ∙ wanted_is P sh live wrote r h }

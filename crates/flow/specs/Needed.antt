@@ -22,12 +22,12 @@ wanted bits ss n w into other r =
 pub record Word (bits ss : List ℕ) (n w into other i v : ℕ) : Type 0 where
   pub bit : (r : ℕ) → r / 64 ≡ i → digit v (r % 64) ≡ hit (wanted bits ss n w into other r)
 
--- the first k words of the row are put, and nothing else is changed
-pub record Put (bits ss : List ℕ) (n w into other k : ℕ) (bits' : List ℕ) : Type 0 where
+-- the row is put, and nothing else is changed
+pub record Put (bits ss : List ℕ) (n w into other : ℕ) (bits' : List ℕ) : Type 0 where
   pub size : length bits' ≡ length bits
   pub front : take (n * w + n * w) bits' ≡ take (n * w + n * w) bits
   pub back : drop (n * w + n * w + w) bits' ≡ drop (n * w + n * w + w) bits
-  pub row : (r : ℕ) → r < 64 * k → is_in bits' (64 * (n * w + n * w) + r) ≡ wanted bits ss n w into other r
+  pub row : (r : ℕ) → r < 64 * w → is_in bits' (64 * (n * w + n * w) + r) ≡ wanted bits ss n w into other r
 
 -- P is a picture of these lists
 pub record Shows (P : Picture) (bounds recs pairs targets : List ℕ) : Type 0 where

@@ -2,6 +2,7 @@
 // target unless written there"), as a row of bits behind the rows of live-in and of what each block writes.
 ghost use Rattle.std.specs.Prelude.{◌≡◌, ◌+◌, ◌*◌, ◌/◌, ◌≤◌, ◌<◌, length};
 ghost use Rattle.cfg.specs.Func.{blocks_of};
+ghost use Rattle.defuse.specs.Sets.{Room};
 ghost use Rattle.flow.specs.Needed.{Fits, Word, Put, Needed};
 
 use crate::grid::Grid;
@@ -19,7 +20,7 @@ fn needed_word(
     other: BlockId,
     i: usize,
 ) -> u64
-    requires { Fits grid.blocks grid.width into.0 other.0 bits.now × (succs.count ≡ grid.blocks) × (i < grid.width) }
+    requires { Room grid.blocks grid.width bits.now × (into.0 < grid.blocks) × (other.0 < grid.blocks) × (succs.count ≡ grid.blocks) × (i < grid.width) }
     ensures { Word bits.now succs.entry.list.now grid.blocks grid.width into.0 other.0 i result }
 {
     let live = bits[grid.live(other) + i];
@@ -31,11 +32,11 @@ fn needed_word(
 // The whole row.
 fn put_row(work: &mut [u64], succs: Succs<'_>, grid: Grid, into: BlockId, other: BlockId)
     requires { Fits grid.blocks grid.width into.0 other.0 work.old × (succs.count ≡ grid.blocks) }
-    ensures { Put work.old succs.entry.list.now grid.blocks grid.width into.0 other.0 grid.width work.new }
+    ensures { Put work.old succs.entry.list.now grid.blocks grid.width into.0 other.0 work.new }
 {
-    let at = grid.needed();
-    for i in 0..grid.width {
-        work[at + i] = needed_word(work, succs, grid, into, other, i);
+    let (rows, row) = work.split_at_mut(grid.needed());
+    for (i, word) in row[..grid.width].iter_mut().enumerate() {
+        *word = needed_word(rows, succs, grid, into, other, i);
     }
 }
 
