@@ -83,7 +83,7 @@ impl Lasts {
         }
     }
 
-    // Position q, of fact f, is a member, or kept.
+    // Position q, of fact f, is a member, or kept: asked here once for both steps backward.
     pub fn note(&mut self, f: Fact, member: bool, q: usize)
         requires { (q < 800) × (f.wrote ≤ 2004) }
         ensures { self.new ≡ noting f member q self.old }
