@@ -1,5 +1,5 @@
 // Sole predecessors (01, "A round"; in the Rust `find_preds`): each block tells the blocks that it goes to, in two words a block.
-ghost use Rattle.std.specs.Prelude.{◌≡◌, ℕ, ◌+◌, ◌*◌, ◌≤◌, ◌<◌, length, get_or};
+ghost use Rattle.std.specs.Prelude.{◌≡◌, ◌+◌, ◌*◌, ◌≤◌, ◌<◌, length};
 ghost use Rattle.cfg.specs.Func.{blocks_of, drawn_of};
 ghost use Rattle.cfg.specs.Preds.{Preds, count_after, which_after, noted};
 ghost use Rattle.words.specs.Steps.{steps};

@@ -2,7 +2,7 @@
 // not written"; in the Rust `liveness`). The row of a block begins as what it reads first, and takes over what is
 // live into each successor and not written, in sweeps from the last block to the first and from the first to the last by
 // turns, so that a chain of blocks settles in one sweep whichever way its numbers go, until nothing changes.
-ghost use Rattle.std.specs.Prelude.{◌≡◌, not, List, [], ℕ, ◌+◌, ◌*◌, ◌/◌, ◌^◌, ◌≤◌, ◌<◌, eqb, length, get_or, set, take, drop};
+ghost use Rattle.std.specs.Prelude.{◌≡◌, not, List, ℕ, ◌+◌, ◌*◌, ◌^◌, ◌≤◌, ◌<◌, eqb, length, get_or, set, take, drop};
 ghost use Rattle.std.proofs.lemmas.List.Edits.{sets};
 ghost use Rattle.words.specs.Bits.{width};
 ghost use Rattle.model.specs.Picture.{succs};
@@ -36,7 +36,8 @@ fn raise(bits: &mut [u64], a: usize, c: usize, d: usize) -> bool
 // and are the same one where a block goes to itself.)
 fn join(bits: &mut [u64], grid: Grid, b: BlockId, s: BlockId) -> bool
     requires { Room grid.blocks grid.width bits.old × (b.0 < grid.blocks) × (s.0 < grid.blocks) }
-    ensures { Progress grid.blocks grid.width (drop (grid.blocks * grid.width) bits.old) (λ c x j. (c ≡ b.0) × (x ≡ s.0) × (j < grid.width)) bits.old bits.new result }
+    ensures { Progress grid.blocks grid.width (drop (grid.blocks * grid.width) bits.old)
+        (λ c x j. (c ≡ b.0) × (x ≡ s.0) × (j < grid.width)) bits.old bits.new result }
 {
     let to = grid.live(b);
     let from = grid.live(s);

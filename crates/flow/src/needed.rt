@@ -1,6 +1,6 @@
 // The registers needed elsewhere than in the target (01, "The legal set", rule 2: "live into the other branch, nor live out of the
 // target unless written there"), as a row of bits behind the rows of live-in and of what each block writes.
-ghost use Rattle.std.specs.Prelude.{◌≡◌, ◌+◌, ◌*◌, ◌/◌, ◌≤◌, ◌<◌, length};
+ghost use Rattle.std.specs.Prelude.{◌≡◌, ◌+◌, ◌*◌, ◌≤◌, ◌<◌, length};
 ghost use Rattle.cfg.specs.Func.{blocks_of};
 ghost use Rattle.defuse.specs.Sets.{Room};
 ghost use Rattle.flow.specs.Needed.{Fits, Word, Put, Needed};
@@ -20,7 +20,8 @@ fn needed_word(
     other: BlockId,
     i: usize,
 ) -> u64
-    requires { Room grid.blocks grid.width bits.now × (into.0 < grid.blocks) × (other.0 < grid.blocks) × (succs.count ≡ grid.blocks) × (i < grid.width) }
+    requires { Room grid.blocks grid.width bits.now × (into.0 < grid.blocks) × (other.0 < grid.blocks)
+        × (succs.count ≡ grid.blocks) × (i < grid.width) }
     ensures { Word bits.now succs.entry.list.now grid.blocks grid.width into.0 other.0 i result }
 {
     let live = bits[grid.live(other) + i];
