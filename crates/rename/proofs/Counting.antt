@@ -19,7 +19,7 @@ use Rattle.rename.specs.Names.{named, reg_or, pick, put_name, job, list_changes,
 use Rattle.rename.specs.Runs.{Line, Operands, goes, rd_after, gone_job, gone_jobs, target_jobs}
 use Rattle.rename.specs.Counts.{CountAsk, Counted, CountedOwn, CountedX}
 use Rattle.rename.proofs.Operands.{any_changes}
-use Rattle.rename.proofs.Naming.{named_put, forgot_all, put_size}
+use Rattle.rename.proofs.Naming.{named_put, put_size}
 use Rattle.rename.proofs.Sequence.{appended_append, appended_one}
 use Rattle.rename.proofs.Passing.{funext, taken_more}
 use Rattle.rename.proofs.Owning.{jobs_next}
@@ -57,11 +57,11 @@ module _ {q u : ℕ} {ws xs ops : List ℕ} (k : CountAsk q u ws xs ops) where
 
 -- ---- one position
 
-pub counted_kept : {q u d nw : ℕ} {gone : Bool} {ws vs xs ops : List ℕ} → CountAsk q u ws xs ops → gone ≡ false → Forgot (inst xs q) ws vs 5 → Counted q gone d nw ws vs xs ops 0
+pub counted_kept : {q u d nw : ℕ} {gone : Bool} {ws vs xs ops : List ℕ} → CountAsk q u ws xs ops → gone ≡ false → Forgot (inst xs q) ws vs → Counted q gone d nw ws vs xs ops 0
 counted_kept k z f = record {
   names_size = f.size;
   small = omega arith;
-  kept = λ e. (refl, forgot_all k.line.known.within f);
+  kept = λ e. (refl, f.names);
   moved = λ g. absurd (false≢true (sym z ∙ g));
 }
 
@@ -74,8 +74,8 @@ counted_moved {q} {d} {nw} {r} {ws} z c ok small e = record {
   moved = λ f. (c.0, λ y. ap (λ (l : List ℕ). named l y) e ∙ named_put ws d nw ok small y);
 }
 
-pub counted_own : {q u r : ℕ} {ws vs xs ops : List ℕ} → CountAsk q u ws xs ops → (r ≡ length (more_of ops (job (inst xs q) ws absent))) × (r ≤ 4294967295) → Forgot (inst xs q) ws vs 5 → CountedOwn q ws vs xs ops r
-counted_own k c f = record { names_size = f.size; small = c.1; count = c.0; names = forgot_all k.line.known.within f }
+pub counted_own : {q u r : ℕ} {ws vs xs ops : List ℕ} → CountAsk q u ws xs ops → (r ≡ length (more_of ops (job (inst xs q) ws absent))) × (r ≤ 4294967295) → Forgot (inst xs q) ws vs → CountedOwn q ws vs xs ops r
+counted_own k c f = record { names_size = f.size; small = c.1; count = c.0; names = f.names }
 
 -- what is asked, for names of the same number
 pub ask_at : {q u : ℕ} (ws₀ ws : List ℕ) {xs ops : List ℕ} → length ws ≡ length ws₀ → Line (length ws₀) u xs q → Operands (length ws₀) u ops → CountAsk q u ws xs ops

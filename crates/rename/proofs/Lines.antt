@@ -20,7 +20,7 @@ use Rattle.inst.proofs.Rest.{writes_by_place}
 use Rattle.inst.proofs.Words.{word_is}
 use Rattle.rename.specs.Names.{named, reg_or, pick, put_name, job, Fit, Remade, Forgot}
 use Rattle.rename.specs.Runs.{Line, Operands, Pass, Passed, Owned}
-use Rattle.rename.proofs.Naming.{named_put, named_present, reg_or-present, forgot_all, put_size}
+use Rattle.rename.proofs.Naming.{named_put, named_present, reg_or-present, put_size}
 use Rattle.rename.proofs.Records.{inst_length, inst_same, one, made_slot}
 
 pub used_is : {R u q d : ℕ} {xs : List ℕ} → Line R u xs q → d ≡ uses_of (inst xs q) → Used xs q d
@@ -55,8 +55,8 @@ pub slots_ok : {R u q p : ℕ} {xs recs : List ℕ} → Line R u xs q → recs �
 slots_ok {R} l e f s h =
     subst (λ (i : Inst). (write_at i s ≡ absent → ⊥) → write_at i s < R) (sym (ap₂ inst e f)) (written_ok l s h)
 
-pub slots_forgot : {q p : ℕ} {xs recs ws vs : List ℕ} → recs ≡ xs → p ≡ q → Forgot (inst recs p) ws vs 5 → Forgot (inst xs q) ws vs 5
-slots_forgot {q} {p} {xs} {recs} {ws} {vs} e f h = subst (λ (i : Inst). Forgot i ws vs 5) (ap₂ inst e f) h
+pub slots_forgot : {q p : ℕ} {xs recs ws vs : List ℕ} → recs ≡ xs → p ≡ q → Forgot (inst recs p) ws vs → Forgot (inst xs q) ws vs
+slots_forgot {q} {p} {xs} {recs} {ws} {vs} e f h = subst (λ (i : Inst). Forgot i ws vs) (ap₂ inst e f) h
 
 -- ---- a record that nothing touched
 
@@ -86,12 +86,12 @@ operands_still {R} {R'} {u} {o} {ops} {ops'} p e h size front = record {
 
 -- ---- one position of x
 
-pub pass_kept : {q u o d nw : ℕ} {gone : Bool} {ws vs xs ops : List ℕ} → Line (length ws) u xs q → gone ≡ false → Forgot (inst xs q) ws vs 5 → Passed q o gone d nw ws vs xs xs ops ops o
+pub pass_kept : {q u o d nw : ℕ} {gone : Bool} {ws vs xs ops : List ℕ} → Line (length ws) u xs q → gone ≡ false → Forgot (inst xs q) ws vs → Passed q o gone d nw ws vs xs xs ops ops o
 pass_kept l z f = record {
   size = refl;
   ops_size = refl;
   names_size = f.size;
-  kept = λ e. (refl, refl, refl, forgot_all l.known.within f);
+  kept = λ e. (refl, refl, refl, f.names);
   moved = λ g. absurd (false≢true (sym z ∙ g));
 }
 
@@ -154,9 +154,9 @@ module _ {q o u d r : ℕ} {ws xs ys ops ops' : List ℕ} (l : Line (length ws) 
       ∙ ap concat (made_ext (λ s. present (write_at (inst ys q) s)) (λ s. present (write_at (inst xs q) s)) 0 5 (λ s a b. ap present (write_same s (omega arith))))
       ∙ writes_by_place xs q l.known.within
 
-  pub own_law : {vs : List ℕ} → Forgot (inst ys q) ws vs 5 → Owned q o ws vs xs ys ops ops' r
+  pub own_law : {vs : List ℕ} → Forgot (inst ys q) ws vs → Owned q o ws vs xs ys ops ops' r
   own_law {vs} f = record {
     remade = m;
     size = f.size;
-    names = λ y. forgot_all within f y ∙ ap (λ (z : List ℕ). pick (mem y z) y (named ws y)) writes_same;
+    names = λ y. f.names y ∙ ap (λ (z : List ℕ). pick (mem y z) y (named ws y)) writes_same;
   }

@@ -1,25 +1,22 @@
 -- Names: one that is put, and those that a record's writes set back. Assumes nothing.
-use mathlib.Core.Path.{◌≡◌, refl, sym, ap, ◌∙◌, subst}
-use mathlib.Core.Bool.{Bool, true, false, not, ◌&&◌, ◌||◌, cond, or-false}
-use mathlib.Core.List.{List, [], ◌∷◌, ◌++◌, map, append-nil}
-use Prim.Native.Nat.{ℕ, ◌+◌, ◌%◌, ◌≤◌, ◌<◌}
-use native.Mathlib.Nat.{le_antisymm, mod-eq_of_lt, zero-add}
-use native.Mathlib.Numerals.{add-one}
+use mathlib.Core.Path.{◌≡◌, refl, sym, ap, ◌∙◌}
+use mathlib.Core.Bool.{Bool, true, false, not, ◌&&◌, cond}
+use mathlib.Core.List.{List}
+use Prim.Native.Nat.{ℕ, ◌%◌, ◌≤◌, ◌<◌}
+use native.Mathlib.Nat.{mod-eq_of_lt}
 use native.Mathlib.Omega.{arith}
-use borrow.Author.Tests.{eqb-true, eqb-false, eq-eqb}
+use borrow.Author.Tests.{eqb-true, eqb-false}
 use lib.Dec.{eqb}
 use lib.ListN.{length, get_or, set, length-set, replicate, get_or-replicate, length-replicate, get_or-eq_default}
 use lib.Seq.{get_or-set_same, get_or-set_other}
-use Rattle.words.specs.Lists.{mem, upto, concat}
-use Rattle.words.proofs.Lists.{map_append, range_snoc, concat_append}
+use Rattle.words.specs.Lists.{mem}
+use Rattle.words.proofs.Lists.{get_d_any}
 use Rattle.words.proofs.Bools.{lt?}
-use Rattle.words.proofs.Alls.{mem_append}
 use mathlib.Core.Logic.{⊎_elim}
-use Rattle.model.specs.Picture.{Inst, inst, absent, writes}
+use Rattle.model.specs.Picture.{Inst, absent, writes}
 use Rattle.laws.proofs.Renamed.{Present}
-use Rattle.inst.specs.Record.{Within, write_at, present}
-use Rattle.inst.proofs.Rest.{writes_by_place}
-use Rattle.rename.specs.Names.{reg_or, named, put_name, pick, first_writes, Forgot}
+use Rattle.inst.specs.Written.{put_in, settle, Written}
+use Rattle.rename.specs.Names.{reg_or, named, put_name, pick, Forgot}
 
 pub put_size : (ws : List ℕ) (w nw : ℕ) → length (put_name ws w nw) ≡ length ws
 put_size ws w nw = go (eqb w absent)
@@ -65,49 +62,35 @@ reg_or-present nw r e = go (eqb nw absent) refl
 pub named_none : (n r : ℕ) → named (replicate n absent) r ≡ r
 named_none n r = ap (λ (k : ℕ). reg_or (k % 4294967296) r) (⊎_elim (λ h. get_or-replicate n r absent absent h) (λ h. get_or-eq_default (replicate n absent) absent (let l = length-replicate n absent in omega arith)) (lt? r n))
 
--- ---- what a record writes
+-- ---- by the change of words
 
-first_more : (i : Inst) (s : ℕ) → first_writes i (s + 1) ≡ first_writes i s ++ present (write_at i s)
-unfolding first_writes
-first_more i s =
-    ap (λ (l : List ℕ). concat (map (λ k. present (write_at i k)) l)) (ap upto (add-one s) ∙ range_snoc 0 s ∙ ap (λ (k : ℕ). upto s ++ (k ∷ [])) (zero-add s))
-    ∙ ap concat (map_append (λ k. present (write_at i k)) (upto s) (s ∷ [])) ∙ concat_append (map (λ k. present (write_at i k)) (upto s)) (present (write_at i s) ∷ [])
-    ∙ ap (λ (l : List ℕ). concat (map (λ k. present (write_at i k)) (upto s)) ++ l) (append-nil (present (write_at i s)))
+pub put_is : (ws : List ℕ) (w nw : ℕ) → put_in (λ v. nw) w ws ≡ put_name ws w nw
+unfolding put_in
+put_is ws w nw = refl
 
-pub forgot_none : (i : Inst) (ws : List ℕ) → Forgot i ws ws 0
-unfolding first_writes
-forgot_none i ws = record { size = refl; names = λ r. refl }
+pub forgot : {i : Inst} {ws vs : List ℕ} → Written (λ v. absent) i ws vs → Forgot i ws vs
+unfolding settle
+forgot {i} {ws} {vs} w = record { size = w.size; names = λ r. ⊎_elim (within r) (past r) (lt? r (length ws)) }
+  where
+    name_of : ℕ → ℕ → ℕ
+    name_of r k = reg_or (k % 4294967296) r
 
-module _ {i : Inst} {ws vs : List ℕ} {s : ℕ} (f : Forgot i ws vs s) where
-  abbrev w : ℕ
-  w = write_at i s
+    settled : (b : Bool) (v r : ℕ) → name_of r (settle (λ v. absent) b v) ≡ pick b r (name_of r v)
+    settled true v r = refl
+    settled false v r = refl
 
-  mem_more : (r : ℕ) → mem r (first_writes i (s + 1)) ≡ (mem r (first_writes i s) || mem r (present (write_at i s)))
-  mem_more r = ap (mem r) (first_more i s) ∙ mem_append r (first_writes i s) (present (write_at i s))
+    same : (b : Bool) (r : ℕ) → r ≡ pick b r r
+    same true r = refl
+    same false r = refl
 
-  one : (r : ℕ) (t : Bool) → eqb w absent ≡ t → (a : Bool) (y : ℕ) → named vs r ≡ pick a r y → ((w ≡ absent → ⊥) → w < length vs) → named (cond t vs (set vs w absent)) r ≡ pick (a || mem r (cond t [] (w ∷ []))) r y
-  one r true e a y h ok = h ∙ ap (λ (b : Bool). pick b r y) (sym (or-false a))
-  one r false e a y h ok = stored vs w absent r (ok (eqb-false w absent e)) (omega arith) ∙ go (eqb r w) a h
-    where
-      go : (b a : Bool) → named vs r ≡ pick a r y → cond b (reg_or absent r) (named vs r) ≡ pick (a || (b || false)) r y
-      go true true h = ap (λ (c : Bool). cond c r absent) (eq-eqb absent absent refl)
-      go true false h = ap (λ (c : Bool). cond c r absent) (eq-eqb absent absent refl)
-      go false true h = h
-      go false false h = h
+    within : (r : ℕ) → r < length ws → named vs r ≡ pick (mem r (writes i)) r (named ws r)
+    within r h =
+        ap (name_of r) (get_d_any vs r absent 0 (let e = w.size in omega arith) ∙ w.each r h)
+        ∙ settled (mem r (writes i)) (get_or ws r 0) r
+        ∙ ap (λ (k : ℕ). pick (mem r (writes i)) r (name_of r k)) (get_d_any ws r 0 absent h)
 
-  pub forgot_more : {v : ℕ} {us : List ℕ} → ((w ≡ absent → ⊥) → w < length vs) → v ≡ w → us ≡ put_name vs v absent → Forgot i ws us (s + 1)
-  unfolding present
-  forgot_more {v} {us} ok ev eu =
-      let same : us ≡ put_name vs w absent = eu ∙ ap (λ (k : ℕ). put_name vs k absent) ev in
-      record {
-        size = ap length same ∙ put_size vs w absent ∙ f.size;
-        names = λ r. ap (λ (l : List ℕ). named l r) same ∙ one r (eqb w absent) refl (mem r (first_writes i s)) (named ws r) (f.names r) ok ∙ ap (λ (b : Bool). pick b r (named ws r)) (sym (mem_more r));
-      }
-
-pub forgot_end : {i : Inst} {ws vs : List ℕ} {s : ℕ} → Forgot i ws vs s → s ≤ 5 → 5 ≤ s → Forgot i ws vs 5
-forgot_end {i} {ws} {vs} f h k = subst (Forgot i ws vs) (le_antisymm h k) f
-
--- all that it writes
-pub forgot_all : {recs ws vs : List ℕ} {p : ℕ} → Within recs p → Forgot (inst recs p) ws vs 5 → (r : ℕ) → named vs r ≡ pick (mem r (writes (inst recs p))) r (named ws r)
-unfolding first_writes
-forgot_all {recs} {ws} {vs} {p} w f r = f.names r ∙ ap (λ (l : List ℕ). pick (mem r l) r (named ws r)) (writes_by_place recs p w)
+    past : (r : ℕ) → length ws ≤ r → named vs r ≡ pick (mem r (writes i)) r (named ws r)
+    past r h =
+        ap (name_of r) (get_or-eq_default vs absent (let e = w.size in omega arith))
+        ∙ same (mem r (writes i)) r
+        ∙ ap (λ (k : ℕ). pick (mem r (writes i)) r (name_of r k)) (sym (get_or-eq_default ws absent h))

@@ -18,7 +18,6 @@ use Rattle.inst.proofs.Words.{word_is}
 use Rattle.pool.specs.Pool.{mark_at, wrote_at, new_at}
 use Rattle.rename.specs.Names.{named, reg_or, pick, job, Forgot}
 use Rattle.rename.specs.Runs.{Line, Run, goes, rd_after, rd_rest, gone_places, gone_job, gone_jobs, Pass, Passed, AskX, PassedX, AskRest, PassedRest}
-use Rattle.rename.proofs.Naming.{forgot_all}
 use Rattle.rename.proofs.Sequence.{parts_same, appended_append, appended_one, run_none, run_more}
 use Rattle.rename.proofs.Lines.{line_still, still, operands_still}
 
@@ -229,7 +228,7 @@ pub line_at : {u a e p q : ℕ} {ws₀ ws xs w : List ℕ} → AskRest u a e ws�
 line_at {u} {a} {e} {p} {q} {ws₀} {ws} {xs} {w} k h lt eq =
     subst (λ (z : ℕ). Line z u xs q) (sym h.so_far.names_size) (subst (Line (length ws₀) u xs) (sym eq) (k.lines p h.low lt))
 
-pub skipping_more : {u a e p q : ℕ} {ws₀ ws vs xs w : List ℕ} → AskRest u a e ws₀ xs w → Skipping a e ws₀ ws xs w p → p < e → q ≡ get_or w (10 * p) 0 → Forgot (inst xs q) ws vs 5 → Skipping a e ws₀ vs xs w (p + 1)
+pub skipping_more : {u a e p q : ℕ} {ws₀ ws vs xs w : List ℕ} → AskRest u a e ws₀ xs w → Skipping a e ws₀ ws xs w p → p < e → q ≡ get_or w (10 * p) 0 → Forgot (inst xs q) ws vs → Skipping a e ws₀ vs xs w (p + 1)
 unfolding rd_rest
 skipping_more {u} {a} {e} {p} {q} {ws₀} {ws} {vs} {xs} {w} k h lt eq f =
     let lo = h.low in
@@ -241,7 +240,7 @@ skipping_more {u} {a} {e} {p} {q} {ws₀} {ws} {vs} {xs} {w} k h lt eq f =
       so_far = subst (λ (i : ℕ). PassedRest a i ws₀ vs xs w) {x = suc (p - a)} {y = p + 1 - a} (omega arith) (record {
         names_size = f.size ∙ s.names_size;
         names = λ y.
-            forgot_all (line_at k h lt eq).known.within f y
+            f.names y
             ∙ ap₂ (λ (i v : ℕ). pick (mem y (writes (inst xs i))) y v) (eq ∙ ap (λ (z : ℕ). get_or w (10 * z) 0) (sym at)) (s.names y);
       });
     }

@@ -1,11 +1,11 @@
 -- 01, "The move": renaming one record in place, by a word for each register, its new name or absent. Assumes nothing.
 use Rattle.std.specs.Prelude.{◌≡◌, Bool, true, false, cond, not, List, map, ℕ, ◌+◌, ◌-◌, ◌*◌, ◌%◌, ◌≤◌, ◌<◌, eqb, get_or, length, take, drop, set}
 use Rattle.std.specs.List.{list_any}
-use Rattle.words.specs.Lists.{mem, upto, concat}
-use Rattle.model.specs.Picture.{Inst, inst, absent}
+use Rattle.words.specs.Lists.{mem}
+use Rattle.model.specs.Picture.{Inst, inst, absent, writes}
 use Rattle.model.specs.Move.{Job, made, changes, more_of}
 use Rattle.inst.specs.Table.{two_bits}
-use Rattle.inst.specs.Record.{Used, write_at, present}
+use Rattle.inst.specs.Record.{Used}
 
 -- what is asked for some number that the code does not need: the operands that were in use at first, or the instructions
 pub record Exists (P : ℕ → Type 0) : Type 0 where
@@ -28,14 +28,10 @@ put_name ws w nw = cond (eqb w absent) ws (set ws w nw)
 abbrev pub pick : Bool → ℕ → ℕ → ℕ
 pick b x y = elim b as (λ z. ℕ) [ true ↦ x | false ↦ y ]
 
--- the registers that the first s slots write
-unfoldable pub first_writes : Inst → ℕ → List ℕ
-first_writes i s = concat (map (λ k. present (write_at i k)) (upto s))
-
--- those keep their names
-pub record Forgot (i : Inst) (ws vs : List ℕ) (s : ℕ) : Type 0 where
+-- the registers that a record writes keep their names
+pub record Forgot (i : Inst) (ws vs : List ℕ) : Type 0 where
   pub size : length vs ≡ length ws
-  pub names : (r : ℕ) → named vs r ≡ pick (mem r (first_writes i s)) r (named ws r)
+  pub names : (r : ℕ) → named vs r ≡ pick (mem r (writes i)) r (named ws r)
 
 -- ---- slots
 

@@ -8,6 +8,7 @@ ghost use Rattle.rename.specs.Names.{reg_or, named, put_name, Forgot};
 
 use inst::code::Slots;
 use inst::index::Reg;
+use inst::written::{change, change_written};
 use model::ABSENT;
 
 // How many words of 32 bits there are.
@@ -45,10 +46,7 @@ pub(crate) fn put(names: &mut [u64], r: Option<Reg>, nw: u32)
     requires { Among (length names.old) r }
     ensures { names.new ≡ put_name names.old (word_of r) nw }
 {
-    let Some(k) = r else {
-        return;
-    };
-    names[k.at()] = u64::from(nw);
+    change(names, r, |_| u64::from(nw));
 }
 
 // No register has a new name.
@@ -62,9 +60,7 @@ pub(crate) fn clear(names: &mut [u64])
 pub(crate) fn forget(slots: &Slots, names: &mut [u64])
     requires few { length names.old ≤ 4294967295 }
     requires by_index { (s : ℕ) → s < 5 → (write_at (inst slots.now.recs.now slots.now.p) s ≡ 4294967295 → ⊥) → write_at (inst slots.now.recs.now slots.now.p) s < length names.old }
-    ensures { Forgot (inst slots.now.recs.now slots.now.p) names.old names.new 5 }
+    ensures { Forgot (inst slots.now.recs.now slots.now.p) names.old names.new }
 {
-    for s in 0..5 {
-        put(names, slots.write(s, names.len()), ABSENT);
-    }
+    change_written(slots, names, |_| NONE);
 }
