@@ -16,7 +16,7 @@ pub struct Counts {
     pub opers: usize,
 }
 
-// Those in use after move m, where c are.
+// Those in use after move m, where c are. (Two slices are written, and what is read is less than a round's `Body`.)
 pub fn needs(
     code: &Code,
     bounds: &[u32],

@@ -23,6 +23,7 @@ fn seek(bounds: &[u32], c: Chain, from: Cursor) -> Cursor
     ensures { Standing bounds.now c result × ((P : Picture) → P.bounds ≡ bounds.now → left_of P (blocks_of c) from.k from.g from.past ≡ left_of P (blocks_of c) result.k result.g result.past) }
 {
     let mut at = from;
+    // How many blocks it passes is told by which are empty, not by a count.
     while (at.past <= at.g) & (at.k + 1 < c.count) {
         let k = at.k + 1;
         let part = part_of(bounds, c, k);

@@ -21,6 +21,7 @@ pub fn find_move(
     requires { Finding body.now.func.bounds.now body.now.func.recs.now body.now.ops.now body.now.func.pairs.now body.now.func.targets.now body.now.replay.now body.now.sizes work64.old work32.old × (800 ≤ length facts.old) }
     ensures { Searched body.now.func.bounds.now body.now.func.recs.now body.now.ops.now body.now.func.pairs.now body.now.func.targets.now body.now.replay.now body.now.sizes work64.old work32.old work64.new work32.new result }
 {
+    // It ends by what is found: the next chain is sought behind the one that was tried.
     let mut look = first_look(body, work64, work32);
     while let Some(k) = look {
         if let Some(mv) = try_chain(body, work64, work32, facts, k) {

@@ -13,7 +13,7 @@ use facts::Fact;
 use model::RECORDS;
 use rounds::state::Ran;
 
-// The call, with a line for each round, and what `sink_all` promises of it.
+// The call, with a line for each round, and what `sink_all` promises of it: its parameters, but for the list.
 pub fn sink_here(
     bounds: &mut [u32],
     recs: &mut [u32],

@@ -21,7 +21,7 @@ use rounds::state::{At, Ran, advance};
 use sizes::InUse;
 use std::ops::ControlFlow;
 
-// Round after round, until none is to be tried.
+// Round after round, until none is to be tried. (The slices that are written stay apart, as in `round`.)
 fn run(
     fixed: &Fixed<'_>,
     bounds: &mut [u32],
