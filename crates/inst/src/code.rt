@@ -125,7 +125,7 @@ impl Slots<'_> {
         ABSENT
     }
 
-    // The word of slot s where it writes, or absent.
+    // The word of slot s where it writes, or absent. (Beside the one above: each is its own definition.)
     fn write_word(&self, s: usize) -> u32
         requires { s < 5 }
         ensures { result ≡ write_at (inst self.now.recs.now self.now.p) s }

@@ -46,7 +46,7 @@ impl Firsts {
         }
     }
 
-    // Register r, or absent, is written before those of self.
+    // Register r, or absent, is written before those of self. (Beside the one above: other fields move up.)
     pub(crate) fn after_write(self, r: u32) -> Firsts
         ensures { (rs ds : List ℕ) → Heads rs ds self → Heads rs (present r ++ ds) result }
     {

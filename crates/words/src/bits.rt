@@ -3,8 +3,9 @@
 //
 // The rows of several blocks lie in one slice, a block's row from word `at` on. Bit r of that row is bit 64 * at + r of the
 // slice, so the definitions speak of one row, and every law holds for each. By index and not by `get_mut`, whose reference the
-// search does not tie to what the slice then is. A caller of `set_in` needs no proof file for it; a part
-// lent as `&mut words[a..e]` leaves the caller its start, end and sizes to show, and the whole to put together again.
+// search does not tie to what the slice then is; putting in and taking out stay two functions of four lines, a closure is longer. A
+// caller of `set_in` needs no proof file for it; a part lent as `&mut words[a..e]` leaves the caller its start, end and sizes to show,
+// and the whole to put together again.
 ghost use Rattle.std.specs.Prelude.{◌≡◌, ◌+◌, ◌*◌, ◌^◌, ◌≤◌, length};
 ghost use Rattle.words.specs.Bits.{width, is_in, set_bit, unset_bit, ones_in};
 
