@@ -1,5 +1,5 @@
-// The kinds that code names, by their place in 001's `Inst` (01, "The call": "word 0 kind"); model/specs/Kinds has all. They stay numbers: a kind
-// is a word of the lent picture, and is looked up in the table by it.
+// The kinds that code names, by their place in 001's `Inst` (01, "The call": "word 0 kind"); model/specs/Kinds has all. They stay
+// numbers: a kind is a word of the lent picture, and is looked up in the table by it.
 pub const CONST: u32 = 0;
 
 pub const CONST_F: u32 = 1;
