@@ -5,8 +5,8 @@ ghost use Rattle.model.specs.Refusal.{too_large, uneven, work64, work32, records
 ghost use Rattle.acceptance.specs.Lent.{picture};
 
 use crate::lent::Lent;
-use model::RECORDS;
-use sizes::{Room, work32, work64};
+use model::{CHAIN_WORDS, RECORDS};
+use sizes::Room;
 
 // The most blocks, instructions, registers, operands, pair words and target words that may be lent.
 const BLOCKS: usize = 4096;
@@ -55,7 +55,7 @@ pub(crate) fn too_short(lent: Lent, room: Room) -> bool
 {
     let blocks = lent.bounds.len() / 2;
     let registers = lent.types.len();
-    (room.w64 < work64(blocks, registers))
-        | (room.w32 < work32(blocks, registers))
+    (room.w64 < 4 * blocks * registers.div_ceil(64) + 2 * registers)
+        | (room.w32 < 8 * registers + 16 * blocks + CHAIN_WORDS)
         | (room.records < RECORDS)
 }

@@ -11,15 +11,16 @@ use layout::{
     BLOCKS, BOUNDS, INSTS, OPERANDS, PAIRS, PICTURE_BYTES, Part, RECS, REGISTERS, REPLAY, Slices,
     TARGETS, VIAS,
 };
-use model::Answer;
+use model::{Answer, CHAIN_WORDS};
 use rounds::state::Ran;
 use sink::here::sink_here;
-use sizes::{InUse, work32, work64};
+use sizes::InUse;
 
-// The program's work slices: 64-bit words, eight a row of registers, and 32-bit words.
-const WORK64: usize = work64(BLOCKS, REGISTERS);
+// The program's work slices: 64-bit words, eight a row of registers, and 32-bit words. (acceptance::lengths says the same of any sizes:
+// a constant's value may not call a function yet.)
+const WORK64: usize = 4 * BLOCKS * 8 + 2 * REGISTERS;
 
-const WORK32: usize = work32(BLOCKS, REGISTERS);
+const WORK32: usize = 8 * REGISTERS + 16 * BLOCKS + CHAIN_WORDS;
 
 // Done and Short: the picture at the head of `res`.
 fn put_left(res: &mut [u8], answer: Answer, slices: Slices)

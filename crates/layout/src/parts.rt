@@ -55,7 +55,7 @@ impl Counts {
     }
 
     // How many words a part has.
-    pub(crate) fn words_in(self, part: Part) -> usize
+    pub fn words_in(self, part: Part) -> usize
         ensures { result ≡ words_in part self }
     {
         match part {

@@ -1,7 +1,7 @@
 // The sizes of what is lent, and where each part lies in the two work slices (docs/DESIGN.md, "The words of a chain, and its facts").
 #![tactic(auto)]
 
-ghost use Rattle.std.specs.Prelude.{◌≡◌, ◌+◌, ◌*◌, ◌/◌, ◌≤◌};
+ghost use Rattle.std.specs.Prelude.{◌≡◌, ◌≤◌};
 ghost use Rattle.sizes.specs.Parts.{regs_at, stamps_at, preds_at};
 
 use model::CHAIN_WORDS;
@@ -31,22 +31,6 @@ pub struct Sizes {
     pub regs: u32,
     pub lent: usize,
     pub opers: u32,
-}
-
-// The 64-bit words that a call works in, four rows a block and two words a register (01, "Port order and sizes").
-pub const fn work64(blocks: usize, registers: usize) -> usize
-    requires { (blocks ≤ 4096) × (registers ≤ 65536) }
-    ensures { result ≡ 4 * blocks * ((registers + 63) / 64) + 2 * registers }
-{
-    4 * blocks * registers.div_ceil(64) + 2 * registers
-}
-
-// The 32-bit words that it works in.
-pub const fn work32(blocks: usize, registers: usize) -> usize
-    requires { (blocks ≤ 4096) × (registers ≤ 65536) }
-    ensures { result ≡ 8 * registers + 16 * blocks + 8000 }
-{
-    8 * registers + 16 * blocks + CHAIN_WORDS
 }
 
 // Where the copied words of the registers in use begin: behind the chain's.
