@@ -39,7 +39,7 @@ module _ (i : Inst) (p : ℕ) (list : List Org) (k : Bool) (o : ℕ → Org) (l 
   no_block b (Temp j) = refl
   no_block b (Img j) = refl
 
-  pub leads_right : (A : Arm) → e.layout ≡ (arm i p k o l y list (arm_of A)).layout → After y y' p (arm i p k o l y list (arm_of A)).layout → Leads (leads A x e) (arm i p k o l y list (arm_of A))
+  pub leads_right : (A : Arm) → e.layout ≡ (arm i p k o l y list (arm_of A)).layout → After y y' p (arm i p k o l y list (arm_of A)).layout → Leads (leads A x.reads e) (arm i p k o l y list (arm_of A))
   unfolding leads
   leads_right Const h t = refl
   leads_right ConstF h t = refl

@@ -70,12 +70,12 @@ some_read good = record { each = λ k h e. omega (arith, good.good.each k h, goo
 
 module _ (recs ops : List ℕ) (e : Effect) (b : Bool) (y : Input) (a : Arm) {regs regs' : List ℕ} {g p R : ℕ} {x : Firsts} (ranged : Ranged R p regs) (few : p + 1 < 1000) (good : Learnable recs ops R g)
     (ea : arm_of a ≡ arm_at (T.arm (packed (kind (inst recs g))))) (low : Low p (inst recs g) e) (heads : Heads (reads ops (inst recs g)) (writes (inst recs g)) x)
-    (m : Written (marked (stamp p e.org e.len (leads a y e))) (inst recs g) regs regs') where
+    (m : Written (marked (stamp p e.org e.len (leads a y.reads e))) (inst recs g) regs regs') where
   abbrev i : Inst
   i = inst recs g
 
   abbrev d : ℕ
-  d = stamp p e.org e.len (leads a y e)
+  d = stamp p e.org e.len (leads a y.reads e)
 
   word : (r : ℕ) → r < R → get_or regs' r 0 ≡ settle (marked d) (mem r (writes i)) (get_or regs r 0)
   word r h = m.each r (omega (arith, ranged.in_use))
@@ -88,7 +88,7 @@ module _ (recs ops : List ℕ) (e : Effect) (b : Bool) (y : Input) (a : Arm) {re
     in_use = omega (arith, m.size, ranged.in_use);
     lent = omega (arith, m.size, ranged.lent);
     few = few;
-    each = λ r h. subst (Ranges (p + 1)) (sym (word r h)) (ranges_settle p e.org e.len (leads a y e) few low.org (mem r (writes i)) (get_or regs r 0) (ranged.each r h));
+    each = λ r h. subst (Ranges (p + 1)) (sym (word r h)) (ranges_settle p e.org e.len (leads a y.reads e) few low.org (mem r (writes i)) (get_or regs r 0) (ranged.each r h));
   }
 
   module _ (G : Facts) (past : List Fact) (el : length past ≡ p) (s : Marked G past R regs) (q : Asked G past ops i y) (j : Judged e (fact G ops past i)) where
@@ -99,7 +99,7 @@ module _ (recs ops : List ℕ) (e : Effect) (b : Bool) (y : Input) (a : Arm) {re
     after = past ++ (f ∷ [])
 
     -- a register that it writes
-    own : Left after (record { org = e.org; len = e.len; layout = leads a y e }) f
+    own : Left after (record { org = e.org; len = e.len; layout = leads a y.reads e }) f
     own = record { org = j.org; len = j.len; layout = led G past ops R i y small_R good.good.each q e a ea j.org j.layout }
 
     -- and one that it does not
@@ -112,17 +112,17 @@ module _ (recs ops : List ℕ) (e : Effect) (b : Bool) (y : Input) (a : Arm) {re
     left_by : (c : Bool) (v k : ℕ) → Ranges p v → ((n : ℕ) → v / 16 % 1024 ≡ suc n → Left past (left_in v) (get_or past n no_fact)) → settle (marked d) c v / 16 % 1024 ≡ suc k → Left after (left_in (settle (marked d) c v)) (get_or after k no_fact)
     unfolding settle
     left_by true v k g l ek =
-        let z : k ≡ length past = omega (arith, ek, writer_new p e.org e.len (leads a y e) few low.org v, el) in
+        let z : k ≡ length past = omega (arith, ek, writer_new p e.org e.len (leads a y.reads e) few low.org v, el) in
         subst (λ (n : ℕ). Left after (left_in (marked d v)) (get_or after n no_fact)) (sym z)
         (subst (Left after (left_in (marked d v))) (sym (get_or-append_seam past f [] no_fact))
-        (subst (λ (c : Value). Left after c f) (sym (left_new p e.org e.len (leads a y e) few low.org v)) own))
+        (subst (λ (c : Value). Left after c f) (sym (left_new p e.org e.len (leads a y.reads e) few low.org v)) own))
     left_by false v k g l ek = still v k g ek (l k ek)
 
     marked_new : Marked G after R regs'
     marked_new = record {
       seen = seen_kept (flags_kept_by d i m) s.seen;
       writer = λ r h.
-          ap (λ (n : ℕ). place_at (n / 16 % 1024)) (word r h) ∙ opt_settle p e.org e.len (leads a y e) few low.org (mem r (writes i)) (get_or regs r 0)
+          ap (λ (n : ℕ). place_at (n / 16 % 1024)) (word r h) ∙ opt_settle p e.org e.len (leads a y.reads e) few low.org (mem r (writes i)) (get_or regs r 0)
           ∙ ap (λ (o : Option ℕ). cond (mem r (writes i)) (Some p) o) (s.writer r h)
           ∙ ap (λ (n : ℕ). cond (mem r (writes i)) (Some n) (last_writer 0 past r)) (sym el ∙ sym (zero-add (length past)))
           ∙ sym (last_more 0 past f r);

@@ -134,13 +134,13 @@ module _ (G : Facts) (past : List Fact) (ops : List ℕ) (R : ℕ) (i : Inst) (x
 
   -- what is left points to a layout, or not
   pub led : (e : Effect) (a : Arm) → arm_of a ≡ arm_at (T.arm (packed (kind i))) → org_at e.org ≡ (fact G ops past i).does.org → e.layout ≡ (fact G ops past i).does.layout
-      → sized (λ k. leads a x e) (org_at e.org) ≡ sized (is_layout (past ++ (fact G ops past i ∷ []))) (org_at e.org)
+      → sized (λ k. leads a x.reads e) (org_at e.org) ≡ sized (is_layout (past ++ (fact G ops past i ∷ []))) (org_at e.org)
   unfolding us effect
   led e a ea eo ey =
       let f = fact G ops past i in
       let y' = is_layout (past ++ (f ∷ [])) in
-      subst (λ (o : Org). sized (λ k. leads a x e) o ≡ sized y' o) (sym eo)
-      (subst (λ (A : K.Arm). e.layout ≡ (by_arm A).layout → After (is_layout past) y' (length past) (by_arm A).layout → sized (λ k. leads a x e) (by_arm A).org ≡ sized y' (by_arm A).org) (ea ∙ arm_back (get_or i 0 0))
+      subst (λ (o : Org). sized (λ k. leads a x.reads e) o ≡ sized y' o) (sym eo)
+      (subst (λ (A : K.Arm). e.layout ≡ (by_arm A).layout → After (is_layout past) y' (length past) (by_arm A).layout → sized (λ k. leads a x.reads e) (by_arm A).org ≡ sized y' (by_arm A).org) (ea ∙ arm_back (get_or i 0 0))
       (leads_right i (length past) (drop 3 (map (org_of G past) us)) (when_some positive (known_of G (get_or us 1 unread).reg).konst) (λ k. get_or (map (org_of G past) us) k Unknown) (λ k. get_or (map (len_of G past) us) k false) (is_layout past) y' x e
       (subst (λ (o : Org). sized (λ k. (read_at x 0).layout) o ≡ sized (is_layout past) o) first q.layout) (subst (λ (o : Org). sized (λ k. (read_at x 1).layout) o ≡ sized (is_layout past) o) second q.layout1)
       a) ey (after_fact past f))

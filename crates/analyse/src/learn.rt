@@ -69,7 +69,7 @@ pub(crate) fn learn_one(code: &Code, regs: &mut [u64], g: usize, p: u32, count: 
     let m = code.row(g);
     let y = ask(code.recs, regs, x, g, p, count);
     let e = judge(code.recs, g, m, y);
-    let d = stamp(p, e.org, e.len, Arm::of(m).leads(y, e));
+    let d = stamp(p, e.org, e.len, Arm::of(m).leads(y.reads, e));
     mark_record(&slots, regs, x, d);
     fact_of(g, e, may_suspend(code.recs, g), x)
 }

@@ -36,7 +36,8 @@ pub fn look(
     ensures { result ≡ found r opers blocks (code recs.now n) }
 {
     let used = opers as usize;
-    // Four variables, and no `Found` that is changed in place: over 32,758 records that took 2% more instructions.
+    // Four variables, and no `Found` that is changed in place: over 32,758 records that took 2% more instructions, and the pictures that
+    // grow are at the goal of 3 times the Rust with nothing to spare (docs/SPEED.md).
     let mut regs = false;
     let mut lists = false;
     let mut branches = false;

@@ -64,8 +64,8 @@ pub record Right (r : Effect) (a : Arm) (x : Input) : Type 0 where
 
 -- does the value of an instruction of arm a point to a layout: what Move and Index read first, what Select reads second, or else
 -- its own block
-unfoldable pub leads : Arm → Input → Effect → Bool
-leads Move x e = (read_at x 0).layout
-leads Index x e = (read_at x 0).layout
-leads Select x e = (read_at x 1).layout
-leads _ x e = e.layout
+unfoldable pub leads : Arm → List Value → Effect → Bool
+leads Move rs e = (value_at rs 0).layout
+leads Index rs e = (value_at rs 0).layout
+leads Select rs e = (value_at rs 1).layout
+leads _ rs e = e.layout

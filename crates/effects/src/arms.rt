@@ -7,7 +7,7 @@ ghost use Rattle.effects.specs.Origin.{class_of, class_code};
 ghost use Rattle.effects.specs.Arms.{effect_of, arm_of, Right, leads};
 
 use crate::input::Input;
-use crate::origin::{HEAP, UNKNOWN, address, agree, image, inside, is_sized, memory, temp};
+use crate::origin::{HEAP, UNKNOWN, Value, address, agree, image, inside, is_sized, memory, temp};
 use inst::table::Row;
 
 // What stands for the pieces that a Cat reads, to be looked up again.
@@ -308,12 +308,12 @@ impl Arm {
     // Does the value of an instruction of this arm, with this effect, point to a layout? It points where the first or the second
     // register read does, or to a block of its own, or to none.
     #[tactic(auto, unfolding(crate::specs::Arms::leads))]
-    pub fn leads(self, x: Input, e: Effect) -> bool
-        ensures { result ≡ leads self x e }
+    pub fn leads(self, reads: [Value; 3], e: Effect) -> bool
+        ensures { result ≡ leads self reads e }
     {
         match self {
-            Arm::Move | Arm::Index => x.reads[0].layout,
-            Arm::Select => x.reads[1].layout,
+            Arm::Move | Arm::Index => reads[0].layout,
+            Arm::Select => reads[1].layout,
             _ => e.layout,
         }
     }

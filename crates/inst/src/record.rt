@@ -6,7 +6,9 @@ ghost use Rattle.inst.specs.Record.{word, Within};
 // How many slots a record has.
 pub const SLOTS: usize = 5;
 
-// Record p of these: no value of this type has one that is not whole.
+// Record p of these: no value of this type has one that is not whole. (What is given a slice and a place makes it there, and asks `Within`
+// once. That its kind is one of the table's, `Known`, stays a clause where the kind is looked up: a type of its own would be made and used
+// at the same places.)
 #[derive(Clone, Copy)]
 pub struct Record<'a> {
     pub recs: &'a [u32],

@@ -1,8 +1,8 @@
 // The table of roles (01, "How to write each place": "the roles of all 101 kinds become a fixed table"): a row for each
 // kind, packed into one number as specs/Table.antt says, and behind the rows, for each kind, what its slots do at each form,
 // so that this is one look. It is made once, at the entry, and lent: a const array is built anew on the stack at each call
-// that indexes it. (A `static` was tried: it proves, but a pass over records that are not plain takes 2% more instructions with it, so the
-// table stays lent.)
+// that indexes it. (A `static` was tried: it proves, but a pass over records that are not plain takes 2% more instructions with it, and the
+// pictures that grow are at the goal of 3 times the Rust with nothing to spare, docs/SPEED.md. So the table stays lent.)
 ghost use Rattle.std.specs.Prelude.{◌≡◌, ◌<◌, ◌*◌, ◌/◌, ◌%◌, eqb};
 ghost use Rattle.model.specs.Kinds.{kind_of};
 ghost use Rattle.inst.specs.Table.{packed, rows, has_list, shape, arm, quiet, allows, acts, wants, two_bits, spread, lift};

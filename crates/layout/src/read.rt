@@ -17,7 +17,7 @@ fn count(bytes: &[u8], i: usize) -> u32
 }
 
 // The counts: the first eight words, in the order of `Counts::words`.
-fn counts(bytes: &[u8]) -> Counts
+pub fn counts(bytes: &[u8]) -> Counts
     requires { 32 ≤ length bytes.now }
     ensures { result ≡ counts (words_of bytes.now) }
 {

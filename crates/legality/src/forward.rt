@@ -2,7 +2,7 @@
 ghost use Rattle.std.specs.Prelude.{◌≡◌, not, ◌&&◌, ◌*◌, ◌<◌, length};
 ghost use Rattle.summary.specs.Passes.{fact_word, stay_test, Near, Forwarded, Written, Readable, Small};
 
-use crate::kept::Kept;
+use crate::kept::{Kept, rule3, rule4, rule6};
 use facts::Fact;
 use inst::code::Code;
 use summary::notes::Lasts;
@@ -24,7 +24,11 @@ fn may_stay(code: &Code, f: Fact, kept: &Kept, p: usize) -> bool
     requires { Readable code.now.recs.now code.now.ops.now (length kept.now.st.now) f × Small f × (p < 800) }
     ensures { result ≡ (f.member && stay_test code.now.recs.now code.now.ops.now kept.now.regs.now kept.now.st.now kept.now.lasts.now.writes f kept.now.lasts.now.suspension kept.now.lasts.now.barrier p) }
 {
-    f.member && kept.rule4(p) && kept.rule6(f) && kept.rule5(code, f, p) && kept.rule3(code, f, p)
+    f.member
+        && rule4(kept.lasts, p)
+        && rule6(kept.lasts, f)
+        && kept.rule5(code, f, p)
+        && rule3(code, f, kept.st, p)
 }
 
 // What is stamped of a position where it writes: whether it is in the set, and its origin.

@@ -21,17 +21,6 @@ use summary::stamps::{AWAITED, MEMBER_AT, ORIGIN, WRITER};
 // Memory of an origin that is not known, which may be any.
 const ANY: usize = UNKNOWN as usize + 1;
 
-// What rules 3 to 6 ask: of each register in use what was known of it before round 1, and what is stamped of it; what the kept
-// positions do.
-#[derive(Clone, Copy)]
-pub(crate) struct Kept<'a> {
-    pub(crate) regs: &'a [u32],
-    pub(crate) st: &'a [u64],
-    pub(crate) lasts: &'a Lasts,
-    ghost near: { Near st.now },
-    ghost alike: { length regs.now ≡ length st.now },
-}
-
 // Rule 3 for register r, if it is one.
 fn read_ok(st: &[u64], r: Option<Reg>, p: usize) -> bool
     requires { Among (length st.now) r × (p < 800) }
@@ -44,28 +33,45 @@ fn read_ok(st: &[u64], r: Option<Reg>, p: usize) -> bool
     (v / MEMBER_AT % 2 == 1) | (v % AWAITED <= p as u64 + 1)
 }
 
+// Rule 3: each register that position p reads has its writer in the set, or is written by no kept position after p.
+pub(crate) fn rule3(code: &Code, f: Fact, st: &[u64], p: usize) -> bool
+    requires { Readable code.now.recs.now code.now.ops.now (length st.now) f × (p < 800) }
+    ensures { result ≡ all (read_test st.now p) (reads code.now.ops.now (inst code.now.recs.now f.rec)) }
+{
+    if !f.more {
+        let n = st.len();
+        return read_ok(st, Reg::new(f.use0, n), p) & read_ok(st, Reg::new(f.use1, n), p);
+    }
+    all_read(code, f.rec as usize, st.len(), |r| read_ok(st, r, p))
+}
+
+// Rule 4: no kept position after p may suspend.
+pub(crate) fn rule4(lasts: &Lasts, p: usize) -> bool
+    requires { p < 800 }
+    ensures { result ≡ leb lasts.now.suspension (p + 1) }
+{
+    lasts.suspension <= p as u32 + 1
+}
+
+// Rule 6: the memory that the position of fact f writes is Temp of a member.
+pub(crate) fn rule6(lasts: &Lasts, f: Fact) -> bool
+    requires { f.wrote ≤ 2004 }
+    ensures { result ≡ own_test lasts.now.writes f.wrote }
+{
+    (f.wrote == 0) | lasts.is_placed(f.wrote as usize)
+}
+
+// What rule 5 asks: of each register in use what was known of it before round 1, and what is stamped of it; what the kept positions do.
+#[derive(Clone, Copy)]
+pub(crate) struct Kept<'a> {
+    pub(crate) regs: &'a [u32],
+    pub(crate) st: &'a [u64],
+    pub(crate) lasts: &'a Lasts,
+    ghost near: { Near st.now },
+    ghost alike: { length regs.now ≡ length st.now },
+}
+
 impl Kept<'_> {
-    // Rule 3: each register that position p reads has its writer in the set, or is written by no kept position after p.
-    pub(crate) fn rule3(&self, code: &Code, f: Fact, p: usize) -> bool
-        requires { Readable code.now.recs.now code.now.ops.now (length self.now.st.now) f × (p < 800) }
-        ensures { result ≡ all (read_test self.now.st.now p) (reads code.now.ops.now (inst code.now.recs.now f.rec)) }
-    {
-        let st = self.st;
-        if !f.more {
-            let n = st.len();
-            return read_ok(st, Reg::new(f.use0, n), p) & read_ok(st, Reg::new(f.use1, n), p);
-        }
-        all_read(code, f.rec as usize, st.len(), |r| read_ok(st, r, p))
-    }
-
-    // Rule 4: no kept position after p may suspend.
-    pub(crate) fn rule4(&self, p: usize) -> bool
-        requires { p < 800 }
-        ensures { result ≡ leb self.now.lasts.now.suspension (p + 1) }
-    {
-        self.lasts.suspension <= p as u32 + 1
-    }
-
     // Rule 5 for the origin of number o. It asks of writes only from Frame on.
     fn org_ok(&self, p: usize, o: u32) -> bool
         requires { (o < 2005) × (p < 800) }
@@ -165,13 +171,5 @@ impl Kept<'_> {
             return false;
         }
         self.froms_ok(code, f, p)
-    }
-
-    // Rule 6: the memory that the position of fact f writes is Temp of a member.
-    pub(crate) fn rule6(&self, f: Fact) -> bool
-        requires { f.wrote ≤ 2004 }
-        ensures { result ≡ own_test self.now.lasts.now.writes f.wrote }
-    {
-        (f.wrote == 0) | self.lasts.is_placed(f.wrote as usize)
     }
 }

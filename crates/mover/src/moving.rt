@@ -8,7 +8,8 @@ use crate::segment::{SEGMENT, raise, sink};
 use position::PLACE;
 
 // The two loops differ in which segment goes first and in their invariants: one function of both would only be one branch around
-// them. Each is a `while`, since a `for` over `step_by` needs the same two numbers, and a measure besides.
+// them (as was tried for `sink` and `raise`, segment.rt). Each is a `while`: a segment is 64 records or what is left, so a `for` over
+// `step_by` needs the same two numbers, and a measure besides.
 
 // The marked ones of the records go before record t, which is behind them; n records in all. The last segment goes first: the
 // words before e are those that have not gone.

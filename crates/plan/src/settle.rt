@@ -9,8 +9,8 @@ use facts::Fact;
 use legality::forward::Given;
 use summary::notes::Lasts;
 
-// The sweep that comes next, if one does. `quiet`: the last one dropped nothing. `left` members are left; with fewer than `least` no more
-// sweeps are made.
+// The sweep that comes next, if one does. `quiet`: the last one dropped nothing, a fact beside what comes next. `left` members are left;
+// with fewer than `least` no more sweeps are made.
 #[derive(Clone, Copy, Debug, PartialEq, Eq)]
 pub struct Cycle {
     pub next: Option<Phase>,

@@ -1,5 +1,5 @@
 // Single layers of the port, for tests/rust to hold against the Rust: each function asks nothing of its caller, and its contract
-// is the layer's own. Crate `probe_c` exports them for C.
+// is the layer's own. Crate `probe_c` exports them for C, so their parameters are C's.
 #![tactic(auto)]
 
 pub mod whole; // whole.rt: the whole call

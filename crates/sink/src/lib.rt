@@ -55,7 +55,7 @@ fn run(
 
 // The call, with a line for each round. Of its promise: the picture lent, the outcome for it, the cause for which it is refused (or 0)
 // and the picture left, each named once; then the answer, by its number and its values too, the lines, the six slices, the work
-// slices, the list, and demand 3.
+// slices, the list, and demand 3. (Its parameters are the library's interface, which callers outside rely on.)
 pub fn sink_all(
     bounds: &mut [u32],
     recs: &mut [u32],

@@ -4,6 +4,7 @@ ghost use Rattle.std.specs.Iterator.{YieldsFirst, item_count};
 ghost use Rattle.words.specs.Lists.{all};
 ghost use Rattle.model.specs.Picture.{inst, list_of, reads, writes};
 ghost use Rattle.inst.specs.Index.{reg_of, Among};
+ghost use Rattle.inst.specs.Record.{Known, Listed};
 ghost use Rattle.inst.specs.declared.index.Reg.{Reg as RegAt};
 ghost use Rattle.regfacts.specs.Written.{Fits, Good};
 ghost use Rattle.summary.specs.Passes.{read_place, Tests};
@@ -28,7 +29,7 @@ impl<'a> Reads<'a> {
 
     // All that record g reads.
     pub fn new(code: &Code<'a>, g: usize, count: usize) -> Self
-        requires { Good code.now.recs.now code.now.ops.now count g }
+        requires { Known code.now.recs.now g × Listed code.now.recs.now code.now.ops.now g }
         ensures { left result ≡ all_places code.now.ops.now (inst code.now.recs.now g) count }
     {
         Reads {

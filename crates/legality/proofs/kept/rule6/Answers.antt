@@ -1,7 +1,7 @@
--- `legality::kept::Kept::rule6` meets its contract. Assumes nothing.
+-- `legality::kept::rule6` meets its contract. Assumes nothing.
 use mathlib.Core.Path.{refl}
 use Rattle.legality.proofs.Testing.{own_words}
-use Rattle.legality.proofs.kept.Kept.rule6.Goals as goal
+use Rattle.legality.proofs.kept.rule6.Goals as goal
 
 pub returns : goal.returns
 returns c = rw c.is_placed.ensures (own_words _ _ refl)

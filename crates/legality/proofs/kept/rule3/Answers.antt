@@ -1,4 +1,4 @@
--- `legality::kept::Kept::rule3` meets its contract. Assumes nothing.
+-- `legality::kept::rule3` meets its contract. Assumes nothing.
 use borrow.Author.Rules.{rules}
 use borrow.Author.Tests.{not-true}
 use mathlib.Core.Path.{ap, ◌∙◌}
@@ -7,7 +7,7 @@ use Rattle.words.specs.Lists.{all}
 use Rattle.summary.specs.Passes.{read_test}
 use Rattle.summary.proofs.Wording.{own_among, uses_tested, uses_all}
 use Rattle.legality.proofs.Testing.{place_is}
-use Rattle.legality.proofs.kept.Kept.rule3.Goals as goal
+use Rattle.legality.proofs.kept.rule3.Goals as goal
 
 pub read_ok-requires : goal.read_ok-requires
 read_ok-requires c =
@@ -20,8 +20,8 @@ read_ok-requires-then-not-f c =
 pub returns-then-not-f : goal.returns-then-not-f
 returns-then-not-f c =
     let a = c.args in
-    let test = read_test a.self.now.st.now a.p in
-    uses_tested a.f (length a.self.now.st.now) test c.new.ensures c.new-then-not-f.ensures
+    let test = read_test a.st.now a.p in
+    uses_tested a.f (length a.st.now) test c.new.ensures c.new-then-not-f.ensures
     (place_is _ _ _ c.read_ok.ensures) (place_is _ _ _ c.read_ok-then-not-f.ensures)
     ∙ ap (all test) (uses_all a.f c.requires.0 (not-true _ c.if-not-f.true))
 
@@ -31,4 +31,4 @@ all_read-requires-clause-good c = c.requires.0.good
 pub returns : goal.returns
 returns c =
     let a = c.args in
-    c.all_read.ensures (read_test a.self.now.st.now a.p) (record { each = λ m b h e. place_is _ _ _ (search rules) })
+    c.all_read.ensures (read_test a.st.now a.p) (record { each = λ m b h e. place_is _ _ _ (search rules) })
