@@ -74,7 +74,7 @@ fn main(rt: HostRuntime) -> io::Result<()> {
     let mut input = rt.reader();
     let mut right = 0u32;
     let mut wrong = 0u32;
-    for _ in 0..CASES {
+    for case in 0..CASES {
         let Some(head) = next(&mut input)? else {
             break;
         };
