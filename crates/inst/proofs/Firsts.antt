@@ -2,7 +2,7 @@
 use mathlib.Core.Bool.{Bool, true, false, cond, not, ◌&&◌, ◌||◌}
 use mathlib.Core.List.{List, [], ◌∷◌, ◌++◌, append-nil, append_assoc}
 use mathlib.Core.Path.{◌≡◌, refl, sym, ap, ◌∙◌, subst}
-use Prim.Native.Nat.{ℕ, zero, suc, ◌+◌, ◌/◌, ◌%◌, ◌<◌}
+use Prim.Native.Nat.{ℕ, zero, suc, ◌+◌, ◌/◌, ◌%◌, ◌<◌, ◌≤◌}
 use native.Mathlib.Nat.{not-suc-le-zero, le_of_suc-le-suc}
 use native.Mathlib.Omega.{arith}
 use borrow.Author.Tests.{eq-eqb, ne_eqb, eqb-false}
@@ -13,7 +13,7 @@ use Rattle.model.specs.Kinds.{Role, writing}
 use Rattle.model.specs.Picture.{Inst, inst, absent, roles, slots, chosen, list_of, reads, writes}
 use Rattle.inst.specs.declared.scanned.Firsts.{Firsts}
 use Rattle.inst.specs.Table.{two_bits}
-use Rattle.inst.specs.Record.{Used, read_at, write_at, later, present, rest_reads, rest_writes}
+use Rattle.inst.specs.Record.{Used, read_at, write_at, later, writers, present, rest_reads, rest_writes}
 use Rattle.inst.specs.Firsts.{Heads}
 use Rattle.inst.proofs.Slots.{read_no, write_no}
 use Rattle.inst.proofs.Rest.{reads_next, writes_next, reads_end, writes_end, reads_all, writes_all}
@@ -92,16 +92,35 @@ module _ (recs : List ℕ) (p u : ℕ) (g : Used recs p u) where
   not_written : (s : ℕ) → s < 5 → (two_bits u s / 2 ≡ 1 → ⊥) → rest_writes i (s + 1) ≡ [] → rest_writes i s ≡ []
   not_written s h n e = writes_next recs p g.within s h (write_no recs p u s g h _ refl n) ∙ present_none (rest_writes i (s + 1)) refl ∙ e
 
-  pub one_write : later u ≡ false → (w : ℕ) → w ≡ write_at i 0 → writes i ≡ present w
-  one_write e w ew =
+  no_later : later u ≡ false → rest_writes i 1 ≡ []
+  no_later e =
       let f3 = or_left _ _ e in
       let f2 = or_left _ _ f3 in
       let n1 = eqb-false (u / 8 % 2) 1 (or_left _ _ f2) in
       let n2 = eqb-false (u / 32 % 2) 1 (or_right (eqb (u / 8 % 2) 1) _ f2) in
       let n3 = eqb-false (u / 128 % 2) 1 (or_right (eqb (u / 8 % 2) 1 || eqb (u / 32 % 2) 1) _ f3) in
       let n4 = eqb-false (u / 512 % 2) 1 (or_right (eqb (u / 8 % 2) 1 || eqb (u / 32 % 2) 1 || eqb (u / 128 % 2) 1) _ e) in
-      let rest = not_written 1 (omega arith) (λ q. n1 (omega arith)) (not_written 2 (omega arith) (λ q. n2 (omega arith)) (not_written 3 (omega arith) (λ q. n3 (omega arith)) (not_written 4 (omega arith) (λ q. n4 (omega arith)) (writes_end recs p g.within 5 (omega arith))))) in
-      sym (writes_all i) ∙ writes_next recs p g.within 0 (omega arith) ew ∙ ap (λ (l : List ℕ). present w ++ l) rest ∙ append-nil (present w)
+      not_written 1 (omega arith) (λ q. n1 (omega arith)) (not_written 2 (omega arith) (λ q. n2 (omega arith)) (not_written 3 (omega arith) (λ q. n3 (omega arith)) (not_written 4 (omega arith) (λ q. n4 (omega arith)) (writes_end recs p g.within 5 (omega arith)))))
+
+  pub one_write : later u ≡ false → (w : ℕ) → w ≡ write_at i 0 → writes i ≡ present w
+  one_write e w ew =
+      sym (writes_all i) ∙ writes_next recs p g.within 0 (omega arith) ew ∙ ap (λ (l : List ℕ). present w ++ l) (no_later e) ∙ append-nil (present w)
+
+  -- none after those that may write does
+  pub writers_end : {s : ℕ} → s ≡ writers u → rest_writes i s ≡ []
+  writers_end {s} e = go (later u) refl
+    where
+      go : (b : Bool) → later u ≡ b → rest_writes i s ≡ []
+      go true k = writes_end recs p g.within s (let z = ap {B = ℕ} (λ (b : Bool). cond b 5 1) k in omega (arith, e, z))
+      go false k = ap (rest_writes i) (e ∙ ap {B = ℕ} (λ (b : Bool). cond b 5 1) k) ∙ no_later k
+
+-- no more than there are
+pub writers_few : (u : ℕ) → writers u ≤ 5
+writers_few u = go (later u)
+  where
+    go : (b : Bool) → cond b 5 1 ≤ 5
+    go true = omega arith
+    go false = omega arith
 
 -- the slots and then the list are all that it reads
 pub scanned : {recs recs' : List ℕ} (p : ℕ) {xs : List ℕ} {x : Firsts} → recs' ≡ recs → (ops : List ℕ) → xs ≡ list_of ops (inst recs p)

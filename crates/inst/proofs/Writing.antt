@@ -13,7 +13,7 @@ use lib.Seq.{get_or-set_same, get_or-set_other}
 use Rattle.words.specs.Lists.{mem}
 use Rattle.model.specs.Picture.{Inst, inst, absent, writes}
 use Rattle.inst.specs.Record.{Within, write_at, present, rest_writes}
-use Rattle.inst.proofs.Rest.{writes_next, writes_end, writes_all}
+use Rattle.inst.proofs.Rest.{writes_next, writes_all}
 use Rattle.inst.proofs.Looked.{mem_hit, mem_miss}
 use Rattle.inst.specs.Written.{put_in, settle, Written}
 
@@ -104,9 +104,9 @@ module _ (f : ℕ → ℕ) (twice : (v : ℕ) → f (f v) ≡ f v) where
       low : (w ≡ absent → ⊥) → w < absent
       low k = ⊎_elim (λ (z : w ≡ absent). absurd (k z)) (λ (z : w < length xs). omega (arith, few)) l
 
-pub writing_end : {f : ℕ → ℕ} {recs : List ℕ} {g s : ℕ} {xs ys : List ℕ} → Within recs g → Writing f recs g s xs ys → 5 ≤ s → Written f (inst recs g) xs ys
+pub writing_end : {f : ℕ → ℕ} {recs : List ℕ} {g s : ℕ} {xs ys : List ℕ} → Writing f recs g s xs ys → rest_writes (inst recs g) s ≡ [] → Written f (inst recs g) xs ys
 unfolding settle
-writing_end {f} {recs} {g} {s} {xs} {ys} w n h = record {
+writing_end {f} {recs} {g} {s} {xs} {ys} n h = record {
   size = n.size;
-  each = λ r k. sym (ap (λ (l : List ℕ). settle f (mem r l) (get_or ys r 0)) (writes_end recs g w s h)) ∙ n.each r k;
+  each = λ r k. sym (ap (λ (l : List ℕ). settle f (mem r l) (get_or ys r 0)) h) ∙ n.each r k;
 }

@@ -55,6 +55,10 @@ write_at i s = cond (writing (get_or (roles i) s off)) (get_or i (2 + s) 0) abse
 abbrev pub later : ℕ → Bool
 later u = eqb (u / 8 % 2) 1 || eqb (u / 32 % 2) 1 || eqb (u / 128 % 2) 1 || eqb (u / 512 % 2) 1
 
+-- and so many slots, from the first on, may write
+abbrev pub writers : ℕ → ℕ
+writers u = cond (later u) 5 1
+
 -- r where it is a register
 unfoldable pub present : ℕ → List ℕ
 present r = cond (eqb r absent) [] (r ∷ [])

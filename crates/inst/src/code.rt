@@ -3,12 +3,12 @@
 ghost use Rattle.std.specs.Prelude.{◌≡◌, List, [], ◌++◌, ℕ, ◌+◌, ◌<◌};
 ghost use Rattle.model.specs.Picture.{inst, kind, absent, list_of, reads, writes};
 ghost use Rattle.inst.specs.Table.{packed};
-ghost use Rattle.inst.specs.Record.{word, Known, Used, Listed, uses_of, asks_of, read_at, write_at, later, rest_reads, rest_writes};
+ghost use Rattle.inst.specs.Record.{word, Known, Used, Listed, uses_of, asks_of, read_at, write_at, later, writers, rest_reads, rest_writes};
 ghost use Rattle.inst.specs.Firsts.{Heads};
 ghost use Rattle.inst.specs.Index.{reg_of};
 
 use crate::index::Reg;
-use crate::record::Record;
+use crate::record::{Record, SLOTS};
 use crate::scanned::Firsts;
 use crate::table::{Row, Table, two_bits};
 use model::ABSENT;
@@ -99,6 +99,16 @@ impl Slots<'_> {
     {
         let does = self.does;
         (does / 8 % 2 == 1) | (does / 32 % 2 == 1) | (does / 128 % 2 == 1) | (does / 512 % 2 == 1)
+    }
+
+    // How many slots, from the first on, may write: of most kinds one.
+    pub fn writers(&self) -> usize
+        ensures { result ≡ writers self.now.does }
+    {
+        if self.writes_later() {
+            return SLOTS;
+        }
+        1
     }
 
     // The word of slot s.

@@ -22,13 +22,16 @@ pub fn change<F: Fn(u64) -> u64>(words: &mut [u64], r: Option<Reg>, f: F)
 }
 
 // So does the word of each register that the slots write, one by one; f makes no more of what it made.
+// (Inlined always: a call of its own does not know what f goes by, and divides where f takes a remainder by a power of two.)
+#[inline(always)]
 pub fn change_written<F: Fn(u64) -> u64>(slots: &Slots, words: &mut [u64], f: F)
     requires few { length words.old ≤ absent }
     requires by_index { (s : ℕ) → s < 5 → (write_at (inst slots.now.recs.now slots.now.p) s ≡ absent → ⊥) → write_at (inst slots.now.recs.now slots.now.p) s < length words.old }
     requires can { F.IsAlwaysCallable f }
     ensures { (g : ℕ → ℕ) → Makes (F.post f) g → ((v : ℕ) → g (g v) ≡ g v) → Written g (inst slots.now.recs.now slots.now.p) words.old words.new }
 {
-    for s in 0..5 {
+    let n = slots.writers();
+    for s in 0..n {
         change(words, slots.write(s, words.len()), &f);
     }
 }

@@ -72,7 +72,8 @@ fn unneeded(asked: &Elsewhere<'_>, r: Option<Reg>, p: usize) -> bool
     !(words::bits::bit_in(asked.bits, asked.at, k) & (asked.regs[k] / FLAGS == p as u32 + 1))
 }
 
-// Rule 2 for what a record, at p, writes, slot by slot.
+// Rule 2 for what a record, at p, writes, slot by slot. (Inlined always: the loop of a sweep then keeps what it asks in registers.)
+#[inline(always)]
 pub fn unneeded_slots(slots: &Slots, asked: &Elsewhere<'_>, p: usize) -> bool
     requires { Fits slots.now.recs.now (length asked.now.regs.now) slots.now.p × (p < 800) × (asked.now.at ≤ length asked.now.bits.now) }
     ensures { result ≡ all (result_test asked.now.regs.now asked.now.bits.now asked.now.at p) (writes (inst slots.now.recs.now slots.now.p)) }

@@ -94,7 +94,8 @@ fn forth_in(
     forth(given, f, &mut work[s..e], lasts, p)
 }
 
-// Position p, of fact f, is visited. Says whether it is in the set.
+// Position p, of fact f, is visited. Says whether it is in the set. (Inlined always: see `run`.)
+#[inline(always)]
 fn visit(
     given: &Given<'_>,
     work: &mut [u64],
@@ -123,8 +124,9 @@ fn counts(phase: Phase, f: Fact, stays: bool) -> bool
     }
 }
 
-// A whole sweep. Says how many begin in the set, or are dropped.
-pub(crate) fn run(
+// All turns of a sweep. (Inlined always: see `run`.)
+#[inline(always)]
+fn turns(
     given: &Given<'_>,
     work: &mut [u64],
     lasts: &mut Lasts,
@@ -143,4 +145,23 @@ pub(crate) fn run(
         count += u32::from(counts(g.phase, f, stays));
     }
     count
+}
+
+// A whole sweep. Says how many begin in the set, or are dropped. Each phase stands here by its name, so that it has a loop of its own
+// which does not ask for it at each position.
+pub(crate) fn run(
+    given: &Given<'_>,
+    work: &mut [u64],
+    lasts: &mut Lasts,
+    facts: &mut [Fact],
+    g: Sweep,
+) -> u32
+    requires { Sweepable given.now.code.recs.now given.now.code.ops.now given.now.regs.now work.old facts.old g }
+    ensures { Swept given.now.code.recs.now given.now.code.ops.now given.now.regs.now g work.old lasts.old facts.old g.k work.new lasts.new facts.new result }
+{
+    match g.phase {
+        Phase::Start => turns(given, work, lasts, facts, Sweep { phase: Phase::Start, ..g }),
+        Phase::Back => turns(given, work, lasts, facts, Sweep { phase: Phase::Back, ..g }),
+        Phase::Forth => turns(given, work, lasts, facts, Sweep { phase: Phase::Forth, ..g }),
+    }
 }

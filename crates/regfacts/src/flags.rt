@@ -15,7 +15,7 @@ use inst::code::Code;
 use inst::constant::{Constant, decode};
 use inst::kinds::ADDR_OF;
 use inst::record::Record;
-use inst::written::{change, change_written};
+use inst::written::change_written;
 
 // A register's word counts what stands over its flags by this.
 pub const FLAGS: u64 = 16;
@@ -42,18 +42,13 @@ fn next(v: u64, p: u64) -> u64
     SEVERAL
 }
 
-// Record p and all that it writes, mostly in its first slot alone.
+// Record p and all that it writes.
 fn note_record(code: &Code, regs: &mut [u64], p: usize)
     requires { (p < 32768) × Fits code.now.recs.now (length regs.old) p }
     ensures { Written (noted p) (inst code.now.recs.now p) regs.old regs.new }
 {
-    let slots = code.slots(p);
     let n = p as u64;
-    if slots.writes_later() {
-        change_written(&slots, regs, |v| next(v, n));
-        return;
-    }
-    change(regs, slots.write(0, regs.len()), |v| next(v, n));
+    change_written(&code.slots(p), regs, |v| next(v, n));
 }
 
 // The only writer of each register among n records.

@@ -36,6 +36,7 @@ fn slot_word(r: Option<Reg>, does: u32, anew: Anew) -> u32
 }
 
 // The five slots of record p, whose slots do what `uses` says.
+#[inline(always)]
 pub(crate) fn rename_slots(recs: &mut [u32], p: usize, uses: u32, anew: Anew)
     requires used { Used recs.old p uses × (length anew.names.now ≤ 4294967295) }
     requires by_index { (s : ℕ) → s < 5 → (get_or recs.old (16 * p + 2 + s) 0 ≡ 4294967295 → ⊥) → get_or recs.old (16 * p + 2 + s) 0 < length anew.names.now }

@@ -2,7 +2,7 @@
 use Rattle.std.specs.Prelude.{Option}
 use mathlib.Core.Path.{◌≡◌, refl, sym, ap, ◌∙◌, subst}
 use mathlib.Core.Logic.{◌⊎◌, inl, inr, ⊎_elim}
-use mathlib.Core.Bool.{Bool, true, false, ◌||◌, cond}
+use mathlib.Core.Bool.{Bool, true, false, ◌&&◌, ◌||◌, cond}
 use mathlib.Core.List.{List, [], ◌∷◌, ◌++◌, map}
 use Prim.Native.Nat.{ℕ, ◌+◌, ◌-◌, ◌≤◌, ◌<◌}
 use native.Mathlib.Omega.{arith}
@@ -16,9 +16,9 @@ use Rattle.model.specs.Kinds.{reading}
 use Rattle.model.specs.Picture.{inst, absent, roles, slots, chosen, reads, writes, list_of}
 use Rattle.inst.specs.Index.{reg_of, word_of, Among}
 use Rattle.inst.specs.declared.index.Reg.{Reg}
-use Rattle.inst.specs.Record.{Within, read_at, write_at, present}
+use Rattle.inst.specs.Record.{Within, read_at, write_at, present, rest_writes}
 use Rattle.inst.proofs.Indices.{reg_made}
-use Rattle.inst.proofs.Rest.{reads_by_place, writes_by_place}
+use Rattle.inst.proofs.Rest.{reads_by_place, writes_by_place, writes_step}
 use Rattle.regfacts.specs.Written.{Fits, Good}
 use Rattle.summary.specs.Passes.{read_place}
 
@@ -129,8 +129,20 @@ module _ (recs ops : List ℕ) (R g : ℕ) (h : Good recs ops R g) where
 
 -- ---- all places pass a test
 
-pub writes_tested : {recs : List ℕ} {R g : ℕ} (f : ℕ → Bool) → Fits recs R g → all (λ k. eqb (write_at (inst recs g) k) absent || f (write_at (inst recs g) k)) (upto 5) ≡ all f (writes (inst recs g))
-writes_tested {recs} {R} {g} f h = sym (all_placed (writes_placed recs g h.whole.within) f)
+present_tested : (f : ℕ → Bool) (w : ℕ) (ys : List ℕ) → all f (present w ++ ys) ≡ ((eqb w absent || f w) && all f ys)
+unfolding present
+present_tested f w ys = go (eqb w absent)
+  where
+    go : (b : Bool) → all f (cond b [] (w ∷ []) ++ ys) ≡ ((b || f w) && all f ys)
+    go true = refl
+    go false = refl
+
+-- what slot s writes, and then what those after it do
+pub slot_tested : {recs : List ℕ} {R g : ℕ} (f : ℕ → Bool) → Fits recs R g → (s : ℕ) → s < 5 → (c : Bool) {b : Bool} → b ≡ (eqb (write_at (inst recs g) s) absent || f (write_at (inst recs g) s)) → b ≡ c
+    → all f (rest_writes (inst recs g) s) ≡ (c && all f (rest_writes (inst recs g) (s + 1)))
+slot_tested {recs} {R} {g} f h s l c {b} e n =
+    ap (all f) (writes_step recs g h.whole.within s l) ∙ present_tested f (write_at (inst recs g) s) (rest_writes (inst recs g) (s + 1))
+    ∙ ap (λ (x : Bool). x && all f (rest_writes (inst recs g) (s + 1))) (sym e ∙ n)
 
 pub reads_tested : {recs ops : List ℕ} {R g n : ℕ} (f : ℕ → Bool) → Good recs ops R g → n ≡ 5 + length (list_of ops (inst recs g))
     → all (λ k. eqb (read_place ops (inst recs g) k) absent || f (read_place ops (inst recs g) k)) (upto n) ≡ all f (reads ops (inst recs g))

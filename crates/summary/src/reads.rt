@@ -11,9 +11,7 @@ ghost use Rattle.summary.specs.Passes.{read_place, Tests};
 
 use inst::code::{Code, Slots};
 use inst::index::Reg;
-
-// A record's slots come before its list.
-const SLOTS: usize = 5;
+use inst::record::SLOTS;
 
 // What is left of a record's reads, place by place: its slots, then its list, each one of count registers or none.
 #[derive(Clone, Copy)]
@@ -78,7 +76,8 @@ pub fn all_written<F: Fn(Option<Reg>) -> bool>(slots: &Slots, count: usize, test
     requires can { (m : Option RegAt) → Among count m → F.pre test m }
     ensures { (t : ℕ → Bool) → Tests count (F.post test) t → result ≡ all t (writes (inst slots.now.recs.now slots.now.p)) }
 {
-    for s in 0..SLOTS {
+    let n = slots.writers();
+    for s in 0..n {
         if !test(slots.write(s, count)) {
             return false;
         }

@@ -1,6 +1,9 @@
 -- `inst::written::change_written` meets its contract. Assumes nothing.
 use native.Mathlib.Omega.{arith}
-use mathlib.Core.Path.{refl}
+use mathlib.Core.Path.{◌≡◌, refl}
+use Prim.Native.Nat.{◌<◌}
+use Rattle.inst.specs.Record.{writers}
+use Rattle.inst.proofs.Firsts.{writers_few, writers_end}
 use Rattle.inst.proofs.Indices.{among_made, word_made}
 use Rattle.inst.proofs.Writing.{writing_none, writing_more, writing_end}
 use Rattle.inst.proofs.written.change_written.Goals as goal
@@ -13,9 +16,12 @@ change-requires-clause-among g c = among_made _ _ c.write.ensures refl _ (omega 
 
 pub loop-s-preserved : goal.loop-s-preserved
 loop-s-preserved g c = λ f m twice.
-    let ok = c.requires.by_index c.loop-s.s c.loop-s-test.true in
-    writing_more f twice _ _ _ _ _ c.loop-s-test.true c.args.slots.now.used.within c.requires.few ok (c.loop-s.invariant f m twice) _
+    let low : c.loop-s.s < 5 = omega (arith, c.loop-s-test.true, c.writers-n.ensures, writers_few c.args.slots.now.does) in
+    let ok = c.requires.by_index c.loop-s.s low in
+    writing_more f twice _ _ _ _ _ low c.args.slots.now.used.within c.requires.few ok (c.loop-s.invariant f m twice) _
     (word_made _ _ c.write.ensures refl (λ n. rw c.loop-s.auto.words (ok n))) (c.change.ensures f (record { made = λ x y p. m.made x y p }))
 
 pub returns : goal.returns
-returns g c = λ f m twice. writing_end c.args.slots.now.used.within (c.loop-s.invariant f m twice) c.loop-s-test.false
+returns g c = λ f m twice.
+    let all : c.loop-s.s ≡ writers c.args.slots.now.does = omega (arith, c.loop-s.auto.s-end, c.loop-s-test.false, c.writers-n.ensures) in
+    writing_end (c.loop-s.invariant f m twice) (writers_end _ _ _ c.args.slots.now.used all)

@@ -1,4 +1,4 @@
--- `plan::sweep::run` meets its contract. Assumes nothing.
+-- `plan::sweep::turns` meets its contract. Assumes nothing.
 use mathlib.Core.Path.{◌≡◌, sym, ap, ◌∙◌, subst}
 use mathlib.Core.Bool.{Bool}
 use mathlib.Core.List.{List}
@@ -13,7 +13,7 @@ use Rattle.facts.specs.Marks.{no_fact, marked}
 use Rattle.plan.specs.Sweep.{Swept, Visitable, Visit, place, counts}
 use Rattle.plan.specs.declared.sweep.Sweep.{Sweep}
 use Rattle.plan.proofs.Sweeping.{visitable, swept_count}
-use Rattle.plan.proofs.sweep.run.Goals as goal
+use Rattle.plan.proofs.sweep.turns.Goals as goal
 
 turned : {recs ops regs work : List ℕ} {ls : Lasts} {g : Sweep} {fs : List Fact} {i : ℕ} {work' : List ℕ} {ls' : Lasts} {work'' : List ℕ} {ls'' : Lasts} {fs' : List Fact} {count p n : ℕ} {stays : Bool}
     → Swept recs ops regs g work ls fs i work' ls' fs' count → p ≡ place g i → Visit recs ops regs g (get_or fs' p no_fact) p work' ls' work'' ls'' stays → n ≡ hit (counts g.phase (get_or fs' p no_fact) stays)
