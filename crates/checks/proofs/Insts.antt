@@ -8,7 +8,7 @@ use Rattle.std.specs.List.{list_any}
 use Rattle.words.specs.Lists.{range, upto, any}
 use native.Mathlib.Nat.{zero-add}
 use Rattle.words.proofs.Lists.{range_append}
-use Rattle.words.proofs.Alls.{any_map, any_append, any_at, any_below, find_yes, find_on, find_no}
+use Rattle.words.proofs.Alls.{any_map, any_append, any_at, any_below, find_yes, find_on}
 use Rattle.model.specs.Picture.{Inst, inst}
 use Rattle.checks.specs.Causes.{code}
 
@@ -38,9 +38,6 @@ module _ (f : Inst → Bool) (recs : List ℕ) where
 
   pub code_on : (p : ℕ) {r : Bool} → any f (code recs p) ≡ false → r ≡ at p → r ≡ false → any f (code recs (p + 1)) ≡ false
   code_on p h e t = by_place (p + 1) ∙ find_on at {i = p} (sym (by_place p) ∙ h) e t
-
-  pub code_no : {n p : ℕ} → p ≤ n → n ≤ p → any f (code recs p) ≡ false → false ≡ any f (code recs n)
-  code_no {n} {p} h k t = find_no at h k (sym (by_place p) ∙ t) ∙ sym (by_place n)
 
   -- one more, of a loop that goes on: `found = found | f(p);`
   pub code_more : (p : ℕ) {b r : Bool} → b ≡ any f (code recs p) → r ≡ at p → (b || r) ≡ any f (code recs (p + 1))

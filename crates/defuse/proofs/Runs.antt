@@ -1,6 +1,6 @@
 -- The loops of sets.rt: one register, one instruction after the other. Assumes nothing.
 use Rattle.std.specs.Prelude.{Option, Some, None}
-use mathlib.Core.Path.{◌≡◌, refl, sym, ap, ap₂, subst, ◌∙◌}
+use mathlib.Core.Path.{◌≡◌, refl, sym, ap, subst, ◌∙◌}
 use mathlib.Core.Logic.{inl, ⊎_elim}
 use mathlib.Core.Bool.{Bool, true, false, cond}
 use mathlib.Core.List.{List, [], ◌∷◌, ◌++◌, map}
@@ -15,10 +15,9 @@ use Rattle.words.specs.Lists.{In, range, upto, concat}
 use Rattle.words.proofs.Bools.{eq?}
 use Rattle.words.proofs.Members.{in_left, in_right, in_concat, map_in, in_range}
 use Rattle.model.specs.Picture.{Inst, inst, absent, reads, writes, list_of}
-use Rattle.inst.specs.Record.{Within, Used, present, read_at, write_at, rest_reads, rest_writes}
+use Rattle.inst.specs.Record.{Within, present, read_at, write_at, rest_reads, rest_writes}
 use Rattle.inst.specs.Index.{reg_of, pick}
 use Rattle.inst.specs.declared.index.Reg.{Reg}
-use Rattle.inst.proofs.Firsts.{three_reads}
 use Rattle.inst.proofs.Rest.{reads_step, writes_step, reads_all, reads_by_place, writes_by_place}
 use Rattle.defuse.specs.Sets.{one, put, wrote, before, run, Low, Code}
 use Rattle.words.specs.Steps.{steps}
@@ -95,14 +94,6 @@ read_on {recs} {p} {c} {s} u w low h r l m e q = steps_on (put u) (one r) (rest_
 pub write_on : {recs : List ℕ} {p c s : ℕ} (u d : ℕ) → Within recs p → Low c (writes (inst recs p)) → s < 5 → (r : Option Reg) (l m : List ℕ) → r ≡ reg_of (write_at (inst recs p) s) c → m ≡ steps (wrote u d) l (one r)
     → steps (wrote u d) m (rest_writes (inst recs p) (s + 1)) ≡ steps (wrote u d) l (rest_writes (inst recs p) s)
 write_on {recs} {p} {c} {s} u d w low h r l m e q = steps_on (wrote u d) (one r) (rest_writes (inst recs p) (s + 1)) (rest_writes (inst recs p) s) l (write_next recs p w h low e) q refl
-
--- the first three slots, where no later one is used
-pub three_read : {recs : List ℕ} {p u c : ℕ} {a b d : Option Reg} → Used recs p u → u < 64 → Low c (rest_reads (inst recs p) 0)
-    → a ≡ reg_of (read_at (inst recs p) 0) c → b ≡ reg_of (read_at (inst recs p) 1) c → d ≡ reg_of (read_at (inst recs p) 2) c → rest_reads (inst recs p) 0 ≡ one a ++ (one b ++ one d)
-three_read {recs} {p} {u} g h l ea eb ed =
-    let w = g.within in
-    three_reads recs p u g h _ _ _ refl refl refl
-    ∙ ap₂ (λ (x y : List ℕ). x ++ y) (sym (slot_read recs p w (omega arith) l ea)) (ap₂ (λ (x y : List ℕ). x ++ y) (sym (slot_read recs p w (omega arith) l eb)) (sym (slot_read recs p w (omega arith) l ed)))
 
 -- ---- one instruction
 

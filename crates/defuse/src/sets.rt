@@ -45,40 +45,32 @@ fn read_one(bits: &mut [u64], at: Pair, r: Option<Reg>)
     set_in(bits, at.u, k.at());
 }
 
-// f at each slot, one by one. Where `left s` says what the bits become by the slots from s on, and f keeps that, it says so of the end.
-fn each_slot<F: Fn(&mut [u64], usize)>(bits: &mut [u64], f: F)
+// f at the first n slots, one by one. Where `left s` says what the bits become by the slots from s on, and f keeps that, it says so of
+// those from n on.
+fn each_slot<F: Fn(&mut [u64], usize)>(bits: &mut [u64], n: usize, f: F)
+    requires few { n ≤ 5 }
     requires can { AtSlots (length bits.old) (F.pre f) }
-    ensures { (left : ℕ → List ℕ → List ℕ) → Keeps (F.post f) left → left 5 bits.new ≡ left 0 bits.old }
+    ensures { (left : ℕ → List ℕ → List ℕ) → Keeps (F.post f) left → left n bits.new ≡ left 0 bits.old }
 {
-    for s in 0..5 {
+    for s in 0..n {
         f(bits, s);
     }
 }
 
-// What a record writes, mostly in its first slot alone.
+// What a record writes.
 fn write_slots(bits: &mut [u64], slots: &Slots<'_>, at: Pair)
     requires { (at.u ≤ length bits.old) × (at.d ≤ length bits.old) × Low at.regs (writes (inst slots.now.recs.now slots.now.p)) }
     ensures { bits.new ≡ steps (wrote at.u at.d) bits.old (writes (inst slots.now.recs.now slots.now.p)) }
 {
-    if slots.writes_later() {
-        each_slot(bits, |bits, s| write_one(bits, at, slots.write(s, at.regs)));
-        return;
-    }
-    write_one(bits, at, slots.write(0, at.regs));
+    each_slot(bits, slots.writers(), |bits, s| write_one(bits, at, slots.write(s, at.regs)));
 }
 
-// What the slots of a record read, mostly the first three alone.
+// What the slots of a record read.
 fn read_slots(bits: &mut [u64], slots: &Slots<'_>, at: Pair)
     requires { (at.u ≤ length bits.old) × Low at.regs (rest_reads (inst slots.now.recs.now slots.now.p) 0) }
     ensures { bits.new ≡ steps (put at.u) bits.old (rest_reads (inst slots.now.recs.now slots.now.p) 0) }
 {
-    if 64 <= slots.does {
-        each_slot(bits, |bits, s| read_one(bits, at, slots.read(s, at.regs)));
-        return;
-    }
-    read_one(bits, at, slots.read(0, at.regs));
-    read_one(bits, at, slots.read(1, at.regs));
-    read_one(bits, at, slots.read(2, at.regs));
+    each_slot(bits, slots.readers(), |bits, s| read_one(bits, at, slots.read(s, at.regs)));
 }
 
 // What a list of operands reads.

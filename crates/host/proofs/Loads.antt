@@ -48,9 +48,6 @@ module _ (bs : List ℕ) (r : readable bs ≡ true) where
       go Targets s = omega arith
       go Replay s = omega arith
 
-  pub part_fits : (p : Part) (c : Counts) (n : ℕ) → c ≡ held bs → n ≡ words_in p c → n ≤ most p
-  part_fits p c n e f = rw (f, e) (fits p)
-
   pub part_head : (p : Part) (c : Counts) (n : ℕ) (xs : List ℕ) → c ≡ held bs → n ≡ words_in p c → xs ≡ room (most p) (part_of (words_of bs) p) → take n xs ≡ part_of (words_of bs) p
   part_head p c n xs e f g = rw (f, e, g) (room_front (words_in p (held bs)) (most p) (part_of (words_of bs) p) (fits p) ∙ part_all bs p r)
 

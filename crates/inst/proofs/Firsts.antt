@@ -1,19 +1,19 @@
 -- The first registers read and written, one slot put before the others. Assumes nothing.
 use mathlib.Core.Bool.{Bool, true, false, cond, not, ◌&&◌, ◌||◌}
-use mathlib.Core.List.{List, [], ◌∷◌, ◌++◌, append-nil, append_assoc}
+use mathlib.Core.List.{List, [], ◌∷◌, ◌++◌, append_assoc}
 use mathlib.Core.Path.{◌≡◌, refl, sym, ap, ◌∙◌, subst}
 use Prim.Native.Nat.{ℕ, zero, suc, ◌+◌, ◌/◌, ◌%◌, ◌<◌, ◌≤◌}
 use native.Mathlib.Nat.{not-suc-le-zero, le_of_suc-le-suc}
 use native.Mathlib.Omega.{arith}
-use borrow.Author.Tests.{eq-eqb, ne_eqb, eqb-false}
-use lib.Dec.{eqb}
+use borrow.Author.Tests.{eq-eqb, ne_eqb, eqb-false, ltb-true}
+use lib.Dec.{eqb, ltb}
 use lib.ListN.{get_or, length}
 use Rattle.words.proofs.Bools.{or_left, or_right}
 use Rattle.model.specs.Kinds.{Role, writing}
 use Rattle.model.specs.Picture.{Inst, inst, absent, roles, slots, chosen, list_of, reads, writes}
 use Rattle.inst.specs.declared.scanned.Firsts.{Firsts}
 use Rattle.inst.specs.Table.{two_bits}
-use Rattle.inst.specs.Record.{Used, read_at, write_at, later, writers, present, rest_reads, rest_writes}
+use Rattle.inst.specs.Record.{Used, read_at, write_at, later, readers, writers, present, rest_reads, rest_writes}
 use Rattle.inst.specs.Firsts.{Heads}
 use Rattle.inst.proofs.Slots.{read_no, write_no}
 use Rattle.inst.proofs.Rest.{reads_next, writes_next, reads_end, writes_end, reads_all, writes_all}
@@ -80,14 +80,19 @@ module _ (recs : List ℕ) (p u : ℕ) (g : Used recs p u) where
   not_read : (s : ℕ) → s < 5 → (two_bits u s ≡ 0) → rest_reads i (s + 1) ≡ [] → rest_reads i s ≡ []
   not_read s h z e = reads_next recs p g.within s h (read_no recs p u s g h _ refl (λ q. omega arith)) ∙ present_none (rest_reads i (s + 1)) refl ∙ e
 
-  pub three_reads : u < 64 → (a b c : ℕ) → a ≡ read_at i 0 → b ≡ read_at i 1 → c ≡ read_at i 2 → rest_reads i 0 ≡ present a ++ (present b ++ present c)
-  three_reads few a b c ea eb ec =
+  no_last_read : u < 64 → rest_reads i 3 ≡ []
+  no_last_read few =
       let z : two_bits u 3 ≡ 0 = omega arith in
       let y : two_bits u 4 ≡ 0 = omega arith in
-      let rest = not_read 3 (omega arith) z (not_read 4 (omega arith) y (reads_end recs p g.within 5 (omega arith))) in
-      reads_next recs p g.within 0 (omega arith) ea ∙ ap (λ (l : List ℕ). present a ++ l)
-      (reads_next recs p g.within 1 (omega arith) eb ∙ ap (λ (l : List ℕ). present b ++ l)
-      (reads_next recs p g.within 2 (omega arith) ec ∙ ap (λ (l : List ℕ). present c ++ l) rest ∙ append-nil (present c)))
+      not_read 3 (omega arith) z (not_read 4 (omega arith) y (reads_end recs p g.within 5 (omega arith)))
+
+  -- none after those that may read does
+  pub readers_end : {s : ℕ} → s ≡ readers u → rest_reads i s ≡ []
+  readers_end {s} e = go (ltb u 64) refl
+    where
+      go : (b : Bool) → ltb u 64 ≡ b → rest_reads i s ≡ []
+      go true k = ap (rest_reads i) (e ∙ ap {B = ℕ} (λ (b : Bool). cond b 3 5) k) ∙ no_last_read (ltb-true u 64 k)
+      go false k = reads_end recs p g.within s (let z = ap {B = ℕ} (λ (b : Bool). cond b 3 5) k in omega (arith, e, z))
 
   not_written : (s : ℕ) → s < 5 → (two_bits u s / 2 ≡ 1 → ⊥) → rest_writes i (s + 1) ≡ [] → rest_writes i s ≡ []
   not_written s h n e = writes_next recs p g.within s h (write_no recs p u s g h _ refl n) ∙ present_none (rest_writes i (s + 1)) refl ∙ e
@@ -102,10 +107,6 @@ module _ (recs : List ℕ) (p u : ℕ) (g : Used recs p u) where
       let n4 = eqb-false (u / 512 % 2) 1 (or_right (eqb (u / 8 % 2) 1 || eqb (u / 32 % 2) 1 || eqb (u / 128 % 2) 1) _ e) in
       not_written 1 (omega arith) (λ q. n1 (omega arith)) (not_written 2 (omega arith) (λ q. n2 (omega arith)) (not_written 3 (omega arith) (λ q. n3 (omega arith)) (not_written 4 (omega arith) (λ q. n4 (omega arith)) (writes_end recs p g.within 5 (omega arith)))))
 
-  pub one_write : later u ≡ false → (w : ℕ) → w ≡ write_at i 0 → writes i ≡ present w
-  one_write e w ew =
-      sym (writes_all i) ∙ writes_next recs p g.within 0 (omega arith) ew ∙ ap (λ (l : List ℕ). present w ++ l) (no_later e) ∙ append-nil (present w)
-
   -- none after those that may write does
   pub writers_end : {s : ℕ} → s ≡ writers u → rest_writes i s ≡ []
   writers_end {s} e = go (later u) refl
@@ -115,6 +116,13 @@ module _ (recs : List ℕ) (p u : ℕ) (g : Used recs p u) where
       go false k = ap (rest_writes i) (e ∙ ap {B = ℕ} (λ (b : Bool). cond b 5 1) k) ∙ no_later k
 
 -- no more than there are
+pub readers_few : (u : ℕ) → readers u ≤ 5
+readers_few u = go (ltb u 64)
+  where
+    go : (b : Bool) → cond b 3 5 ≤ 5
+    go true = omega arith
+    go false = omega arith
+
 pub writers_few : (u : ℕ) → writers u ≤ 5
 writers_few u = go (later u)
   where

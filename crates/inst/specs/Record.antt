@@ -1,6 +1,6 @@
 -- 01, "The call", the record: its words, which register each slot reads or writes, and what acceptance gives of a record.
 -- Assumes nothing.
-use Rattle.std.specs.Prelude.{◌≡◌, Bool, cond, not, ◌&&◌, ◌||◌, List, [], ◌∷◌, ℕ, ◌+◌, ◌*◌, ◌/◌, ◌%◌, ◌≤◌, ◌<◌, eqb, leb, get_or, length, drop}
+use Rattle.std.specs.Prelude.{◌≡◌, Bool, cond, not, ◌&&◌, ◌||◌, List, [], ◌∷◌, ℕ, ◌+◌, ◌*◌, ◌/◌, ◌%◌, ◌≤◌, ◌<◌, eqb, leb, ltb, get_or, length, drop}
 use Rattle.model.specs.Kinds.{Role, off, reading, writing}
 use Rattle.model.specs.Picture.{Inst, inst, absent, roles, slots, chosen}
 use Rattle.inst.specs.Table.{does, asks}
@@ -51,11 +51,15 @@ read_at i s = cond (reading (get_or (roles i) s off)) (get_or i (2 + s) 0) absen
 unfoldable pub write_at : Inst → ℕ → ℕ
 write_at i s = cond (writing (get_or (roles i) s off)) (get_or i (2 + s) 0) absent
 
--- of what the slots do: one after the first writes
+-- of what the slots do: so many slots, from the first on, may read
+abbrev pub readers : ℕ → ℕ
+readers u = cond (ltb u 64) 3 5
+
+-- one after the first writes
 abbrev pub later : ℕ → Bool
 later u = eqb (u / 8 % 2) 1 || eqb (u / 32 % 2) 1 || eqb (u / 128 % 2) 1 || eqb (u / 512 % 2) 1
 
--- and so many slots, from the first on, may write
+-- so many slots, from the first on, may write
 abbrev pub writers : ℕ → ℕ
 writers u = cond (later u) 5 1
 

@@ -3,7 +3,7 @@
 ghost use Rattle.std.specs.Prelude.{◌≡◌, List, [], ◌++◌, ℕ, ◌+◌, ◌<◌};
 ghost use Rattle.model.specs.Picture.{inst, kind, absent, list_of, reads, writes};
 ghost use Rattle.inst.specs.Table.{packed};
-ghost use Rattle.inst.specs.Record.{word, Known, Used, Listed, uses_of, asks_of, read_at, write_at, later, writers, rest_reads, rest_writes};
+ghost use Rattle.inst.specs.Record.{word, Known, Used, Listed, uses_of, asks_of, read_at, write_at, later, readers, writers, rest_reads, rest_writes};
 ghost use Rattle.inst.specs.Firsts.{Heads};
 ghost use Rattle.inst.specs.Index.{reg_of};
 
@@ -94,11 +94,21 @@ impl Slots<'_> {
     }
 
     // Does a slot after the first write? Few kinds have one.
-    pub fn writes_later(&self) -> bool
+    fn writes_later(&self) -> bool
         ensures { result ≡ later self.now.does }
     {
         let does = self.does;
         (does / 8 % 2 == 1) | (does / 32 % 2 == 1) | (does / 128 % 2 == 1) | (does / 512 % 2 == 1)
+    }
+
+    // How many slots, from the first on, may read: of most kinds three.
+    pub fn readers(&self) -> usize
+        ensures { result ≡ readers self.now.does }
+    {
+        if self.does < 64 {
+            return 3;
+        }
+        SLOTS
     }
 
     // How many slots, from the first on, may write: of most kinds one.

@@ -4,13 +4,13 @@ use mathlib.Core.Path.{◌≡◌, refl, sym, ap, ◌∙◌, subst}
 use mathlib.Core.Bool.{Bool, true, false, not, ◌&&◌, ◌||◌, or-false}
 use mathlib.Core.List.{List, [], ◌∷◌, ◌++◌, map}
 use Prim.Native.Nat.{ℕ, suc, ◌+◌, ◌≤◌, ◌<◌}
-use native.Mathlib.Nat.{zero-add, le_antisymm}
+use native.Mathlib.Nat.{zero-add}
 use native.Mathlib.Numerals.{add-one}
 use native.Mathlib.Omega.{arith}
 use lib.Dec.{T, eqb}
 use lib.ListN.{length, get_or}
 use borrow.Author.Count.{below_more}
-use borrow.Author.Tests.{not-true, not-false}
+use borrow.Author.Tests.{not-true}
 use Rattle.words.specs.Lists.{range, upto, all, any, mem}
 use Rattle.words.proofs.Bools.{T_true, true_T, clash, or_mono, and_mono, bool_ext, not_true_is_false}
 use Rattle.words.proofs.Lists.{range_snoc}
@@ -81,26 +81,16 @@ module _ (f : ℕ → Bool) where
   one_more : (v : Bool) (i : ℕ) → ((k : ℕ) → k < i → f k ≡ v) → f i ≡ v → (k : ℕ) → k < i + 1 → f k ≡ v
   one_more v i h e k l = below_more (λ (j : ℕ). f j ≡ v) i h e k l
 
-  -- The three places of `while i < n { if !f(i) { return false; } i += 1; } true`, where f's contract says r ≡ f i.
-  -- The invariant is (i ≤ n) × (all f (upto i) ≡ true).
+  -- An early `false` of a loop over the numbers below n, where f's contract says r ≡ f i.
   pub loop_no : {n i : ℕ} {r : Bool} → i < n → r ≡ f i → not r ≡ true → false ≡ all f (upto n)
   loop_no {n} {i} {r} k e h = sym (not_true_is_false (all f (upto n)) (λ t. clash (all_at n t i k) (sym e ∙ not-true r h)))
 
-  pub loop_on : {i : ℕ} {r : Bool} → all f (upto i) ≡ true → r ≡ f i → not r ≡ false → all f (upto (i + 1)) ≡ true
-  loop_on {i} {r} t e h = all_below (i + 1) (one_more true i (all_at i t) (sym e ∙ not-false r h))
-
-  pub loop_yes : {n i : ℕ} → i ≤ n → n ≤ i → all f (upto i) ≡ true → true ≡ all f (upto n)
-  loop_yes h k t = sym (subst (λ (m : ℕ). all f (upto m) ≡ true) (le_antisymm h k) t)
-
-  -- The same for `while i < n { if f(i) { return true; } i += 1; } false`, with the invariant (i ≤ n) × (any f (upto i) ≡ false).
+  -- An early `true` of one, and a turn more, where the invariant is any f (upto i) ≡ false.
   pub find_yes : {n i : ℕ} {r : Bool} → i < n → r ≡ f i → r ≡ true → true ≡ any f (upto n)
   find_yes {n} {i} {r} k e h = sym (T_true (any f (upto n)) (any_in f i (upto n) (in_range i 0 n (omega arith) (omega arith)) (true_T (f i) (sym e ∙ h))))
 
   pub find_on : {i : ℕ} {r : Bool} → any f (upto i) ≡ false → r ≡ f i → r ≡ false → any f (upto (i + 1)) ≡ false
   find_on {i} {r} t e h = any_below (i + 1) (one_more false i (any_at i t) (sym e ∙ h))
-
-  pub find_no : {n i : ℕ} → i ≤ n → n ≤ i → any f (upto i) ≡ false → false ≡ any f (upto n)
-  find_no h k t = sym (subst (λ (m : ℕ). any f (upto m) ≡ false) (le_antisymm h k) t)
 
 -- The places of `if f() { g() } else { false }` and `if f() { true } else { g() }`, and so of a chain of early returns.
 pub and_yes : {a b r s : Bool} → r ≡ a → r ≡ true → s ≡ b → s ≡ a && b

@@ -5,7 +5,7 @@ pub use Rattle.std.proofs.lemmas.List.{get_or_default as get_d_any}
 use Rattle.std.proofs.lemmas.List.{get_or-map}
 use mathlib.Core.Path.{◌≡◌, refl, sym, ap, ap₂, ◌∙◌, subst}
 use mathlib.Core.Bool.{Bool, true, false, cond}
-use mathlib.Core.List.{List, [], ◌∷◌, ◌++◌, map, append_assoc, append-nil, nil≢cons, head-eq_of_cons-eq, tail-eq_of_cons-eq}
+use mathlib.Core.List.{List, [], ◌∷◌, ◌++◌, map, append_assoc, nil≢cons, head-eq_of_cons-eq, tail-eq_of_cons-eq}
 use Prim.Native.Nat.{ℕ, zero, suc, ◌+◌, ◌-◌, ◌*◌, ◌≤◌, ◌<◌}
 use native.Mathlib.Nat.{add-zero, zero-add, suc-add, add-suc, le_of_suc-le-suc, not-suc-le-zero}
 use native.Mathlib.Omega.{arith}
@@ -145,9 +145,6 @@ module _ {A : Type 0} (f : A → Bool) where
   -- one more that is taken, or left
   pub filter_yes : (xs : List A) (x : A) → f x ≡ true → filter f (xs ++ (x ∷ [])) ≡ filter f xs ++ (x ∷ [])
   filter_yes xs x e = filter_append xs (x ∷ []) ∙ ap (λ (b : Bool). filter f xs ++ cond b (x ∷ []) []) e
-
-  pub filter_no : (xs : List A) (x : A) → f x ≡ false → filter f (xs ++ (x ∷ [])) ≡ filter f xs
-  filter_no xs x e = filter_append xs (x ∷ []) ∙ ap (λ (b : Bool). filter f xs ++ cond b (x ∷ []) []) e ∙ append-nil (filter f xs)
 
 -- ---- concat, spans: lists laid end to end
 
