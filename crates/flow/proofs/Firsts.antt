@@ -28,6 +28,28 @@ at w y q = 64 * (y * w) + q
 fits : (w x r : ℕ) (l : List ℕ) → x * w + w ≤ length l → r < 64 * w → at w x r < 64 * length l
 fits w x r l h k = omega arith
 
+-- ---- what is read
+
+put_bool : (a e c d : Bool) → ((a || (e && c)) || (e && d)) ≡ (a || (e && (c || d)))
+put_bool true e c d = refl
+put_bool false true true d = refl
+put_bool false true false d = refl
+put_bool false false c d = refl
+
+no_put : (a e : Bool) → a ≡ (a || (e && false))
+no_put true e = refl
+no_put false true = refl
+no_put false false = refl
+
+pub put_bits : (w x : ℕ) (l rs : List ℕ) → x * w + w ≤ length l → ((r : ℕ) → In r rs → r < 64 * w)
+    → (y q : ℕ) → q < 64 * w → is_in (steps (put (x * w)) l rs) (at w y q) ≡ (is_in l (at w y q) || (eqb y x && mem q rs))
+unfolding steps
+put_bits w x l [] h k y q j = no_put (is_in l (at w y q)) (eqb y x)
+put_bits w x l (r ∷ rs) h k y q j =
+    put_bits w x (set_bit l (at w x r)) rs (rw length-set_bit h) (λ s i. k s (inr i)) y q j
+    ∙ ap (λ (b : Bool). b || (eqb y x && mem q rs)) (in_set l (at w x r) (fits w x r l h (k r (inl refl))) (at w y q) ∙ ap (λ (b : Bool). is_in l (at w y q) || b) (row_eqb w x y r q (k r (inl refl)) j))
+    ∙ put_bool (is_in l (at w y q)) (eqb y x) (eqb q r) (mem q rs)
+
 -- ---- what is written
 
 wrote_bool : (e f : Bool) → (e && f) ≡ false → (a c d : Bool)

@@ -15,13 +15,6 @@ use Rattle.inst.proofs.Firsts.{present_none, present_some}
 use Rattle.inst.proofs.Indices.{reg_made}
 use Rattle.regfacts.specs.Written.{Fits}
 
--- what is made of slot s, by a count of registers
-pub slot_made : {recs : List ℕ} {R g s count : ℕ} → Fits recs R g → s < 5 → count ≡ R → {m : Option Reg} → m ≡ reg_of (write_at (inst recs g) s) count
-    → Among count m × (word_of m ≡ write_at (inst recs g) s)
-slot_made {recs} {R} {g} {s} {count} fits lt size =
-    let n = write_at (inst recs g) s in
-    reg_made n count (omega (arith, size, fits.room)) (subst (λ (k : ℕ). (n ≡ absent) ⊎ (n < k)) (sym size) (fits.slot s lt))
-
 -- each is an index of the words
 pub slot_index : {recs : List ℕ} {R g : ℕ} → Fits recs R g → (s : ℕ) → s < 5 → (write_at (inst recs g) s ≡ absent → ⊥) → write_at (inst recs g) s < R
 slot_index {recs} {R} {g} fits s h n = ⊎_elim (λ (e : write_at (inst recs g) s ≡ absent). absurd (n e)) (λ (l : write_at (inst recs g) s < R). l) (fits.slot s h)

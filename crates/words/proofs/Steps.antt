@@ -12,13 +12,6 @@ unfolding steps
 steps_append f l [] ys = refl
 steps_append f l (x ∷ xs) ys = steps_append f (f l x) xs ys
 
--- three lists one after the other
-pub three_steps : (f : List ℕ → ℕ → List ℕ) (xs ys zs ws l₀ : List ℕ) {l₁ l₂ l₃ : List ℕ} → ws ≡ xs ++ (ys ++ zs)
-    → l₁ ≡ steps f l₀ xs → l₂ ≡ steps f l₁ ys → l₃ ≡ steps f l₂ zs → l₃ ≡ steps f l₀ ws
-three_steps f xs ys zs ws l₀ {l₁} e p q h =
-    h ∙ ap (λ (t : List ℕ). steps f t zs) q ∙ sym (steps_append f l₁ ys zs) ∙ ap (λ (t : List ℕ). steps f t (ys ++ zs)) p
-    ∙ sym (steps_append f l₀ xs (ys ++ zs)) ∙ ap (steps f l₀) (sym e)
-
 -- what is left to do has the same end
 pub steps_on : (f : List ℕ → ℕ → List ℕ) (xs ys zs l : List ℕ) {m e : List ℕ} → zs ≡ xs ++ ys → m ≡ steps f l xs → steps f l zs ≡ e → steps f m ys ≡ e
 steps_on f xs ys zs l p q h = ap (λ (k : List ℕ). steps f k ys) q ∙ sym (steps_append f l xs ys) ∙ ap (steps f l) (sym p) ∙ h
