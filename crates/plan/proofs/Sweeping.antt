@@ -213,7 +213,7 @@ module _ {recs ops regs work₀ : List ℕ} {fs₀ : List Fact} {z : Span} (r : 
     pub behind_end : q ≤ 0 → Backward recs ops regs z work₀ ls₀ fs₀ work ls fs k
     behind_end h = record {
       passed = λ c. back_passed (view recs ops (bare fs₀) regs) z.n z.m r.in_x refl (backing_end (safe r) (i.backing c) h).0;
-      sum = λ c. (backing_end (safe r) (i.backing c) h).2;
+      sum = λ c. (backing_end (safe r) (i.backing c) h).1;
       around = i.around;
       facts = i.facts;
     }

@@ -20,7 +20,7 @@ use Rattle.effects.specs.Origin.{num}
 use Rattle.facts.specs.declared.Fact.{Fact}
 use Rattle.facts.specs.Marks.{fact_in}
 use Rattle.legalset.specs.Chain.{view, defs_of, writer, reg_org, picked, origins, Safe}
-use Rattle.legalset.specs.Marks.{in_set, sifted, lost, own, Passed}
+use Rattle.legalset.specs.Marks.{in_set, sifted, lost}
 use Rattle.legalset.specs.Rules.{last_kept, when_in, read_fine, org_fine, own_memory, still_fine, reads_ok, origins_ok, suspends_ok, memory_ok, own_ok, forward_ok}
 use Rattle.legalset.proofs.Lasting.{writer_low}
 use Rattle.legalset.proofs.Dropping.{passed_none, passed_up}
@@ -312,11 +312,6 @@ module _ {recs ops : List ℕ} {w : List Fact} {regs : List ℕ} {n p : ℕ} {st
     flags = forgot_flags marks ls.writes p _ (omega arith) (omega arith) i.ls_size i.flags k.sifts (ap (λ (x : Lasts). x.writes) k.forgets);
     passed = passed_up (forward_ok (view recs ops w regs) n) (forward_mono (view recs ops w regs) n) i.passed (stay_is regs marks s h i.size i.stamps (writes_on w i.lows z.writes) (i.barrier ∙ z.barrier) (i.suspension ∙ z.suspension) i.flags t) k.sifts k.loses;
   }
-
-pub going_end : {recs ops : List ℕ} {w : List Fact} {regs : List ℕ} {n p m : ℕ} {st₀ : List ℕ} {ls₀ : Lasts} {marks₀ st : List ℕ} {ls : Lasts} {marks : List ℕ} {r : ℕ} → Going recs ops w regs n p st₀ ls₀ marks₀ st ls marks r → p ≤ m → m ≤ p
-    → Passed (own (forward_ok (view recs ops w regs) n)) 0 m marks₀ marks r × (length st ≡ length st₀)
-going_end {recs} {ops} {w} {regs} {n} {p} {m} {marks₀ = marks₀} {marks = marks} {r = r} i a b =
-    let e : p ≡ m = omega arith in (subst (λ (k : ℕ). Passed (own (forward_ok (view recs ops w regs) n)) 0 k marks₀ marks r) e i.passed, i.size)
 
 -- ---- by the position's fact
 
