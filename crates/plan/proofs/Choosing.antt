@@ -1,76 +1,102 @@
--- The loop over sweeps: the marks to begin with, and what is left of them, until the greatest legal set is left. Assumes nothing.
-use Rattle.summary.specs.declared.notes.Lasts.{Lasts}
-use Rattle.std.specs.Prelude.{Option, Some, None}
-use mathlib.Core.Path.{◌≡◌, refl, sym, ◌∙◌, subst}
-use mathlib.Core.Bool.{Bool, true, false, not, ◌&&◌}
+-- The loop over turns (`set::legal_set`): the marks to begin with, and what is left of them, until the greatest legal set is left. Assumes
+-- nothing.
+use mathlib.Core.Path.{◌≡◌, refl, sym, ap, ◌∙◌, subst}
+use mathlib.Core.Bool.{Bool, true, false, ◌&&◌}
+use mathlib.Core.Logic.{⊎_elim}
 use mathlib.Core.List.{List}
-use Prim.Native.Nat.{ℕ, ◌+◌, ◌*◌, ◌-◌, ◌≤◌}
-use borrow.Author.Tests.{not-true}
-use lib.Dec.{eqb, leb}
+use Prim.Native.Nat.{ℕ, ◌+◌, ◌*◌, ◌≤◌, ◌<◌}
+use native.Mathlib.Omega.{arith}
+use borrow.Author.Tests.{le-ltb}
+use lib.Dec.{eqb}
 use lib.ListN.{length}
 use Rattle.words.specs.Bits.{is_in}
-use Rattle.words.proofs.Bools.{clash}
-use Rattle.inst.specs.Index.{pick}
+use Rattle.words.proofs.Bools.{clash, lt?}
 use Rattle.facts.specs.declared.Fact.{Fact}
-use Rattle.facts.specs.Marks.{fact_in}
-use Rattle.legalset.specs.Chain.{view, Safe}
-use Rattle.legalset.specs.Marks.{in_set, members, Passed}
-use Rattle.legalset.specs.Rules.{begins, pass_ok}
+use Rattle.facts.specs.Marks.{fact_in, bare}
+use Rattle.legalset.specs.Chain.{View, view}
+use Rattle.legalset.specs.Marks.{in_set, members}
+use Rattle.legalset.specs.Rules.{result_ok, begins}
 use Rattle.legalset.proofs.Settling.{Settling, settling_start, settling_more, settled}
-use Rattle.plan.specs.declared.sweep.Phase.{Phase}
-use Rattle.plan.specs.declared.sweep.Phase.TheVariants.{Start, Back, Forth}
-use Rattle.plan.specs.declared.settle.Cycle.{Cycle}
-use Rattle.summary.specs.Passes.{Summed, Greatest}
-use Rattle.plan.specs.Sweep.{part, marks, is_start, is_forth}
-use Rattle.plan.specs.Cycle.{went, go_on}
+use Rattle.plan.specs.declared.turn.Asked.{Asked}
+use Rattle.plan.specs.declared.turn.Sweeps.{Sweeps}
+use Rattle.summary.specs.Passes.{Around}
+use Rattle.plan.specs.Sweep.{marks, Sweepable, Marked, Begun}
+use Rattle.plan.specs.Turn.{goes_on, Passes, half, whole, Turn}
+use Rattle.plan.specs.Set.{Choosable, Chose}
+use Rattle.legality.proofs.Marking.{past_marks}
+use Rattle.legality.proofs.Starting.{begins_in}
 use Rattle.legality.proofs.Chosen.{chosen}
+use Rattle.plan.proofs.Lent.{around_on, around_none}
+use Rattle.plan.proofs.Sweeping.{marks_long, sweepable_on, marked_on}
+use Rattle.plan.proofs.Turning.{to_come, passes_less}
 
--- after the start, before a sweep of phase p: S are the marks to begin with; bits has the row of registers needed elsewhere
-pub record Choosing (recs ops regs : List ℕ) (w : List Fact) (bits : List ℕ) (c : Cycle) (p : Phase) (work : List ℕ) (ls : Lasts) (fs : List Fact) : Type 0 where
+-- what the sweeps left of the marks S; if more are to come, one backward is next
+pub record Left (C : View) (n m least : ℕ) (S U : List ℕ) (c : Sweeps) : Type 0 where
+  pub ahead : Bool
+  pub settling : Settling C n m S U ahead c.quiet c.done c.left
+  pub next : goes_on c least ≡ true → ahead ≡ false
+
+back_next : {C : View} {n m least : ℕ} {S U : List ℕ} {c : Sweeps} → goes_on c least ≡ true → Left C n m least S U c → Settling C n m S U false c.quiet c.done c.left
+back_next {C} {n} {m} {S = S} {U = U} {c = c} e i = subst (λ (a : Bool). Settling C n m S U a c.quiet c.done c.left) (i.next e) i.settling
+
+left_on : (C : View) (n m : ℕ) {least : ℕ} {S U W : List ℕ} (c : Sweeps) {t : Sweeps} → goes_on c least ≡ true → Left C n m least S U c → Passes C n m least U c W t → Left C n m least S W t
+left_on C n m c e i (half V k p g) = record { ahead = true; settling = settling_more C n m (back_next e i) p; next = λ u. clash u g }
+left_on C n m c e i (whole V W k l p g q) = record { ahead = false; settling = settling_more C n m (settling_more C n m (back_next e i) p) q; next = λ u. refl }
+
+-- S are the marks to begin with
+pub record Choosing (recs ops regs : List ℕ) (z : Asked) (work₀ : List ℕ) (fs₀ : List Fact) (c : Sweeps) (work : List ℕ) (fs : List Fact) : Type 0 where
   pub S : List ℕ
-  pub begun : (q : ℕ) → in_set S q ≡ begins (view recs ops w regs) c.span.n (λ z. eqb (fact_in w z).class 1) c.span.m (λ r. is_in bits (64 * c.span.o + r)) q
-  pub size : length S ≡ c.span.n
-  pub settling : Settling (view recs ops w regs) c.span.n c.span.m S (marks c.span.n fs) (is_forth p) c.quiet false c.left
-  pub sum : is_forth p ≡ true → Summed recs w c.span.n 0 (part c.span.s (length regs) work) ls (marks c.span.n fs)
+  pub begun : (p : ℕ) → in_set S p ≡ begins (view recs ops (bare fs₀) regs) z.span.n (λ q. eqb (fact_in (bare fs₀) q).class 1) z.span.m (λ r. is_in work₀ (64 * z.span.o + r)) p
+  pub size : length S ≡ z.span.n
+  pub left : Left (view recs ops (bare fs₀) regs) z.span.n z.span.m z.least S (marks z.span.n fs) c
+  pub around : Around z.span.s (length regs) work₀ work
+  pub facts : Marked fs₀ fs
 
--- where the sweeps stand, by which comes next: the start, one that drops members, or none
-abbrev pub Standing : (recs ops regs : List ℕ) (w : List Fact) (bits : List ℕ) (c : Cycle) (work : List ℕ) (ls : Lasts) (fs : List Fact) → Option Phase → Type 0
-Standing recs ops regs w bits c work ls fs (Some Start) = work ≡ bits
-Standing recs ops regs w bits c work ls fs (Some Back) = Choosing recs ops regs w bits c Back work ls fs
-Standing recs ops regs w bits c work ls fs (Some Forth) = Choosing recs ops regs w bits c Forth work ls fs
-Standing recs ops regs w bits c work ls fs None = Greatest recs ops w regs bits c.span.o (marks c.span.n fs) c.span.m c.span.n c.least c.left
+module _ {recs ops regs work₀ : List ℕ} {fs₀ : List Fact} {z : Asked} (h : Choosable recs ops regs work₀ fs₀ z) where
+  -- all positions are marked: those that begin in the set
+  pub choosing_none : {fs : List Fact} {k : ℕ} → Begun recs regs work₀ z.span fs₀ z.span.n fs k → Choosing recs ops regs z work₀ fs₀ (record { left = k; quiet = false; done = false }) work₀ fs
+  unfolding begins
+  choosing_none {fs} {k} d =
+      let r = h.sweeps in
+      let n = z.span.n in
+      let w = bare fs₀ in
+      let size : length (marks z.span.n fs) ≡ z.span.n = (let a = d.facts.long in let b = r.long in marks_long z.span.n fs (omega arith)) in
+      record {
+        S = marks z.span.n fs;
+        begun = λ p. ⊎_elim
+            (λ (x : p < z.span.n). d.each p x ∙ begins_in work₀ z.span.o r.safe h.ended z.span.m p x (record { same = refl }))
+            (λ (x : z.span.n ≤ p). let x_in = r.in_x in sym (past_marks (marks z.span.n fs) p (omega arith)) ∙ sym (ap (λ (b : Bool). (b && eqb (fact_in w p).class 1) && result_ok (view recs ops w regs) n (λ y. is_in work₀ (64 * z.span.o + y)) p) (le-ltb p z.span.m (omega arith)))) (lt? p z.span.n);
+        size = size;
+        left = record { ahead = false; settling = settling_start (view recs ops w regs) n z.span.m d.count; next = λ u. refl };
+        around = around_none z.span.s (length regs) work₀;
+        facts = d.facts;
+      }
 
-module _ {recs ops : List ℕ} (regs : List ℕ) {w : List Fact} (bits : List ℕ) (c : Cycle) (safe : Safe recs ops w c.span.n (length regs)) (h : c.span.m ≤ c.span.n) where
-  -- one of phase p comes next, unless nothing was dropped twice, or too few are left
-  standing : (work : List ℕ) (ls : Lasts) (fs : List Fact) {S : List ℕ} {z : Bool} (p : Phase) → is_start p ≡ false
-      → ((q : ℕ) → in_set S q ≡ begins (view recs ops w regs) c.span.n (λ y. eqb (fact_in w y).class 1) c.span.m (λ r. is_in bits (64 * c.span.o + r)) q) → length S ≡ c.span.n
-      → Settling (view recs ops w regs) c.span.n c.span.m S (marks c.span.n fs) (is_forth p) c.quiet z c.left
-      → (is_forth p ≡ true → Summed recs w c.span.n 0 (part c.span.s (length regs) work) ls (marks c.span.n fs))
-      → Standing recs ops regs w bits c work ls fs (pick (not z && leb c.least c.left) p)
-  standing work ls fs {S} {z} p e b l i y = go z (leb c.least c.left) refl i
-    where
-      on : (q : Phase) → is_start q ≡ false → Choosing recs ops regs w bits c q work ls fs → Standing recs ops regs w bits c work ls fs (Some q)
-      on Start e k = clash refl e
-      on Back e k = k
-      on Forth e k = k
+  module _ {c : Sweeps} {work : List ℕ} {fs : List Fact} (i : Choosing recs ops regs z work₀ fs₀ c work fs) where
+    -- a turn may be made
+    pub turn_may : Sweepable recs ops regs work fs z.span × (c.left ≡ members (marks z.span.n fs))
+    turn_may = (sweepable_on h.sweeps i.around.size i.facts, i.left.settling.count)
 
-      go : (z x : Bool) → leb c.least c.left ≡ x → Settling (view recs ops w regs) c.span.n c.span.m S (marks c.span.n fs) (is_forth p) c.quiet z c.left → Standing recs ops regs w bits c work ls fs (pick (not z && x) p)
-      go true x k i = chosen regs bits c.span.o safe h b (settled (view recs ops w regs) c.span.n c.span.m {least = c.least} i refl) l
-      go false true k i = on p e (record { S = S; begun = b; size = l; settling = i; sum = y })
-      go false false k i = chosen regs bits c.span.o safe h b (settled (view recs ops w regs) c.span.n c.span.m {least = c.least} i k) l
+    module _ {work' : List ℕ} {fs' : List Fact} {t : Sweeps} (e : goes_on c z.least ≡ true) (d : Turn recs ops regs z work fs c work' fs' t) where
+      pub choosing_more : Choosing recs ops regs z work₀ fs₀ t work' fs'
+      choosing_more = record {
+        S = i.S;
+        begun = i.begun;
+        size = i.size;
+        left = left_on (view recs ops (bare fs₀) regs) z.span.n z.span.m c e i.left
+            (subst (λ (w : List Fact). Passes (view recs ops w regs) z.span.n z.span.m z.least (marks z.span.n fs) c (marks z.span.n fs') t) i.facts.bare_same d.passes);
+        around = around_on i.around d.around;
+        facts = marked_on i.facts d.facts;
+      }
 
-module _ {recs ops : List ℕ} (regs : List ℕ) {w : List Fact} (bits : List ℕ) (c : Cycle) {count : ℕ} (safe : Safe recs ops w c.span.n (length regs)) (h : c.span.m ≤ c.span.n) where
-  -- the start
-  pub choosing_first : (work : List ℕ) (ls : Lasts) (fs : List Fact) → count ≡ members (marks c.span.n fs) → length (marks c.span.n fs) ≡ c.span.n
-      → ((p : ℕ) → in_set (marks c.span.n fs) p ≡ begins (view recs ops w regs) c.span.n (λ q. eqb (fact_in w q).class 1) c.span.m (λ r. is_in bits (64 * c.span.o + r)) p)
-      → Standing recs ops regs w bits (go_on c Start count) work ls fs (go_on c Start count).next
-  choosing_first work ls fs k l b = standing regs bits (go_on c Start count) safe h work ls fs Back refl b l (settling_start (view recs ops w regs) c.span.n c.span.m k) (λ u. clash u refl)
+      pub choosing_less : to_come t < to_come c
+      choosing_less = passes_less z.least c e i.left.settling.count d.passes
 
-  -- a sweep of phase p, after which q may come
-  pub choosing_more : {work : List ℕ} {ls : Lasts} {fs : List Fact} (work' : List ℕ) (ls' : Lasts) (fs' : List Fact) (p q : Phase) → is_start q ≡ false → is_forth q ≡ not (is_forth p) → Choosing recs ops regs w bits c p work ls fs
-      → Passed (pass_ok (view recs ops w regs) c.span.n (is_forth p)) 0 c.span.m (marks c.span.n fs) (marks c.span.n fs') count
-      → (is_forth p ≡ false → Summed recs w c.span.n 0 (part c.span.s (length regs) work') ls' (marks c.span.n fs'))
-      → Standing recs ops regs w bits (went c count q) work' ls' fs' (went c count q).next
-  choosing_more work' ls' fs' p q e u i k y = standing regs bits (went c count q) safe h work' ls' fs' q e i.begun i.size
-      (subst (λ (b : Bool). Settling (view recs ops w regs) c.span.n c.span.m i.S (marks c.span.n fs') b (eqb count 0) (c.quiet && eqb count 0) (c.left - count)) (sym u) (settling_more (view recs ops w regs) c.span.n c.span.m i.settling k))
-      (λ v. y (not-true (is_forth p) (sym u ∙ v)))
+    -- no turn is to come
+    pub choosing_end : goes_on c z.least ≡ false → Chose recs ops regs z work₀ fs₀ work fs c.left
+    choosing_end e = record {
+      set = chosen regs work₀ z.span.o h.sweeps.safe h.sweeps.in_x i.begun (settled (view recs ops (bare fs₀) regs) z.span.n z.span.m i.left.settling e) i.size;
+      around = i.around;
+      bare_same = i.facts.bare_same;
+      long = i.facts.long;
+    }

@@ -1,9 +1,6 @@
-pub mod Cycling
-pub mod Visiting
+pub mod Lent
 pub mod Sweeping
 pub mod Turning
-pub mod Deciding
 pub mod Choosing
-pub mod Looping
 pub mod Telling
 pub mod Heard

@@ -1,2 +1,3 @@
 pub mod Sweep
-pub mod Cycle
+pub mod Turn
+pub mod Set

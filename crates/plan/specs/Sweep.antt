@@ -1,16 +1,15 @@
 -- A sweep over a chain's facts: the start, which marks the positions to begin with, that backward and that forward (01, "The legal set").
 -- Assumes nothing.
-use Rattle.std.specs.Prelude.{◌≡◌, Bool, true, false, not, ◌&&◌, cond, List, map, ℕ, ◌+◌, ◌-◌, ◌≤◌, ◌<◌, ltb, get_or, length, set, take, drop}
-use Rattle.words.specs.Lists.{hit}
+use Rattle.std.specs.Prelude.{◌≡◌, false, ◌&&◌, List, map, replicate, ℕ, ◌+◌, ◌≤◌, ◌<◌, ltb, length, take, drop}
 use Rattle.facts.specs.declared.Fact.{Fact}
-use Rattle.facts.specs.Marks.{no_fact, marked, bare}
+use Rattle.facts.specs.Marks.{fact_in, bare}
 use Rattle.effects.specs.Origin.{num}
-use Rattle.legalset.specs.Chain.{Safe, Brief}
-use Rattle.plan.specs.declared.sweep.Phase.{Phase}
-use Rattle.plan.specs.declared.sweep.Phase.TheVariants.{Start, Back, Forth}
-use Rattle.plan.specs.declared.sweep.Sweep.{Sweep}
+use Rattle.legalset.specs.Chain.{view, Safe, Brief}
+use Rattle.legalset.specs.Marks.{in_set, members, Passed}
+use Rattle.legalset.specs.Rules.{pass_ok}
+use Rattle.plan.specs.declared.sweep.Span.{Span}
 use Rattle.summary.specs.declared.notes.Lasts.{Lasts}
-use Rattle.summary.specs.Passes.{begin_test, Near, Written, Readable, Small, Backed, Forwarded, Around}
+use Rattle.summary.specs.Passes.{blank, begin_test, Around, Summed, Going}
 
 -- the words of the R registers, from word s of the work on
 abbrev pub part : ℕ → ℕ → List ℕ → List ℕ
@@ -24,60 +23,41 @@ marks_of fs = map (λ f. num f.member) fs
 abbrev pub marks : ℕ → List Fact → List ℕ
 marks n fs = take n (marks_of fs)
 
--- the phase that marks the positions to begin with, and the one that goes forward
-abbrev pub is_start : Phase → Bool
-is_start Start = true
-is_start Back = false
-is_start Forth = false
+-- what a sweep asks: a chain's facts, and in the work a row and the registers' words
+pub record Sweepable (recs ops regs work : List ℕ) (fs : List Fact) (z : Span) : Type 0 where
+  pub safe : Safe recs ops (bare fs) z.n (length regs)
+  pub brief : Brief recs ops (bare fs) z.n
+  pub in_x : z.m ≤ z.n
+  pub row : z.o ≤ length work
+  pub room : z.s + length regs ≤ length work
+  pub long : z.n ≤ length fs
 
-abbrev pub is_forth : Phase → Bool
-is_forth Start = false
-is_forth Back = false
-is_forth Forth = true
+-- of the facts nothing is changed but the marks
+pub record Marked (fs fs' : List Fact) : Type 0 where
+  pub bare_same : bare fs' ≡ bare fs
+  pub long : length fs' ≡ length fs
 
--- turn i's position
-unfoldable pub place : Sweep → ℕ → ℕ
-place g i = cond (is_forth g.phase) i (g.span.n - 1 - i)
+-- the start: each of the first i positions is marked, as it begins in the set or not, and k do
+pub record Begun (recs regs bits : List ℕ) (z : Span) (fs : List Fact) (i : ℕ) (fs' : List Fact) (k : ℕ) : Type 0 where
+  pub each : (p : ℕ) → p < i → in_set (marks z.n fs') p ≡ (ltb p z.m && begin_test recs regs bits (fact_in (bare fs) p) z.o p)
+  pub count : k ≡ members (marks i fs')
+  pub facts : Marked fs fs'
 
--- whether the position of fact f, which stays in the set or not, is counted: at the start if it is in it, else if it is dropped
-abbrev pub counts : Phase → Fact → Bool → Bool
-counts Start f stays = stays
-counts Back f stays = f.member && not stays
-counts Forth f stays = f.member && not stays
+-- no register's word has anything, and nothing is noted
+pub record Clear (R s : ℕ) (work : List ℕ) (ls : Lasts) : Type 0 where
+  pub words : part s R work ≡ replicate R 0
+  pub notes : ls ≡ blank
 
--- what a visit asks of the position p of fact f, and of the work
-pub record Visitable (recs ops regs work : List ℕ) (g : Sweep) (f : Fact) (p : ℕ) : Type 0 where
-  pub written : Written recs (length regs) f.rec f.def f.more
-  pub readable : Readable recs ops (length regs) f
-  pub small : Small f
-  pub near : (is_start g.phase) ≡ false → (is_forth g.phase) ≡ true → Near (part g.span.s (length regs) work)
-  pub row : g.span.o ≤ length work
-  pub room : g.span.s + length regs ≤ length work
-  pub low : p < 800
+-- the sweep backward: the k members that broke rule 1 were dropped, and the words and the notes are the summary of those left
+pub record Backward (recs ops regs : List ℕ) (z : Span) (work : List ℕ) (ls : Lasts) (fs : List Fact) (work' : List ℕ) (ls' : Lasts) (fs' : List Fact) (k : ℕ) : Type 0 where
+  pub passed : Clear (length regs) z.s work ls → Passed (pass_ok (view recs ops (bare fs) regs) z.n false) 0 z.m (marks z.n fs) (marks z.n fs') k
+  pub sum : Clear (length regs) z.s work ls → Summed recs (bare fs) z.n 0 (part z.s (length regs) work') ls' (marks z.n fs')
+  pub around : Around z.s (length regs) work work'
+  pub facts : Marked fs fs'
 
--- position p of fact f was visited: whether it stays in the set, or begins in it
-pub record Visit (recs ops regs : List ℕ) (g : Sweep) (f : Fact) (p : ℕ) (work : List ℕ) (ls : Lasts) (work' : List ℕ) (ls' : Lasts) (stays : Bool) : Type 0 where
-  pub size : length work' ≡ length work
-  pub begun : (is_start g.phase) ≡ true → (stays ≡ (ltb p g.span.m && begin_test recs regs work f g.span.o p)) × (work' ≡ work)
-  pub backed : (is_start g.phase) ≡ false → (is_forth g.phase) ≡ false → Backed recs ops f p (part g.span.s (length regs) work) ls (part g.span.s (length regs) work') ls' stays
-  pub forwarded : (is_start g.phase) ≡ false → (is_forth g.phase) ≡ true
-      → Forwarded recs ops regs f p (part g.span.s (length regs) work) ls (part g.span.s (length regs) work') ls' stays
-  pub around : Around g.span.s (length regs) work work'
-
--- what a sweep asks
-pub record Sweepable (recs ops regs work : List ℕ) (fs : List Fact) (g : Sweep) : Type 0 where
-  pub safe : Safe recs ops (bare fs) g.span.n (length regs)
-  pub brief : Brief recs ops (bare fs) g.span.n
-  pub near : (is_start g.phase) ≡ false → (is_forth g.phase) ≡ true → Near (part g.span.s (length regs) work)
-  pub row : g.span.o ≤ length work
-  pub room : g.span.s + length regs ≤ length work
-  pub long : g.span.n ≤ length fs
-  pub turns : g.k ≤ g.span.n
-
--- the first i turns of a sweep: the facts are marked as the visits answer, and those counted that begin in the set, or are dropped
-pub data Swept (recs ops regs : List ℕ) (g : Sweep) (work : List ℕ) (ls : Lasts) (fs : List Fact) : ℕ → List ℕ → Lasts → List Fact → ℕ → Type 0 where
-  none : Swept recs ops regs g work ls fs 0 work ls fs 0
-  more : (i : ℕ) (work' : List ℕ) (ls' : Lasts) (work'' : List ℕ) (ls'' : Lasts) (fs' : List Fact) (count : ℕ) (stays : Bool) → Swept recs ops regs g work ls fs i work' ls' fs' count
-      → Visit recs ops regs g (get_or fs' (place g i) no_fact) (place g i) work' ls' work'' ls'' stays
-      → Swept recs ops regs g work ls fs (i + 1) work'' ls'' (set fs' (place g i) (marked (get_or fs' (place g i) no_fact) stays))
-      (count + hit (counts g.phase (get_or fs' (place g i) no_fact) stays))
+-- the sweep forward, by the summary of the set: the k members that broke one of rules 3 to 6 were dropped
+pub record Forward (recs ops regs : List ℕ) (z : Span) (work : List ℕ) (ls : Lasts) (fs : List Fact) (work' : List ℕ) (ls' : Lasts) (fs' : List Fact) (k : ℕ) : Type 0 where
+  pub going : Summed recs (bare fs) z.n 0 (part z.s (length regs) work) ls (marks z.n fs)
+      → Going recs ops (bare fs) regs z.n z.m (part z.s (length regs) work) ls (marks z.n fs) (part z.s (length regs) work') ls' (marks z.n fs') k
+  pub around : Around z.s (length regs) work work'
+  pub facts : Marked fs fs'

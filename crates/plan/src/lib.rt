@@ -2,5 +2,5 @@
 #![tactic(auto)]
 
 pub mod sweep; // sweep.rt: a sweep over the facts
-pub mod settle; // settle.rt: sweeps in turn
+pub mod turn; // turn.rt: one backward and one forward
 pub mod set; // set.rt: the legal set

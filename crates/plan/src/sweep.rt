@@ -1,8 +1,8 @@
-// A sweep over a chain's facts (01, "The legal set"): the start, which marks the positions to begin with, that backward or that
-// forward, which drop members. Each fact is looked at once, by value, and its mark is written.
-ghost use Rattle.std.specs.Prelude.{◌≡◌, ◌&&◌, ◌+◌, ◌-◌, ◌<◌, ◌≤◌, ltb, length};
+// A sweep over a chain's facts (01, "The legal set"): the start, which marks the positions to begin with, that backward, which drops
+// members by rule 1, and that forward, which drops them by rules 3 to 6. Each fact is looked at once, by value, and its mark is written.
+ghost use Rattle.std.specs.Prelude.{◌≡◌, ◌&&◌, ◌+◌, ◌<◌, ◌≤◌, ltb, length};
 ghost use Rattle.summary.specs.Passes.{begin_test, Backed, Forwarded, Around, Near, Written, Readable, Small};
-ghost use Rattle.plan.specs.Sweep.{part, place, counts, Visitable, Visit, Sweepable, Swept};
+ghost use Rattle.plan.specs.Sweep.{part, Sweepable, Begun, Backward, Forward};
 
 use facts::Fact;
 use legality::backward::back;
@@ -10,15 +10,6 @@ use legality::forward::{Given, forth};
 use legality::rules::Elsewhere;
 use legality::start::begins_in;
 use summary::notes::Lasts;
-
-// What a sweep does: it marks the positions to begin with, or drops members, by rule 1 from the last position back or by rules 3 to 6
-// from the first one forth.
-#[derive(Clone, Copy, Debug, PartialEq, Eq)]
-pub enum Phase {
-    Start,
-    Back,
-    Forth,
-}
 
 // What all sweeps are over: the row of registers needed elsewhere begins at word `o` of the work, the words of the registers at `s`; `n`
 // positions, of which the first `m` are in x.
@@ -28,25 +19,6 @@ pub struct Span {
     pub s: usize,
     pub m: usize,
     pub n: usize,
-}
-
-// Which sweep it is, and over what; `k` turns.
-#[derive(Clone, Copy, Debug, PartialEq, Eq)]
-pub(crate) struct Sweep {
-    pub(crate) phase: Phase,
-    pub(crate) span: Span,
-    pub(crate) k: usize,
-}
-
-// Turn i's position.
-fn place(g: Sweep, i: usize) -> usize
-    requires { i < g.span.n }
-    ensures { (result ≡ place g i) × (result < g.span.n) }
-{
-    match g.phase {
-        Phase::Forth => i,
-        _ => g.span.n - 1 - i,
-    }
 }
 
 // Does position p, of fact f, begin in the set?
@@ -94,74 +66,59 @@ fn forth_in(
     forth(given, f, &mut work[s..e], lasts, p)
 }
 
-// Position p, of fact f, is visited. Says whether it is in the set. (Inlined always: see `run`.)
-#[inline(always)]
-fn visit(
-    given: &Given<'_>,
-    work: &mut [u64],
-    lasts: &mut Lasts,
-    g: Sweep,
-    f: Fact,
-    p: usize,
-) -> bool
-    requires { Visitable given.now.code.recs.now given.now.code.ops.now given.now.regs.now work.old g f p }
-    ensures { Visit given.now.code.recs.now given.now.code.ops.now given.now.regs.now g f p work.old lasts.old work.new lasts.new result }
-{
-    match g.phase {
-        Phase::Start => starts(given, f, work, g.span, p),
-        Phase::Back => back_in(given, f, work, g.span.s, lasts, p),
-        Phase::Forth => forth_in(given, f, work, g.span.s, lasts, p),
-    }
-}
-
-// Is the position of fact f, which stays in the set or not, to be counted? At the start if it is in it, else if it is dropped.
-fn counts(phase: Phase, f: Fact, stays: bool) -> bool
-    ensures { result ≡ counts phase f stays }
-{
-    match phase {
-        Phase::Start => stays,
-        _ => f.member & !stays,
-    }
-}
-
-// All turns of a sweep. (Inlined always: see `run`.)
-#[inline(always)]
-fn turns(
-    given: &Given<'_>,
-    work: &mut [u64],
-    lasts: &mut Lasts,
-    facts: &mut [Fact],
-    g: Sweep,
-) -> u32
-    requires { Sweepable given.now.code.recs.now given.now.code.ops.now given.now.regs.now work.old facts.old g }
-    ensures { Swept given.now.code.recs.now given.now.code.ops.now given.now.regs.now g work.old lasts.old facts.old g.k work.new lasts.new facts.new result }
+// All positions are marked: those that begin in the set. Says how many do.
+pub(crate) fn begin(given: &Given<'_>, work: &[u64], facts: &mut [Fact], span: Span) -> u32
+    requires { Sweepable given.now.code.recs.now given.now.code.ops.now given.now.regs.now work.now facts.old span }
+    ensures { Begun given.now.code.recs.now given.now.regs.now work.now span facts.old span.n facts.new result }
 {
     let mut count = 0;
-    for i in 0..g.k {
-        let p = place(g, i);
+    for p in 0..span.n {
         let f = facts[p];
-        let stays = visit(given, work, lasts, g, f, p);
-        facts[p].member = stays;
-        count += u32::from(counts(g.phase, f, stays));
+        let begins = starts(given, f, work, span, p);
+        facts[p].member = begins;
+        count += u32::from(begins);
     }
     count
 }
 
-// A whole sweep. Says how many begin in the set, or are dropped. Each phase stands here by its name, so that it has a loop of its own
-// which does not ask for it at each position.
-pub(crate) fn run(
+// From the last position back: members that break rule 1 are dropped. Says how many.
+pub(crate) fn backward(
     given: &Given<'_>,
     work: &mut [u64],
     lasts: &mut Lasts,
     facts: &mut [Fact],
-    g: Sweep,
+    span: Span,
 ) -> u32
-    requires { Sweepable given.now.code.recs.now given.now.code.ops.now given.now.regs.now work.old facts.old g }
-    ensures { Swept given.now.code.recs.now given.now.code.ops.now given.now.regs.now g work.old lasts.old facts.old g.k work.new lasts.new facts.new result }
+    requires { Sweepable given.now.code.recs.now given.now.code.ops.now given.now.regs.now work.old facts.old span }
+    ensures { Backward given.now.code.recs.now given.now.code.ops.now given.now.regs.now span work.old lasts.old facts.old work.new lasts.new facts.new result }
 {
-    match g.phase {
-        Phase::Start => turns(given, work, lasts, facts, Sweep { phase: Phase::Start, ..g }),
-        Phase::Back => turns(given, work, lasts, facts, Sweep { phase: Phase::Back, ..g }),
-        Phase::Forth => turns(given, work, lasts, facts, Sweep { phase: Phase::Forth, ..g }),
+    let mut count = 0;
+    for p in (0..span.n).rev() {
+        let f = facts[p];
+        let stays = back_in(given, f, work, span.s, lasts, p);
+        facts[p].member = stays;
+        count += u32::from(f.member & !stays);
     }
+    count
+}
+
+// From the first position forth, over those in x: members that break one of rules 3 to 6 are dropped. Says how many.
+pub(crate) fn forward(
+    given: &Given<'_>,
+    work: &mut [u64],
+    lasts: &mut Lasts,
+    facts: &mut [Fact],
+    span: Span,
+) -> u32
+    requires { Sweepable given.now.code.recs.now given.now.code.ops.now given.now.regs.now work.old facts.old span × Near (part span.s (length given.now.regs.now) work.old) }
+    ensures { Forward given.now.code.recs.now given.now.code.ops.now given.now.regs.now span work.old lasts.old facts.old work.new lasts.new facts.new result }
+{
+    let mut count = 0;
+    for p in 0..span.m {
+        let f = facts[p];
+        let stays = forth_in(given, f, work, span.s, lasts, p);
+        facts[p].member = stays;
+        count += u32::from(f.member & !stays);
+    }
+    count
 }

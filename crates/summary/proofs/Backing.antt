@@ -226,12 +226,11 @@ stamps_of {recs} {ops} {w} {n} {R} {L} {st} s i = record { kept = λ r h. (parts
         (omega arith, omega arith)
 
 pub backing_end : {recs ops : List ℕ} {w : List Fact} {n q : ℕ} {st₀ marks₀ st : List ℕ} {ls : Lasts} {marks : List ℕ} {r : ℕ} → Safe recs ops w n (length st₀) → Backing recs ops w n q st₀ marks₀ st ls marks r → q ≤ 0
-    → Passed (backward_ok (defs_of recs w) (reads_of recs ops w) n) 0 n marks₀ marks r × (length st ≡ length st₀) × Summed recs w n 0 st ls marks
+    → Passed (backward_ok (defs_of recs w) (reads_of recs ops w) n) 0 n marks₀ marks r × Summed recs w n 0 st ls marks
 backing_end {recs} {ops} {w} {n} {q} {marks₀ = marks₀} {st = st} {ls = ls} {marks = marks} {r = r} s i h =
     let e : q ≡ 0 = omega arith in
     let a = subst (λ (y : ℕ). Notes w (in_set marks) n y ls) e i.notes in (
       subst (λ (y : ℕ). Passed (backward_ok (defs_of recs w) (reads_of recs ops w) n) y n marks₀ marks r) e i.passed,
-      i.size,
       record {
         stamps = stamps_of s (subst (λ (y : ℕ). Awaits (defs_of recs w) (reads_of recs ops w) (in_set marks) n y st) e i.awaits);
         size = a.size;

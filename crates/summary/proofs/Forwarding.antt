@@ -20,12 +20,12 @@ use Rattle.effects.specs.Origin.{num}
 use Rattle.facts.specs.declared.Fact.{Fact}
 use Rattle.facts.specs.Marks.{fact_in}
 use Rattle.legalset.specs.Chain.{view, defs_of, writer, reg_org, picked, origins, Safe}
-use Rattle.legalset.specs.Marks.{in_set, sifted, lost, own, Passed}
+use Rattle.legalset.specs.Marks.{in_set, sifted, lost}
 use Rattle.legalset.specs.Rules.{last_kept, when_in, read_fine, org_fine, own_memory, still_fine, reads_ok, origins_ok, suspends_ok, memory_ok, own_ok, forward_ok}
 use Rattle.legalset.proofs.Lasting.{writer_low}
 use Rattle.legalset.proofs.Dropping.{passed_none, passed_up}
 use Rattle.legalset.proofs.Easier.{forward_mono}
-use Rattle.summary.specs.Passes.{over, stamp, writer_word, Stamped, Stamps, Writes, read_test, word_org, org_test, froms, from_test, memory_test, member_at, own_test, stay_test, fact_word, forgot, forgotten, with_writes, Forwarded, Summed, Shows}
+use Rattle.summary.specs.Passes.{over, stamp, writer_word, Stamped, Stamps, Writes, read_test, word_org, org_test, froms, from_test, memory_test, member_at, own_test, stay_test, fact_word, forgot, forgotten, with_writes, Forwarded, Summed, Going, Shows}
 use Rattle.summary.specs.declared.notes.Lasts.{Lasts}
 use Rattle.summary.proofs.Summing.{at_parts, same_at}
 use Rattle.summary.proofs.Places.{reads_low, list_in_low}
@@ -292,17 +292,6 @@ gone_on {recs} {ops} {w} {regs} {f} {p} {st} {ls} {st'} {ls'} {keep} S t h e d =
   loses = is_lost S p f.member (stay_test recs ops regs st ls.writes f ls.suspension ls.barrier p) e d.keeps;
 }
 
--- the first p positions are done
-pub record Going (recs ops : List ℕ) (w : List Fact) (regs : List ℕ) (n p : ℕ) (st₀ : List ℕ) (ls₀ : Lasts) (marks₀ st : List ℕ) (ls : Lasts) (marks : List ℕ) (r : ℕ) : Type 0 where
-  pub size : length st ≡ length st₀
-  pub stamps : Stamps w (defs_of recs w) (in_set marks₀) (in_set marks) n p st
-  pub ls_size : length ls.writes ≡ 2006
-  pub suspension : ls.suspension ≡ ls₀.suspension
-  pub barrier : ls.barrier ≡ ls₀.barrier
-  pub lows : (j : ℕ) → get_or ls.writes j 0 % 1024 ≡ get_or ls₀.writes j 0 % 1024
-  pub flags : (j : ℕ) → j < 2006 → get_or ls.writes j 0 / 1024 ≡ hit (member_at (in_set marks) 0 j)
-  pub passed : Passed (own (forward_ok (view recs ops w regs) n)) 0 p marks₀ marks r
-
 pub going_none : {recs ops : List ℕ} {w : List Fact} {regs : List ℕ} {n : ℕ} {st : List ℕ} {lasts : Lasts} {marks : List ℕ} → Summed recs w n 0 st lasts marks → Going recs ops w regs n 0 st lasts marks st lasts marks 0
 going_none {recs} {ops} {w} {regs} {n} {st} {lasts} {marks} s = record { size = refl; stamps = s.stamps; ls_size = s.size; suspension = refl; barrier = refl; lows = λ j. refl; flags = s.flags; passed = passed_none (forward_ok (view recs ops w regs) n) 0 marks }
 
@@ -323,11 +312,6 @@ module _ {recs ops : List ℕ} {w : List Fact} {regs : List ℕ} {n p : ℕ} {st
     flags = forgot_flags marks ls.writes p _ (omega arith) (omega arith) i.ls_size i.flags k.sifts (ap (λ (x : Lasts). x.writes) k.forgets);
     passed = passed_up (forward_ok (view recs ops w regs) n) (forward_mono (view recs ops w regs) n) i.passed (stay_is regs marks s h i.size i.stamps (writes_on w i.lows z.writes) (i.barrier ∙ z.barrier) (i.suspension ∙ z.suspension) i.flags t) k.sifts k.loses;
   }
-
-pub going_end : {recs ops : List ℕ} {w : List Fact} {regs : List ℕ} {n p m : ℕ} {st₀ : List ℕ} {ls₀ : Lasts} {marks₀ st : List ℕ} {ls : Lasts} {marks : List ℕ} {r : ℕ} → Going recs ops w regs n p st₀ ls₀ marks₀ st ls marks r → p ≤ m → m ≤ p
-    → Passed (own (forward_ok (view recs ops w regs) n)) 0 m marks₀ marks r × (length st ≡ length st₀)
-going_end {recs} {ops} {w} {regs} {n} {p} {m} {marks₀ = marks₀} {marks = marks} {r = r} i a b =
-    let e : p ≡ m = omega arith in (subst (λ (k : ℕ). Passed (own (forward_ok (view recs ops w regs) n)) 0 k marks₀ marks r) e i.passed, i.size)
 
 -- ---- by the position's fact
 

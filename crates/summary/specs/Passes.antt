@@ -12,9 +12,9 @@ use Rattle.facts.specs.declared.Fact as F
 use Rattle.facts.specs.Marks.{fact_in, marked}
 use Rattle.regfacts.specs.Written.{Fits, Good}
 use Rattle.summary.specs.declared.notes.Lasts.{Lasts}
-use Rattle.legalset.specs.Chain.{writer, defs_of, reg_org, picked, Told}
-use Rattle.legalset.specs.Marks.{in_set}
-use Rattle.legalset.specs.Rules.{last_kept, org_fine, still_fine, pending}
+use Rattle.legalset.specs.Chain.{view, writer, defs_of, reg_org, picked, Told}
+use Rattle.legalset.specs.Marks.{in_set, own, Passed}
+use Rattle.legalset.specs.Rules.{last_kept, org_fine, still_fine, forward_ok, pending}
 
 -- read k: slots 0 to 4, then the list; absent where there is none
 unfoldable pub read_place : List ℕ → Inst → ℕ → ℕ
@@ -200,6 +200,18 @@ pub record Summed (recs : List ℕ) (w : List F.Fact) (n p : ℕ) (st : List ℕ
   pub flags : (j : ℕ) → j < 2006 → get_or lasts.writes j 0 / 1024 ≡ hit (member_at (in_set marks) 0 j)
   pub barrier : lasts.barrier ≡ last_kept (in_set marks) (λ z. (fact_in w z).barrier) n
   pub suspension : lasts.suspension ≡ last_kept (in_set marks) (λ z. (fact_in w z).suspends) n
+
+-- the first p positions were looked at from the front, after the summary st₀ and ls₀ of marks₀: what was dropped, r of them, and what is
+-- stamped and noted now
+pub record Going (recs ops : List ℕ) (w : List F.Fact) (regs : List ℕ) (n p : ℕ) (st₀ : List ℕ) (ls₀ : Lasts) (marks₀ st : List ℕ) (ls : Lasts) (marks : List ℕ) (r : ℕ) : Type 0 where
+  pub size : length st ≡ length st₀
+  pub stamps : Stamps w (defs_of recs w) (in_set marks₀) (in_set marks) n p st
+  pub ls_size : length ls.writes ≡ 2006
+  pub suspension : ls.suspension ≡ ls₀.suspension
+  pub barrier : ls.barrier ≡ ls₀.barrier
+  pub lows : (j : ℕ) → get_or ls.writes j 0 % 1024 ≡ get_or ls₀.writes j 0 % 1024
+  pub flags : (j : ℕ) → j < 2006 → get_or ls.writes j 0 / 1024 ≡ hit (member_at (in_set marks) 0 j)
+  pub passed : Passed (own (forward_ok (view recs ops w regs) n)) 0 p marks₀ marks r
 
 -- q and 1, if q is kept
 unfoldable pub kept_word : Bool → ℕ → ℕ

@@ -42,15 +42,6 @@ impl Lasts {
         }
     }
 
-    // Nothing is noted any more.
-    pub fn clear(&mut self)
-        ensures { self.new ≡ blank }
-    {
-        self.writes = [0; WRITES];
-        self.barrier = 0;
-        self.suspension = 0;
-    }
-
     // The last kept write of memory o, and 1.
     pub fn last_write(&self, o: usize) -> u32
         requires { o < 2006 }

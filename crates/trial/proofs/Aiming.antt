@@ -22,7 +22,6 @@ use Rattle.flow.specs.Live.{Live, Wrote}
 use Rattle.chains.specs.declared.chain.Chain.{Chain}
 use Rattle.chains.specs.Chain.{blocks_of, last_of, Preds}
 use Rattle.summary.specs.Passes.{Row}
-use Rattle.plan.specs.declared.settle.Cycle.{Cycle}
 use Rattle.flow.specs.Needed.{Shows, Needed}
 use Rattle.sizes.specs.declared.Sizes.{Sizes}
 use Rattle.trial.specs.declared.target.Goal.{Goal}
@@ -30,7 +29,7 @@ use Rattle.trial.specs.declared.target.Sunk.{Sunk}
 use Rattle.sizes.specs.Parts.{needed_at, stamps_at, preds_at}
 use Rattle.words.specs.Bits.{width}
 use Rattle.chainwords.specs.Work.{at_needed, at_regs, Held, Lists, Tabled}
-use Rattle.trial.specs.Target.{from_start, taken, Aiming, Aimed}
+use Rattle.trial.specs.Target.{asked, taken, Aiming, Aimed}
 use Rattle.chainwords.proofs.Standing.{wrote_held}
 use Rattle.chainwords.proofs.Rooms.{room_of, row_before, Same, held_same, preds_lent}
 
@@ -98,12 +97,12 @@ pub record Spotted (s : Sizes) (c : Chain) (work32 : List ℕ) (into : ℕ) (r :
 
 module _ {bounds recs pairs targets : List ℕ} {s : Sizes} {c : Chain} {work64 work32 : List ℕ} {g : Goal} where
   -- nothing to do
-  pub aim_off : {q : Bool} {o st : ℕ} {z : Cycle} → Spotted s c work32 g.into.0 q → (not (eqb g.least 0) && q) ≡ false → o ≡ needed_at s → st ≡ stamps_at s → z ≡ from_start o st 0 0 1
-      → Aimed bounds recs pairs targets s c work64 work32 g work64 (record { least = 0; end = 8000; sweeps = z })
-  aim_off {q} f e eo es ez = record {
+  pub aim_off : {q : Bool} {o st : ℕ} → Spotted s c work32 g.into.0 q → (not (eqb g.least 0) && q) ≡ false → o ≡ needed_at s → st ≡ stamps_at s
+      → Aimed bounds recs pairs targets s c work64 work32 g work64 (record { least = 0; end = 8000; asked = asked o st 0 0 1 })
+  aim_off {q} f e eo es = record {
     size64 = refl;
     held = λ P G ops l t h. h;
-    off = λ _. (ez ∙ ap₂ (λ (x y : ℕ). from_start x y 0 0 1) eo es, refl);
+    off = λ _. (ap₂ (λ (x y : ℕ). asked x y 0 0 1) eo es, refl);
     no_target = λ _ some? P G ops l h.
         sym (f.is P (preds_lent work32 l h.begun.preds))
         ∙ subst (λ (b : Bool). (not b && q) ≡ false) (ne_eqb g.least 0 (λ y. omega arith)) e;
@@ -113,10 +112,10 @@ module _ {bounds recs pairs targets : List ℕ} {s : Sizes} {c : Chain} {work64 
   }
 
   -- a target
-  pub aim_on : {q : Bool} {w o st e : ℕ} {z : Cycle} {work64' : List ℕ} → Aiming bounds recs pairs targets s c work64 work32 g → Spotted s c work32 g.into.0 q → (not (eqb g.least 0) && q) ≡ true
-      → w ≡ width s.regs → o ≡ needed_at s → st ≡ stamps_at s → e ≡ 8000 + s.regs → Needed bounds recs pairs targets w g.into.0 g.other.0 work64 work64' → z ≡ from_start o st g.inside g.places g.least
-      → Aimed bounds recs pairs targets s c work64 work32 g work64' (record { least = g.least; end = e; sweeps = z })
-  aim_on {q} {w} {o} {st} {e} {z} {work64'} p f y ew eo es ee put ez =
+  pub aim_on : {q : Bool} {w o st e : ℕ} {work64' : List ℕ} → Aiming bounds recs pairs targets s c work64 work32 g → Spotted s c work32 g.into.0 q → (not (eqb g.least 0) && q) ≡ true
+      → w ≡ width s.regs → o ≡ needed_at s → st ≡ stamps_at s → e ≡ 8000 + s.regs → Needed bounds recs pairs targets w g.into.0 g.other.0 work64 work64'
+      → Aimed bounds recs pairs targets s c work64 work32 g work64' (record { least = g.least; end = e; asked = asked o st g.inside g.places g.least })
+  aim_on {q} {w} {o} {st} {e} {work64'} p f y ew eo es ee put =
       record {
         size64 = put.size;
         held = λ P G ops l t u.
@@ -124,7 +123,7 @@ module _ {bounds recs pairs targets : List ℕ} {s : Sizes} {c : Chain} {work64 
             held_same (accepted P (length work64) (length work32) records l.accepted) (same_needed P l low put ew) u;
         off = λ x. absurd (some? x);
         no_target = λ x. absurd (some? x);
-        on = λ _. (refl, ez ∙ ap₂ (λ (x v : ℕ). from_start x v g.inside g.places g.least) eo es, ee);
+        on = λ _. (refl, ap₂ (λ (x v : ℕ). asked x v g.inside g.places g.least) eo es, ee);
         target = λ _ P G ops l u. sym (f.is P (preds_lent work32 l u.begun.preds)) ∙ right_true (not (eqb g.least 0)) q y;
         row = λ _ P G ops l t u. row_here P G l t u put ew;
       }

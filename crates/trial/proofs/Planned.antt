@@ -28,10 +28,10 @@ use Rattle.chains.specs.declared.chain.Chain.{Chain}
 use Rattle.chains.specs.Chain.{blocks_of}
 use Rattle.legalset.specs.Chain.{Safe, Told}
 use Rattle.legalset.specs.Marks.{in_set}
-use Rattle.plan.specs.declared.settle.Cycle.{Cycle}
+use Rattle.plan.specs.declared.turn.Asked.{Asked}
 use Rattle.summary.specs.Passes.{Ended, Row, Around, Greatest}
 use Rattle.plan.specs.Sweep.{marks}
-use Rattle.plan.specs.Cycle.{Choosable, Chose}
+use Rattle.plan.specs.Set.{Choosable, Chose}
 use Rattle.sizes.specs.declared.Sizes.{Sizes}
 use Rattle.trial.specs.declared.target.Goal.{Goal}
 use Rattle.trial.specs.declared.target.Aim.{Aim}
@@ -42,7 +42,7 @@ use Rattle.chainwords.specs.Work.{at_regs, at_stamps, chain_words, copied_words,
 use Rattle.chainwords.specs.Puts as U
 use Rattle.chainwords.specs.Along.{Along, Marked, FromX, Numbered, Using, Lasts, Used}
 use Rattle.chains.specs.Chain.{chain_in}
-use Rattle.trial.specs.Target.{from_start, taken, Aiming, Aimed, plan_toward, Trying, TargetTried}
+use Rattle.trial.specs.Target.{asked, taken, Aiming, Aimed, plan_toward, Trying, TargetTried}
 use Rattle.chainwords.proofs.Kept.{held_kept}
 use Rattle.chainwords.proofs.Rooms.{room, room_of, Same, held_same}
 use Rattle.chainwords.proofs.Telling.{facts_behind, facts_still}
@@ -123,8 +123,8 @@ module _ {bounds recs ops pairs targets : List ℕ} {s : Sizes} {c : Chain} {w :
     row_fits = let r = room t.planning.lists in omega (arith, r.rows, r.four, r.words64, d.size64)
 
     -- the part of the stamps
-    stamps_is : a.sweeps.span.s ≡ stamps_at s
-    stamps_is = ⊎_elim (λ (e : a.least ≡ 0). ap (λ (z : Cycle). z.span.s) (d.off e).0) (λ (h : 0 < a.least). ap (λ (z : Cycle). z.span.s) (d.on h).1) (some_or a.least)
+    stamps_is : a.asked.span.s ≡ stamps_at s
+    stamps_is = ⊎_elim (λ (e : a.least ≡ 0). ap (λ (z : Asked). z.span.s) (d.off e).0) (λ (h : 0 < a.least). ap (λ (z : Asked). z.span.s) (d.on h).1) (some_or a.least)
 
     -- the registers' words, where there is a target
     regs_are : 0 < a.least → (P : Picture) → Lists P bounds recs ops s (length work64) (length work32) → take (a.end - 8000) (drop 8000 work32) ≡ copied_words P work32
@@ -137,27 +137,28 @@ module _ {bounds recs ops pairs targets : List ℕ} {s : Sizes} {c : Chain} {w :
 
 module _ {bounds recs ops pairs targets : List ℕ} {s : Sizes} {c : Chain} {fs : List F.Fact} {work64 work32 : List ℕ} {g : Goal} (t : Trying bounds recs ops pairs targets s c (bare fs) work64 work32 g) (long : g.places ≤ length fs) {work64₁ : List ℕ} {a : Aim}
     (d : Aimed bounds recs pairs targets s c work64 work32 g work64₁ a) where
-  choosable_off : Choosable recs ops [] work64₁ fs (from_start (needed_at s) (stamps_at s) 0 0 1)
+  choosable_off : Choosable recs ops [] work64₁ fs (asked (needed_at s) (stamps_at s) 0 0 1)
   choosable_off =
       let r = room t.planning.lists in
       record {
-        safe = record {
-          few = omega arith;
-          good = λ p h. absurd (omega arith);
-          org = λ p h. absurd (omega arith);
-          wrote = λ p h. absurd (omega arith);
-          from = λ p h. absurd (omega arith);
+        sweeps = record {
+          safe = record {
+            few = omega arith;
+            good = λ p h. absurd (omega arith);
+            org = λ p h. absurd (omega arith);
+            wrote = λ p h. absurd (omega arith);
+            from = λ p h. absurd (omega arith);
+          };
+          brief = record { defs = λ p h. absurd (omega arith); reads = λ p h. absurd (omega arith) };
+          in_x = omega arith;
+          row = row_fits t d;
+          room = omega (arith, r.words64, d.size64);
+          long = omega arith;
         };
-        brief = record { defs = λ p h. absurd (omega arith); reads = λ p h. absurd (omega arith) };
         ended = record { each = λ r h. absurd (omega arith) };
-        in_x = omega arith;
-        row = row_fits t d;
-        room = omega (arith, r.words64, d.size64);
-        long = omega arith;
-        start = refl;
       }
 
-  choosable_on : 0 < a.least → Choosable recs ops (copied_words t.planning.P work32) work64₁ fs (from_start (needed_at s) (stamps_at s) g.inside g.places g.least)
+  choosable_on : 0 < a.least → Choosable recs ops (copied_words t.planning.P work32) work64₁ fs (asked (needed_at s) (stamps_at s) g.inside g.places g.least)
   choosable_on h =
       let p = t.planning in
       let l = p.lists in
@@ -165,30 +166,31 @@ module _ {bounds recs ops pairs targets : List ℕ} {s : Sizes} {c : Chain} {fs 
       let r = room l in
       let rl = regs_long t d P l in
       record {
-        safe = subst (λ (k : ℕ). Safe recs ops (bare fs) g.places k) (sym rl) (rw (l.recs_are, l.ops_are) p.along.safe);
-        brief = rw (l.recs_are, l.ops_are) p.along.brief;
+        sweeps = record {
+          safe = subst (λ (k : ℕ). Safe recs ops (bare fs) g.places k) (sym rl) (rw (l.recs_are, l.ops_are) p.along.safe);
+          brief = rw (l.recs_are, l.ops_are) p.along.brief;
+          in_x = p.in_x;
+          row = row_fits t d;
+          room = omega (arith, r.words64, r.lent, d.size64, rl, l.regs_are);
+          long = long;
+        };
         ended = rw l.recs_are p.along.ended;
-        in_x = p.in_x;
-        row = row_fits t d;
-        room = omega (arith, r.words64, r.lent, d.size64, rl, l.regs_are);
-        long = long;
-        start = refl;
       }
 
-  pub choosable : Choosable recs ops (take (a.end - 8000) (drop 8000 work32)) work64₁ fs a.sweeps
+  pub choosable : Choosable recs ops (take (a.end - 8000) (drop 8000 work32)) work64₁ fs a.asked
   choosable = ⊎_elim
       (λ (e : a.least ≡ 0).
       let z : 0 ≡ a.end - 8000 = let y = (d.off e).1 in omega arith in
-      subst (λ (k : ℕ). Choosable recs ops (take k (drop 8000 work32)) work64₁ fs a.sweeps) z (subst (Choosable recs ops [] work64₁ fs) (sym (d.off e).0) choosable_off))
+      subst (λ (k : ℕ). Choosable recs ops (take k (drop 8000 work32)) work64₁ fs a.asked) z (subst (Choosable recs ops [] work64₁ fs) (sym (d.off e).0) choosable_off))
       (λ (h : 0 < a.least).
-      subst (λ (rs : List ℕ). Choosable recs ops rs work64₁ fs a.sweeps) (sym (regs_are t d h t.planning.P t.planning.lists))
+      subst (λ (rs : List ℕ). Choosable recs ops rs work64₁ fs a.asked) (sym (regs_are t d h t.planning.P t.planning.lists))
       (subst (Choosable recs ops (copied_words t.planning.P work32) work64₁ fs) (sym (d.on h).1) (choosable_on h)))
       (some_or a.least)
 
 -- ---- after the set
 
 module _ {bounds recs ops pairs targets : List ℕ} {s : Sizes} {c : Chain} {fs fs' : List F.Fact} {work64 work32 : List ℕ} {g : Goal} (t : Trying bounds recs ops pairs targets s c (bare fs) work64 work32 g) (long : g.places ≤ length fs) {work64₁ : List ℕ} {a : Aim}
-    (d : Aimed bounds recs pairs targets s c work64 work32 g work64₁ a) {work64₂ : List ℕ} {k : ℕ} (ch : Chose recs ops (take (a.end - 8000) (drop 8000 work32)) a.sweeps work64₁ fs work64₂ fs' k) where
+    (d : Aimed bounds recs pairs targets s c work64 work32 g work64₁ a) {work64₂ : List ℕ} {k : ℕ} (ch : Chose recs ops (take (a.end - 8000) (drop 8000 work32)) a.asked work64₁ fs work64₂ fs' k) where
   size₂ : length work64₂ ≡ length work64
   size₂ = ch.around.size ∙ d.size64
 
@@ -251,7 +253,7 @@ module _ {bounds recs ops pairs targets : List ℕ} {s : Sizes} {c : Chain} {fs 
       best =
           rw (l.recs_are, l.ops_are) at
           (subst (λ (rs : List ℕ). Greatest recs ops (bare fs) rs work64₁ (needed_at s) (marks g.places fs') g.inside g.places g.least k) (regs_are t d h P l)
-          (subst (λ (z : Cycle). Greatest recs ops (bare fs) (take (a.end - 8000) (drop 8000 work32)) work64₁ z.span.o (marks z.span.n fs') z.span.m z.span.n z.least k) (d.on h).1 ch.set))
+          (subst (λ (z : Asked). Greatest recs ops (bare fs) (take (a.end - 8000) (drop 8000 work32)) work64₁ z.span.o (marks z.span.n fs') z.span.m z.span.n z.least k) (d.on h).1 ch.set))
 
       row : Row work64₁ (needed_at s) (length (copied_words P work32)) need
       row = subst (λ (x : ℕ). Row work64₁ (needed_at s) x need) (sym (regs_long t d P l)) (d.row h P G ops l u hd)

@@ -31,8 +31,7 @@ use Rattle.legalset.specs.Chain.{Told}
 use Rattle.legalset.specs.Marks.{in_set}
 use Rattle.plan.specs.Sweep.{marks}
 use Rattle.summary.proofs.Backing.{writes_low}
-use Rattle.plan.proofs.Sweeping.{shown}
-use Rattle.plan.proofs.Turning.{marks_at}
+use Rattle.plan.proofs.Sweeping.{marks_at, shown}
 use Rattle.pool.specs.Pool.{wrote_at, regs_of}
 use Rattle.pool.specs.Plan.{read_there}
 use Rattle.sizes.specs.declared.Sizes.{Sizes}

@@ -9,8 +9,7 @@ use Rattle.chains.specs.declared.chain.Chain.{Chain}
 use Rattle.chains.specs.Chain.{blocks_of, Few}
 use Rattle.summary.specs.Passes.{Row}
 use Rattle.sizes.specs.declared.Sizes.{Sizes}
-use Rattle.plan.specs.declared.settle.Cycle.{Cycle}
-use Rattle.plan.specs.declared.sweep.Phase.TheVariants.{Start}
+use Rattle.plan.specs.declared.turn.Asked.{Asked}
 use Rattle.trial.specs.declared.target.Goal.{Goal}
 use Rattle.trial.specs.declared.target.Aim.{Aim}
 use Rattle.trial.specs.declared.target.Sunk.{Sunk}
@@ -21,9 +20,9 @@ use Rattle.chains.specs.Chain.{chain_in}
 
 -- ---- `take_aim`
 
--- the sweeps from the start on
-abbrev pub from_start : ℕ → ℕ → ℕ → ℕ → ℕ → Cycle
-from_start o s m n least = record { next = Some Start; quiet = false; span = record { o = o; s = s; m = m; n = n }; least = least; left = 0 }
+-- what is asked of the sweeps: the row at word o and the registers' words at s, the first m of n positions in x, and the fewest members
+abbrev pub asked : ℕ → ℕ → ℕ → ℕ → ℕ → Asked
+asked o s m n least = record { span = record { o = o; s = s; m = m; n = n }; least = least }
 
 -- there is a picture of these lists, whose blocks both branches are
 pub record Aiming (bounds recs pairs targets : List ℕ) (s : Sizes) (c : Chain) (work64 work32 : List ℕ) (g : Goal) : Type 0 where
@@ -40,10 +39,10 @@ pub record Aimed (bounds recs pairs targets : List ℕ) (s : Sizes) (c : Chain) 
   pub size64 : length work64' ≡ length work64
   pub held : (P : Picture) (G : Facts) (ops : List ℕ) → Lists P bounds recs ops s (length work64) (length work32) → Tabled P pairs targets → Held P G work64 work32 → Held P G work64' work32
   -- nothing to do
-  pub off : r.least ≡ 0 → (r.sweeps ≡ from_start (needed_at s) (stamps_at s) 0 0 1) × (r.end ≡ 8000)
+  pub off : r.least ≡ 0 → (r.asked ≡ asked (needed_at s) (stamps_at s) 0 0 1) × (r.end ≡ 8000)
   pub no_target : r.least ≡ 0 → 0 < g.least → (P : Picture) (G : Facts) (ops : List ℕ) → Lists P bounds recs ops s (length work64) (length work32) → Held P G work64 work32 → is_target P (chain_in c) g.into.0 ≡ false
   -- a target
-  pub on : 0 < r.least → (r.least ≡ g.least) × (r.sweeps ≡ from_start (needed_at s) (stamps_at s) g.inside g.places g.least) × (r.end ≡ 8000 + s.regs)
+  pub on : 0 < r.least → (r.least ≡ g.least) × (r.asked ≡ asked (needed_at s) (stamps_at s) g.inside g.places g.least) × (r.end ≡ 8000 + s.regs)
   pub target : 0 < r.least → (P : Picture) (G : Facts) (ops : List ℕ) → Lists P bounds recs ops s (length work64) (length work32) → Held P G work64 work32 → is_target P (chain_in c) g.into.0 ≡ true
   pub row : 0 < r.least → (P : Picture) (G : Facts) (ops : List ℕ) → Lists P bounds recs ops s (length work64) (length work32) → Tabled P pairs targets → Held P G work64 work32
       → Row work64' (needed_at s) P.regs (member (needed_of P g.into.0 g.other.0))

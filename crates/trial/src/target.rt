@@ -1,7 +1,7 @@
 // One target tried (01, "A round" and "The legal set"; 000's `plan`): is it a target, and has the greatest legal set enough members?
 ghost use Rattle.std.specs.Prelude.{◌≡◌, ◌≤◌, length};
 ghost use Rattle.facts.specs.Marks.{bare};
-ghost use Rattle.trial.specs.Target.{from_start, taken, Aiming, Aimed, Trying, TargetTried};
+ghost use Rattle.trial.specs.Target.{taken, Aiming, Aimed, Trying, TargetTried};
 
 use apply::moves::Move;
 use cfg::body::Body;
@@ -13,8 +13,8 @@ use flow::needed::put_needed;
 use inst::code::Code;
 use inst::index::BlockId;
 use plan::set::legal_set;
-use plan::settle::Cycle;
-use plan::sweep::{Phase, Span};
+use plan::sweep::Span;
+use plan::turn::Asked;
 use sizes::{COPIED, at_preds, at_stamps};
 use words::bits::width;
 
@@ -29,13 +29,13 @@ pub struct Goal {
     pub places: usize,
 }
 
-// What is asked of the set: the fewest members that move, or 0 where there is nothing to do; where the copied words of the registers
-// end; the sweeps.
+// How the set is sought: the fewest members that move, or 0 where there is nothing to do; where the copied words of the registers end;
+// what is asked of the sweeps.
 #[derive(Clone, Copy)]
 pub struct Aim {
     pub least: u32,
     pub end: usize,
-    pub sweeps: Cycle,
+    pub asked: Asked,
 }
 
 // How many members move, and of how many positions the words are written.
@@ -43,19 +43,6 @@ pub struct Aim {
 pub struct Sunk {
     pub moved: u32,
     pub places: usize,
-}
-
-// The sweeps, from the start on.
-fn from_start(o: usize, s: usize, m: usize, n: usize, least: u32) -> Cycle
-    ensures { result ≡ from_start o s m n least }
-{
-    Cycle {
-        next: Some(Phase::Start),
-        quiet: false,
-        span: Span { o, s, m, n },
-        least,
-        left: 0,
-    }
 }
 
 // Is g.into a target, and is a move wanted? Then the row of the registers needed elsewhere is put; else the sweeps are over no positions
@@ -69,21 +56,32 @@ fn take_aim(body: &Body<'_>, work64: &mut [u64], work32: &[u32], c: Chain, g: Go
         width: width(body.sizes.regs as usize),
     };
     let o = grid.needed();
-    let st = at_stamps(body.sizes);
+    let s = at_stamps(body.sizes);
     let k = at_preds(body.sizes);
     let wanted = (g.least != 0) & c.is_target(&work32[k..], g.into);
     if !wanted {
         return Aim {
             least: 0,
             end: COPIED,
-            sweeps: from_start(o, st, 0, 0, 1),
+            asked: Asked {
+                span: Span { o, s, m: 0, n: 0 },
+                least: 1,
+            },
         };
     }
     put_needed(&body.func, work64, grid.width, g.into, g.other);
     Aim {
         least: g.least,
         end: COPIED + body.sizes.regs as usize,
-        sweeps: from_start(o, st, g.inside, g.places, g.least),
+        asked: Asked {
+            span: Span {
+                o,
+                s,
+                m: g.inside,
+                n: g.places,
+            },
+            least: g.least,
+        },
     }
 }
 
@@ -123,7 +121,7 @@ pub fn try_target(
         recs: body.func.recs,
         ops: body.ops,
     };
-    let k = legal_set(&code, &work32[COPIED..e], work64, facts, a.sweeps);
+    let k = legal_set(&code, &work32[COPIED..e], work64, facts, a.asked);
     let b = taken(k, a.least, g.places);
     put_facts(facts, work32, b.places);
     let mv = Move {

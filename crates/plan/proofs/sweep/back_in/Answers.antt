@@ -1,6 +1,6 @@
 -- `plan::sweep::back_in` meets its contract. Assumes nothing.
 use lib.ListN.{length}
-use Rattle.plan.proofs.Visiting.{back_part, words_written, words_readable}
+use Rattle.plan.proofs.Lent.{back_part, words_written, words_readable}
 use Rattle.plan.proofs.sweep.back_in.Goals as goal
 
 pub back-requires : goal.back-requires

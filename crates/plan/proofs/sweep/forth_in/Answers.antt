@@ -1,7 +1,7 @@
 -- `plan::sweep::forth_in` meets its contract. Assumes nothing.
 use mathlib.Core.Path.{sym}
 use lib.ListN.{length}
-use Rattle.plan.proofs.Visiting.{forth_part, words_written, words_readable, words_near, words_long}
+use Rattle.plan.proofs.Lent.{forth_part, words_written, words_readable, words_near, words_long}
 use Rattle.plan.proofs.sweep.forth_in.Goals as goal
 
 pub forth-requires : goal.forth-requires

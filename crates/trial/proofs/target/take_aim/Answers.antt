@@ -12,8 +12,8 @@ use Rattle.trial.proofs.target.take_aim.Goals as goal
 pub needed-o-requires : goal.needed-o-requires
 needed-o-requires c = let r = room c.requires.lists in rw c.width.ensures (omega (arith, r.rows, r.four, r.words64))
 
-pub at_stamps-st-requires : goal.at_stamps-st-requires
-at_stamps-st-requires c = let r = room c.requires.lists in (r.blocks, r.few)
+pub at_stamps-s-requires : goal.at_stamps-s-requires
+at_stamps-s-requires c = let r = room c.requires.lists in (r.blocks, r.few)
 
 pub at_preds-k-requires : goal.at_preds-k-requires
 at_preds-k-requires c = (room c.requires.lists).few
@@ -33,7 +33,7 @@ is_target-requires c =
 pub returns-then-not-wanted : goal.returns-then-not-wanted
 returns-then-not-wanted c =
     let a = c.args in
-    aim_off (record { is = λ P h. c.is_target.ensures P a.body.now.sizes.blocks (block_in c.requires.lists c.requires.into_block) (preds_from a.body.now.sizes a.work32.now P c.at_preds-k.ensures h) }) (not-true _ (ap not c.if-not-wanted.true)) (needed_from a.body.now.sizes c.width.ensures c.needed-o.ensures) c.at_stamps-st.ensures.0 c.from_start.ensures
+    aim_off (record { is = λ P h. c.is_target.ensures P a.body.now.sizes.blocks (block_in c.requires.lists c.requires.into_block) (preds_from a.body.now.sizes a.work32.now P c.at_preds-k.ensures h) }) (not-true _ (ap not c.if-not-wanted.true)) (needed_from a.body.now.sizes c.width.ensures c.needed-o.ensures) c.at_stamps-s.ensures.0
 
 pub put_needed-requires : goal.put_needed-requires
 put_needed-requires c =
@@ -47,8 +47,8 @@ put_needed-requires c =
 pub returns : goal.returns
 returns c =
     let a = c.args in
-    aim_on c.requires (record { is = λ P h. c.is_target.ensures P a.body.now.sizes.blocks (block_in c.requires.lists c.requires.into_block) (preds_from a.body.now.sizes a.work32.now P c.at_preds-k.ensures h) }) (not-false _ (ap not c.if-not-wanted.false)) c.width.ensures (needed_from a.body.now.sizes c.width.ensures c.needed-o.ensures) c.at_stamps-st.ensures.0
-    refl c.put_needed.ensures c.from_start-2.ensures
+    aim_on c.requires (record { is = λ P h. c.is_target.ensures P a.body.now.sizes.blocks (block_in c.requires.lists c.requires.into_block) (preds_from a.body.now.sizes a.work32.now P c.at_preds-k.ensures h) }) (not-false _ (ap not c.if-not-wanted.false)) c.width.ensures (needed_from a.body.now.sizes c.width.ensures c.needed-o.ensures) c.at_stamps-s.ensures.0
+    refl c.put_needed.ensures
 
 pub slice_bounds-is_target-start : goal.slice_bounds-is_target-start
 slice_bounds-is_target-start c = let r = room c.requires.lists in omega (arith, r.words32, c.at_preds-k.ensures)

@@ -1,34 +1,16 @@
--- One visit of a sweep. Assumes nothing.
+-- The words of the registers, as a part of the work that is lent to a step. Assumes nothing.
 use mathlib.Core.Path.{◌≡◌, refl, sym, ap, ◌∙◌, subst}
-use mathlib.Core.Bool.{Bool, true, false, not, ◌&&◌, cond}
+use mathlib.Core.Bool.{Bool}
 use mathlib.Core.List.{List}
 use Prim.Native.Nat.{ℕ, ◌+◌, ◌-◌, ◌≤◌}
 use native.Mathlib.Omega.{arith}
 use borrow.Rule.Slice.PartMut.{put_mid, mid_of, same_len_mid, mid_len, take_put, drop_put}
-use lib.Dec.{ltb}
-use lib.ListN.{length, take, drop}
+use lib.ListN.{length, take, drop, replicate, length-replicate}
 use Rattle.summary.specs.declared.notes.Lasts.{Lasts}
-use Rattle.words.proofs.Bools.{clash}
 use Rattle.words.proofs.Parts.{put_part}
 use Rattle.facts.specs.declared.Fact.{Fact}
-use Rattle.plan.specs.declared.sweep.Phase.{Phase}
-use Rattle.plan.specs.declared.sweep.Phase.TheVariants.{Start, Back, Forth}
-use Rattle.plan.specs.declared.sweep.Sweep.{Sweep}
-use Rattle.summary.specs.Passes.{begin_test, Backed, Forwarded, Around, Near, Written, Readable}
-use Rattle.plan.specs.Sweep.{part, place, counts, Visit, is_start, is_forth}
-
-pub not_forth : (p : Phase) → (p ≡ Forth → ⊥) → is_forth p ≡ false
-not_forth Start n = refl
-not_forth Back n = refl
-not_forth Forth n = absurd (n refl)
-
-pub place_on : (g : Sweep) (i : ℕ) → (is_forth g.phase) ≡ true → i ≡ place g i
-unfolding place
-place_on g i e = sym (ap (λ (b : Bool). cond b i (g.span.n - 1 - i)) e)
-
-pub place_back : (g : Sweep) (i : ℕ) → (is_forth g.phase) ≡ false → g.span.n - 1 - i ≡ place g i
-unfolding place
-place_back g i e = sym (ap (λ (b : Bool). cond b i (g.span.n - 1 - i)) e)
+use Rattle.summary.specs.Passes.{Backed, Forwarded, Around, Near, Written, Readable}
+use Rattle.plan.specs.Sweep.{part}
 
 -- ---- the part that is lent comes back
 
@@ -87,60 +69,14 @@ module _ (s k : ℕ) (work : List ℕ) (l : s + k ≤ length work) where
   pub words_near : Near (part s k work) → Near (mid_of s (s + k - s) work)
   words_near a = subst (λ (x : ℕ). Near (part s x work)) (sym (sized s k)) a
 
--- ---- the three kinds of visit
+-- the part is cleared: its words ys are 0
+pub words_clear : (s k : ℕ) (work ys : List ℕ) → s + k ≤ length work → ys ≡ replicate (length (mid_of s (s + k - s) work)) 0 → part s k (put_mid s (s + k - s) work ys) ≡ replicate k 0 × Around s k work (put_mid s (s + k - s) work ys)
+words_clear s k work ys l e =
+    let n = ap length e ∙ length-replicate (length (mid_of s (s + k - s) work)) 0 in
+    (words_are s k work ys l n ∙ e ∙ ap (λ (x : ℕ). replicate x 0) (words_long s k work l), words_around s k work ys l n)
 
-pub nothing_moved : (s k : ℕ) (work : List ℕ) → Around s k work work
-nothing_moved s k work = record { size = refl; below = refl; behind = refl }
+pub around_on : {s k : ℕ} {x y z : List ℕ} → Around s k x y → Around s k y z → Around s k x z
+around_on a b = record { size = b.size ∙ a.size; below = b.below ∙ a.below; behind = b.behind ∙ a.behind }
 
-module _ {recs ops regs : List ℕ} {g : Sweep} {f : Fact} {p : ℕ} {work : List ℕ} {ls : Lasts} {b : Bool} where
-  pub visit_first : (is_start g.phase) ≡ true → b ≡ (ltb p g.span.m && begin_test recs regs work f g.span.o p) → Visit recs ops regs g f p work ls work ls b
-  visit_first e t = record {
-    size = refl;
-    begun = λ _. (t, refl);
-    backed = λ u v. clash e u;
-    forwarded = λ u v. clash e u;
-    around = nothing_moved _ _ work;
-  }
-
-  module _ {work' : List ℕ} {ls' : Lasts} (e : (is_start g.phase) ≡ false) (m : Around g.span.s (length regs) work work') where
-    pub visit_back : (is_forth g.phase) ≡ false → Backed recs ops f p (part g.span.s (length regs) work) ls (part g.span.s (length regs) work') ls' b → Visit recs ops regs g f p work ls work' ls' b
-    visit_back u d = record {
-      size = m.size;
-      begun = λ v. clash v e;
-      backed = λ _ _. d;
-      forwarded = λ _ v. clash v u;
-      around = m;
-    }
-
-    pub visit_forth : (is_forth g.phase) ≡ true → Forwarded recs ops regs f p (part g.span.s (length regs) work) ls (part g.span.s (length regs) work') ls' b → Visit recs ops regs g f p work ls work' ls' b
-    visit_forth u d = record {
-      size = m.size;
-      begun = λ v. clash v e;
-      backed = λ _ v. clash u v;
-      forwarded = λ _ _. d;
-      around = m;
-    }
-
--- ---- what is counted
-
-module _ (p : Phase) (f : Fact) (b : Bool) where
-  pub counts_start : is_start p ≡ true → counts p f b ≡ b
-  counts_start = go p
-    where
-      go : (p : Phase) → is_start p ≡ true → counts p f b ≡ b
-      go Start e = refl
-      go Back e = clash e refl
-      go Forth e = clash e refl
-
-  pub counts_dropped : is_start p ≡ false → counts p f b ≡ (f.member && not b)
-  counts_dropped = go p
-    where
-      go : (p : Phase) → is_start p ≡ false → counts p f b ≡ (f.member && not b)
-      go Start e = clash refl e
-      go Back e = refl
-      go Forth e = refl
-
-pub not_start : (p : Phase) → (p ≡ Start → ⊥) → is_start p ≡ false
-not_start Start n = absurd (n refl)
-not_start Back n = refl
-not_start Forth n = refl
+pub around_none : (s k : ℕ) (work : List ℕ) → Around s k work work
+around_none s k work = record { size = refl; below = refl; behind = refl }

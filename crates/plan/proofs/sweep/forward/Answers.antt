@@ -1,0 +1,38 @@
+-- `plan::sweep::forward` meets its contract. Assumes nothing.
+use mathlib.Core.Path.{sym, subst}
+use Prim.Native.Nat.{ℕ, ◌+◌, ◌<◌}
+use native.Mathlib.Omega.{arith}
+use lib.ListN.{get_or, set}
+use Rattle.facts.specs.Marks.{no_fact, marked}
+use Rattle.plan.proofs.Sweeping.{fact_written, fact_readable, fact_small, place_few, Ahead, ahead_none, ahead_more, ahead_end}
+use Rattle.plan.proofs.sweep.forward.Goals as goal
+
+pub loop-p-init : goal.loop-p-init
+loop-p-init c = ahead_none c.requires.0 c.requires.1
+
+pub forth_in-stays-requires : goal.forth_in-stays-requires
+forth_in-stays-requires c =
+    let r = c.requires.0 in
+    let at-loop = c.loop-p in
+    let l : at-loop.p < c.args.span.n = omega (arith, c.loop-p-test.true, r.in_x) in
+    let k = at-loop.invariant.facts in
+    let room = r.room in
+    let size = at-loop.invariant.around.size in
+    (fact_written r k l, fact_readable r k l, fact_small r k l, at-loop.invariant.near, place_few r k l, omega arith)
+
+pub loop-p-preserved : goal.loop-p-preserved
+loop-p-preserved c =
+    let a = c.args in
+    let r = c.requires.0 in
+    let at-loop = c.loop-p in
+    let fs = at-loop.facts in
+    let p = at-loop.p in
+    let l : at-loop.p < a.span.n = omega (arith, c.loop-p-test.true, r.in_x) in
+    let step = c.forth_in-stays in
+    subst (λ (n : ℕ). Ahead a.given.now.code.recs.now a.given.now.code.ops.now a.given.now.regs.now a.span a.work.now a.lasts.now a.facts.now (p + 1) step.new.work step.new.lasts (set fs p (marked (get_or fs p no_fact) step.result)) (at-loop.count + n)) (sym c.from-count.ensures)
+    (ahead_more r at-loop.invariant l step.ensures.0 step.ensures.1)
+
+pub returns : goal.returns
+returns c =
+    let at-loop = c.loop-p in
+    ahead_end c.requires.0 at-loop.invariant (omega (arith, at-loop.auto.p-end))

@@ -1,0 +1,31 @@
+-- A turn: a sweep backward, then one forward, unless that backward is the last (01, "The legal set"). Assumes nothing.
+use Rattle.std.specs.Prelude.{◌≡◌, Bool, true, false, not, ◌&&◌, List, ℕ, ◌-◌, eqb, leb, length}
+use Rattle.facts.specs.declared.Fact.{Fact}
+use Rattle.facts.specs.Marks.{bare}
+use Rattle.legalset.specs.Chain.{View, view}
+use Rattle.legalset.specs.Marks.{Passed}
+use Rattle.legalset.specs.Rules.{pass_ok}
+use Rattle.plan.specs.declared.turn.Asked.{Asked}
+use Rattle.plan.specs.declared.turn.Sweeps.{Sweeps}
+use Rattle.summary.specs.Passes.{Around}
+use Rattle.plan.specs.Sweep.{marks, Marked}
+
+-- after a sweep that dropped k
+abbrev pub went : Sweeps → ℕ → Sweeps
+went c k = record { left = c.left - k; quiet = eqb k 0; done = c.quiet && eqb k 0 }
+
+-- another one is to come, unless two dropped nothing, or too few are left
+abbrev pub goes_on : Sweeps → ℕ → Bool
+goes_on c least = not c.done && leb least c.left
+
+-- from the marks U, where the sweeps stood at c: one backward came to V, and that was the last; or one forward came to W
+pub data Passes (C : View) (n m least : ℕ) (U : List ℕ) (c : Sweeps) : List ℕ → Sweeps → Type 0 where
+  half : (V : List ℕ) (k : ℕ) → Passed (pass_ok C n false) 0 m U V k → goes_on (went c k) least ≡ false → Passes C n m least U c V (went c k)
+  whole : (V W : List ℕ) (k l : ℕ) → Passed (pass_ok C n false) 0 m U V k → goes_on (went c k) least ≡ true → Passed (pass_ok C n true) 0 m V W l
+      → Passes C n m least U c W (went (went c k) l)
+
+-- a turn, from c to c'
+pub record Turn (recs ops regs : List ℕ) (z : Asked) (work : List ℕ) (fs : List Fact) (c : Sweeps) (work' : List ℕ) (fs' : List Fact) (c' : Sweeps) : Type 0 where
+  pub passes : Passes (view recs ops (bare fs) regs) z.span.n z.span.m z.least (marks z.span.n fs) c (marks z.span.n fs') c'
+  pub around : Around z.span.s (length regs) work work'
+  pub facts : Marked fs fs'

@@ -1,0 +1,69 @@
+// A turn (01, "The legal set"): a sweep backward, which makes the notes, then one forward, which goes by them.
+ghost use Rattle.std.specs.Prelude.{◌≡◌, ◌≤◌};
+ghost use Rattle.legalset.specs.Marks.{members};
+ghost use Rattle.plan.specs.Sweep.{marks, Sweepable};
+ghost use Rattle.plan.specs.Turn.{went, goes_on, Turn};
+
+use crate::sweep::{Span, backward, forward};
+use facts::Fact;
+use legality::forward::Given;
+use summary::notes::Lasts;
+
+// What is asked: what the sweeps are over, and how many members are wanted; with fewer than `least` left no more sweeps are made.
+#[derive(Clone, Copy, Debug, PartialEq, Eq)]
+pub struct Asked {
+    pub span: Span,
+    pub least: u32,
+}
+
+// Where the sweeps stand: so many members are left; the last sweep dropped nothing; nor did the one before.
+#[derive(Clone, Copy)]
+pub(crate) struct Sweeps {
+    pub(crate) left: u32,
+    pub(crate) quiet: bool,
+    pub(crate) done: bool,
+}
+
+// After a sweep that dropped `count`.
+fn went(c: Sweeps, count: u32) -> Sweeps
+    requires { count ≤ c.left }
+    ensures { result ≡ went c count }
+{
+    let quiet = count == 0;
+    Sweeps {
+        left: c.left - count,
+        quiet,
+        done: c.quiet & quiet,
+    }
+}
+
+// Is another sweep to be made? Not after two that dropped nothing, nor where too few are left.
+pub(crate) fn goes_on(c: Sweeps, least: u32) -> bool
+    ensures { result ≡ goes_on c least }
+{
+    !c.done & (least <= c.left)
+}
+
+// The words of the registers are cleared, and the notes made, by the sweep backward; those are needed no more after the sweep forward.
+pub(crate) fn turn(
+    given: &Given<'_>,
+    work: &mut [u64],
+    facts: &mut [Fact],
+    z: Asked,
+    c: Sweeps,
+) -> Sweeps
+    requires { Sweepable given.now.code.recs.now given.now.code.ops.now given.now.regs.now work.old facts.old z.span × (c.left ≡ members (marks z.span.n facts.old)) }
+    ensures { Turn given.now.code.recs.now given.now.code.ops.now given.now.regs.now z work.old facts.old c work.new facts.new result }
+{
+    let s = z.span.s;
+    let e = s + given.regs.len();
+    work[s..e].fill(0);
+    let mut lasts = Lasts::none();
+    let dropped = backward(given, work, &mut lasts, facts, z.span);
+    let half = went(c, dropped);
+    if !goes_on(half, z.least) {
+        return half;
+    }
+    let more = forward(given, work, &mut lasts, facts, z.span);
+    went(half, more)
+}
