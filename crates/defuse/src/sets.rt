@@ -62,7 +62,11 @@ fn write_slots(bits: &mut [u64], slots: &Slots<'_>, at: Pair)
     requires { (at.u ≤ length bits.old) × (at.d ≤ length bits.old) × Low at.regs (writes (inst slots.now.recs.now slots.now.p)) }
     ensures { bits.new ≡ steps (wrote at.u at.d) bits.old (writes (inst slots.now.recs.now slots.now.p)) }
 {
-    each_slot(bits, slots.writers(), |bits, s| write_one(bits, at, slots.write(s, at.regs)));
+    each_slot(
+        bits,
+        slots.writers(),
+        |bits, s| write_one(bits, at, slots.write(s, at.regs)),
+    );
 }
 
 // What the slots of a record read.
@@ -70,7 +74,11 @@ fn read_slots(bits: &mut [u64], slots: &Slots<'_>, at: Pair)
     requires { (at.u ≤ length bits.old) × Low at.regs (rest_reads (inst slots.now.recs.now slots.now.p) 0) }
     ensures { bits.new ≡ steps (put at.u) bits.old (rest_reads (inst slots.now.recs.now slots.now.p) 0) }
 {
-    each_slot(bits, slots.readers(), |bits, s| read_one(bits, at, slots.read(s, at.regs)));
+    each_slot(
+        bits,
+        slots.readers(),
+        |bits, s| read_one(bits, at, slots.read(s, at.regs)),
+    );
 }
 
 // What a list of operands reads.
