@@ -72,8 +72,7 @@ fn put(st: &mut [u64], r: Option<Reg>, d: Stamp)
     change(st, r, |x| d.over(x));
 }
 
-// Stamps what a record writes. (Inlined always, as `change_written` is.)
-#[inline(always)]
+// Stamps what a record writes.
 pub fn put_slots(slots: &Slots, st: &mut [u64], d: Stamp)
     requires { Fits slots.now.recs.now (length st.old) slots.now.p }
     ensures { Stamped (writes (inst slots.now.recs.now slots.now.p)) d.keep d.lo d.v st.old st.new }
