@@ -42,17 +42,19 @@ fn raise_words(xs: &mut [u32], saved: &mut [u32], chain: &[u32], r: Records, t: 
     }
 }
 
-// Either way. A record has 16 words at most, and 64 of them are saved at a time.
-fn move_words(xs: &mut [u32], chain: &[u32], r: Records, t: usize)
+// A record has 16 words at most, and 64 of them are saved at a time.
+const SAVED: usize = 1024;
+
+// Either way.
+fn move_words(xs: &mut [u32], saved: &mut [u32; SAVED], chain: &[u32], r: Records, t: usize)
     requires m_in_bounds { (r.w * (r.lo + r.m) ≤ length xs.old) × (r.lo + r.m ≤ length xs.old) × (r.w * t ≤ length xs.old) × (r.w ≤ 16) × (10 * r.m ≤ length chain.now) }
     requires m_bound { r.lo < t → r.lo + r.m ≤ t }
     ensures { (n : ℕ) → length xs.old ≡ r.w * n → xs.new ≡ cells r.w xs.old (moved chain.now r.lo r.m t n) }
 {
-    let mut saved = [0u32; 1024];
     if r.lo < t {
-        sink_words(xs, &mut saved, chain, r, t);
+        sink_words(xs, saved, chain, r, t);
     } else {
-        raise_words(xs, &mut saved, chain, r, t);
+        raise_words(xs, saved, chain, r, t);
     }
 }
 
@@ -70,10 +72,11 @@ pub fn move_all(
     requires { Lines lo m t chain.now recs.old locs.old vias.old }
     ensures { Moves lo m t chain.now recs.old recs.new locs.old locs.new vias.old vias.new }
 {
+    let mut saved = [0; SAVED];
     let words = Records { lo, m, w: 1 };
-    move_words(recs, chain, Records { w: 16, ..words }, t);
-    move_words(locs, chain, words, t);
+    move_words(recs, &mut saved, chain, Records { w: 16, ..words }, t);
+    move_words(locs, &mut saved, chain, words, t);
     if !vias.is_empty() {
-        move_words(vias, chain, words, t);
+        move_words(vias, &mut saved, chain, words, t);
     }
 }

@@ -11,13 +11,13 @@ use facts::Fact;
 const WRITES: usize = 2006;
 
 // Above a position and 1.
-const MEMBER: u32 = 1024;
+const MEMBER: u16 = 1024;
 
 // The last kept write of each memory, the last kept barrier and the last kept position that may suspend, each and 1, or 0 for none. The
-// word of a member's Temp has MEMBER besides.
+// word of a member's Temp has MEMBER besides. (Words of 16 bits: each turn clears them.)
 #[derive(Drop)]
 pub struct Lasts {
-    pub writes: [u32; WRITES],
+    pub writes: [u16; WRITES],
     pub barrier: u32,
     pub suspension: u32,
 }
@@ -47,7 +47,7 @@ impl Lasts {
         requires { o < 2006 }
         ensures { result ≡ get_or self.now.writes o 0 % 1024 }
     {
-        self.writes[o] % MEMBER
+        u32::from(self.writes[o] % MEMBER)
     }
 
     // Is memory o a member's Temp?
@@ -63,9 +63,10 @@ impl Lasts {
         requires { (q < 800) × (f.wrote ≤ 2004) }
         ensures { self.new ≡ kept_in f q self.old }
     {
-        let e = q as u32 + 1;
         let k = f.wrote as usize;
-        self.writes[k] = MEMBER * (self.writes[k] / MEMBER) + (self.writes[k] % MEMBER).max(e);
+        let w = self.writes[k];
+        self.writes[k] = MEMBER * (w / MEMBER) + (w % MEMBER).max(q as u16 + 1);
+        let e = q as u32 + 1;
         if f.barrier {
             self.barrier = self.barrier.max(e);
         }
