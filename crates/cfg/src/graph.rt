@@ -56,18 +56,20 @@ impl<'a> Func<'a> {
         self.targets_of(past - 1)
     }
 
-    // Where record p goes if it ends a block.
+    // Where record p goes if it ends a block. (One slice of as many words as the shape tells: of four slices LLVM makes a jump that is
+    // mostly not foreseen, where live-in goes from block to block.)
     fn targets_of(&self, p: usize) -> &'a [u32]
         requires { Known self.now.recs.now p }
         ensures { result.now ≡ end_succs (drawn_of self.now) (end_of (inst self.now.recs.now p)) }
     {
         let rec = Record { recs: self.recs, p };
-        match self.table.row(rec.kind()).shape() {
-            Shape::Stops => self.payload(p, 0),
-            Shape::Goes => self.payload(p, 1),
-            Shape::Parts => self.payload(p, 2),
-            Shape::Cases => self.case_targets(rec.payload(0)),
-        }
+        let n = match self.table.row(rec.kind()).shape() {
+            Shape::Stops => 0,
+            Shape::Goes => 1,
+            Shape::Parts => 2,
+            Shape::Cases => return self.case_targets(rec.payload(0)),
+        };
+        self.payload(p, n)
     }
 
     // The first n payload words of record p.
