@@ -4,6 +4,7 @@ use mathlib.Core.Bool.{Bool, true, false}
 use mathlib.Core.List.{List, [], ◌∷◌}
 use Prim.Native.Nat.{ℕ, ◌+◌, ◌-◌, ◌*◌, ◌/◌, ◌≤◌, ◌<◌}
 use native.Mathlib.Omega.{arith}
+use denote.Enum.Declared.{tag_of}
 use lib.ListN.{get_or, length, take, drop, get_or-eq_default}
 use lib.Seq.{drop-cons}
 use borrow.Author.Tests.{eq-eqb, ne_eqb}
@@ -12,6 +13,7 @@ use Rattle.model.specs.Picture.{inst, kind, End, goes, parts, cases, stops, end_
 use Rattle.inst.specs.Table.{packed, shape}
 use Rattle.inst.specs.Shape.{shape_of}
 use Rattle.inst.specs.declared.table.Shape.{Shape}
+use Rattle.inst.specs.contracts.table.Shape as S
 use Rattle.inst.specs.declared.table.Shape.TheVariants.{Stops, Goes, Parts, Cases}
 use Rattle.inst.specs.Record.{Known, word}
 use Rattle.inst.proofs.Ends.{EndsAs, ends}
@@ -62,15 +64,15 @@ module _ (bounds recs pairs targets : List ℕ) (p : ℕ) {s : Shape} (w : Known
   ends_as : (t : Shape) → s ≡ t → EndsAs t (inst recs p)
   ends_as t h = ends (inst recs p) w.kind (sym h ∙ e)
 
-  pub no_end : s ≡ Stops → {l : List ℕ} → l ≡ take 0 (drop (16 * p + 9) recs) → l ≡ goes_on (end_of (inst recs p))
+  no_end : s ≡ Stops → {l : List ℕ} → l ≡ take 0 (drop (16 * p + 9) recs) → l ≡ goes_on (end_of (inst recs p))
   no_end h q = q ∙ ap goes_on (sym (ends_as Stops h))
 
-  pub one_end : s ≡ Goes → {l : List ℕ} → l ≡ take 1 (drop (16 * p + 9) recs) → l ≡ goes_on (end_of (inst recs p))
+  one_end : s ≡ Goes → {l : List ℕ} → l ≡ take 1 (drop (16 * p + 9) recs) → l ≡ goes_on (end_of (inst recs p))
   one_end h q =
       q ∙ take_one recs (16 * p + 9) (omega (arith, w.within.whole))
       ∙ ap (λ (x : ℕ). x ∷ []) (word_is recs p 9 (omega arith)) ∙ ap goes_on (sym (ends_as Goes h))
 
-  pub two_ends : s ≡ Parts → {l : List ℕ} → l ≡ take 2 (drop (16 * p + 9) recs) → l ≡ goes_on (end_of (inst recs p))
+  two_ends : s ≡ Parts → {l : List ℕ} → l ≡ take 2 (drop (16 * p + 9) recs) → l ≡ goes_on (end_of (inst recs p))
   two_ends h q =
       q ∙ take_two recs (16 * p + 9) (omega (arith, w.within.whole))
       ∙ ap (λ (x : ℕ). x ∷ get_or recs (16 * p + 9 + 1) 0 ∷ []) (word_is recs p 9 (omega arith))
@@ -82,6 +84,19 @@ module _ (bounds recs pairs targets : List ℕ) (p : ℕ) {s : Shape} (w : Known
 
   pub case_ends : s ≡ Cases → {l : List ℕ} {k : ℕ} → k ≡ word recs p 9 → l ≡ table (drawn bounds recs [] pairs targets) k → l ≡ goes_on (end_of (inst recs p))
   case_ends h q t = t ∙ ap (table (drawn bounds recs [] pairs targets)) q ∙ ap goes_on (sym (ends_as Cases h))
+
+  -- but for a Case they are as many as its shape's number
+  pub ends_in_it : (s ≡ Cases → ⊥) → {l : List ℕ} → l ≡ take (tag_of S.the_type s) (drop (16 * p + 9) recs) → l ≡ goes_on (end_of (inst recs p))
+  ends_in_it n {l} q = go s refl
+    where
+      words : Shape → List ℕ
+      words t = take (tag_of S.the_type t) (drop (16 * p + 9) recs)
+
+      go : (t : Shape) → s ≡ t → l ≡ goes_on (end_of (inst recs p))
+      go Stops h = no_end h (q ∙ ap words h)
+      go Goes h = one_end h (q ∙ ap words h)
+      go Parts h = two_ends h (q ∙ ap words h)
+      go Cases h = absurd (n h)
 
 -- ---- a block
 

@@ -56,20 +56,18 @@ impl<'a> Func<'a> {
         self.targets_of(past - 1)
     }
 
-    // Where record p goes if it ends a block. (One slice of as many words as the shape tells: of four slices LLVM makes a jump that is
-    // mostly not foreseen, where live-in goes from block to block.)
+    // Where record p goes if it ends a block: as many words of its payload as its shape's number says, or a table. (No `match`: of that
+    // LLVM makes an indirect jump, which live-in, going from block to block, pays for each time that it is not foreseen.)
     fn targets_of(&self, p: usize) -> &'a [u32]
         requires { Known self.now.recs.now p }
         ensures { result.now ≡ end_succs (drawn_of self.now) (end_of (inst self.now.recs.now p)) }
     {
         let rec = Record { recs: self.recs, p };
-        let n = match self.table.row(rec.kind()).shape() {
-            Shape::Stops => 0,
-            Shape::Goes => 1,
-            Shape::Parts => 2,
-            Shape::Cases => return self.case_targets(rec.payload(0)),
-        };
-        self.payload(p, n)
+        let shape = self.table.row(rec.kind()).shape();
+        if matches!(shape, Shape::Cases) {
+            return self.case_targets(rec.payload(0));
+        }
+        self.payload(p, shape as usize)
     }
 
     // The first n payload words of record p.
