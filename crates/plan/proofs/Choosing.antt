@@ -4,7 +4,7 @@ use mathlib.Core.Path.{◌≡◌, refl, sym, ap, ◌∙◌, subst}
 use mathlib.Core.Bool.{Bool, true, false, ◌&&◌}
 use mathlib.Core.Logic.{⊎_elim}
 use mathlib.Core.List.{List}
-use Prim.Native.Nat.{ℕ, ◌+◌, ◌*◌, ◌≤◌, ◌<◌}
+use Prim.Native.Nat.{ℕ, ◌-◌, ◌+◌, ◌*◌, ◌≤◌, ◌<◌}
 use native.Mathlib.Omega.{arith}
 use borrow.Author.Tests.{le-ltb}
 use lib.Dec.{eqb}
@@ -18,30 +18,36 @@ use Rattle.legalset.specs.Marks.{in_set, members}
 use Rattle.legalset.specs.Rules.{result_ok, begins}
 use Rattle.legalset.proofs.Settling.{Settling, settling_start, settling_more, settled}
 use Rattle.plan.specs.declared.turn.Asked.{Asked}
+use Rattle.plan.specs.declared.turn.Last.TheVariants.{Dropped}
 use Rattle.plan.specs.declared.turn.Sweeps.{Sweeps}
 use Rattle.summary.specs.Passes.{Around}
 use Rattle.plan.specs.Sweep.{marks, Sweepable, Marked, Begun}
-use Rattle.plan.specs.Turn.{goes_on, Passes, half, whole, Turn}
+use Rattle.plan.specs.Turn.{is_quiet, is_done, went, goes_on, Passes, half, whole, Turn}
 use Rattle.plan.specs.Set.{Choosable, Chose}
 use Rattle.legality.proofs.Marking.{past_marks}
 use Rattle.legality.proofs.Starting.{begins_in}
 use Rattle.legality.proofs.Chosen.{chosen}
 use Rattle.plan.proofs.Lent.{around_on, around_none}
 use Rattle.plan.proofs.Sweeping.{marks_long, sweepable_on, marked_on}
-use Rattle.plan.proofs.Turning.{to_come, passes_less}
+use Rattle.plan.proofs.Turning.{quiet_after, done_after, to_come, passes_less}
 
 -- what the sweeps left of the marks S; if more are to come, one backward is next
 pub record Left (C : View) (n m least : ℕ) (S U : List ℕ) (c : Sweeps) : Type 0 where
   pub ahead : Bool
-  pub settling : Settling C n m S U ahead c.quiet c.done c.left
+  pub settling : Settling C n m S U ahead (is_quiet c.last) (is_done c.last) c.left
   pub next : goes_on c least ≡ true → ahead ≡ false
 
-back_next : {C : View} {n m least : ℕ} {S U : List ℕ} {c : Sweeps} → goes_on c least ≡ true → Left C n m least S U c → Settling C n m S U false c.quiet c.done c.left
-back_next {C} {n} {m} {S = S} {U = U} {c = c} e i = subst (λ (a : Bool). Settling C n m S U a c.quiet c.done c.left) (i.next e) i.settling
+back_next : {C : View} {n m least : ℕ} {S U : List ℕ} {c : Sweeps} → goes_on c least ≡ true → Left C n m least S U c → Settling C n m S U false (is_quiet c.last) (is_done c.last) c.left
+back_next {C} {n} {m} {S = S} {U = U} {c = c} e i = subst (λ (a : Bool). Settling C n m S U a (is_quiet c.last) (is_done c.last) c.left) (i.next e) i.settling
+
+settling_on : {C : View} {n m : ℕ} {S W : List ℕ} {a : Bool} (c : Sweeps) (k : ℕ) → Settling C n m S W a (eqb k 0) (is_quiet c.last && eqb k 0) (c.left - k) → Settling C n m S W a (is_quiet (went c k).last) (is_done (went c k).last) (went c k).left
+settling_on {C} {n} {m} {S} {W} {a} c k s =
+    subst (λ (b : Bool). Settling C n m S W a b (is_done (went c k).last) (c.left - k)) (sym (quiet_after (eqb k 0) c.last))
+    (subst (λ (b : Bool). Settling C n m S W a (eqb k 0) b (c.left - k)) (sym (done_after (eqb k 0) c.last)) s)
 
 left_on : (C : View) (n m : ℕ) {least : ℕ} {S U W : List ℕ} (c : Sweeps) {t : Sweeps} → goes_on c least ≡ true → Left C n m least S U c → Passes C n m least U c W t → Left C n m least S W t
-left_on C n m c e i (half V k p g) = record { ahead = true; settling = settling_more C n m (back_next e i) p; next = λ u. clash u g }
-left_on C n m c e i (whole V W k l p g q) = record { ahead = false; settling = settling_more C n m (settling_more C n m (back_next e i) p) q; next = λ u. refl }
+left_on C n m c e i (half V k p g) = record { ahead = true; settling = settling_on c k (settling_more C n m (back_next e i) p); next = λ u. clash u g }
+left_on C n m c e i (whole V W k l p g q) = record { ahead = false; settling = settling_on (went c k) l (settling_more C n m (settling_on c k (settling_more C n m (back_next e i) p)) q); next = λ u. refl }
 
 -- S are the marks to begin with
 pub record Choosing (recs ops regs : List ℕ) (z : Asked) (work₀ : List ℕ) (fs₀ : List Fact) (c : Sweeps) (work : List ℕ) (fs : List Fact) : Type 0 where
@@ -54,7 +60,7 @@ pub record Choosing (recs ops regs : List ℕ) (z : Asked) (work₀ : List ℕ) 
 
 module _ {recs ops regs work₀ : List ℕ} {fs₀ : List Fact} {z : Asked} (h : Choosable recs ops regs work₀ fs₀ z) where
   -- all positions are marked: those that begin in the set
-  pub choosing_none : {fs : List Fact} {k : ℕ} → Begun recs regs work₀ z.span fs₀ z.span.n fs k → Choosing recs ops regs z work₀ fs₀ (record { left = k; quiet = false; done = false }) work₀ fs
+  pub choosing_none : {fs : List Fact} {k : ℕ} → Begun recs regs work₀ z.span fs₀ z.span.n fs k → Choosing recs ops regs z work₀ fs₀ (record { left = k; last = Dropped }) work₀ fs
   unfolding begins
   choosing_none {fs} {k} d =
       let r = h.sweeps in

@@ -17,10 +17,12 @@ use Rattle.legalset.specs.Marks.{members, Passed}
 use Rattle.legalset.specs.Rules.{pass_ok}
 use Rattle.legalset.proofs.Settling.{ahead_passed}
 use Rattle.plan.specs.declared.turn.Asked.{Asked}
+use Rattle.plan.specs.declared.turn.Last.{Last}
+use Rattle.plan.specs.declared.turn.Last.TheVariants.{Dropped, Quiet, Done}
 use Rattle.plan.specs.declared.turn.Sweeps.{Sweeps}
 use Rattle.summary.specs.Passes.{blank, Around, Near, Summed}
 use Rattle.plan.specs.Sweep.{part, marks, Sweepable, Clear, Backward, Forward}
-use Rattle.plan.specs.Turn.{went, goes_on, Passes, half, whole, Turn}
+use Rattle.plan.specs.Turn.{is_quiet, is_done, after, went, goes_on, Passes, half, whole, Turn}
 use Rattle.plan.proofs.Lent.{around_on}
 use Rattle.plan.proofs.Sweeping.{sweepable_on, summed_near, marked_on}
 
@@ -57,11 +59,25 @@ module _ {recs ops regs work work₁ work₂ : List ℕ} {ls ls₂ : Lasts} {fs 
 
 -- ---- a bound on the turns to come
 
-abbrev pub to_come : Sweeps → ℕ
-to_come c = c.left + hit (not c.done)
+pub quiet_after : (b : Bool) (l : Last) → is_quiet (after b l) ≡ b
+quiet_after true Dropped = refl
+quiet_after true Quiet = refl
+quiet_after true Done = refl
+quiet_after false l = refl
 
-half_less : (q : Bool) (n k least : ℕ) → k ≤ n → (not (q && eqb k 0) && leb least (n - k)) ≡ false → least ≤ n → n - k + hit (not (q && eqb k 0)) < n + 1
-half_less q n k least h e l = go (q && eqb k 0) (leb least (n - k)) refl e
+pub done_after : (b : Bool) (l : Last) → is_done (after b l) ≡ (is_quiet l && b)
+done_after true Dropped = refl
+done_after true Quiet = refl
+done_after true Done = refl
+done_after false Dropped = refl
+done_after false Quiet = refl
+done_after false Done = refl
+
+abbrev pub to_come : Sweeps → ℕ
+to_come c = c.left + hit (not (is_done c.last))
+
+half_less : (d : Bool) (n k least : ℕ) → k ≤ n → (not d && leb least (n - k)) ≡ false → least ≤ n → n - k + hit (not d) < n + 1
+half_less d n k least h e l = go d (leb least (n - k)) refl e
   where
     go : (b x : Bool) → leb least (n - k) ≡ x → (not b && x) ≡ false → n - k + hit (not b) < n + 1
     go true x i e = omega arith
@@ -77,8 +93,10 @@ whole_less n k l h = go (eqb k 0) (eqb l 0) refl refl
     go false x i j = let y = eqb-false k 0 i in let u = hit_le (not (false && x)) in omega arith
 
 below : (c : Sweeps) (least : ℕ) {i : ℕ} → goes_on c least ≡ true → i < c.left + 1 → i < to_come c
-below c least e h = let d = ap hit (left_true (not c.done) (leb least c.left) e) in omega arith
+below c least e h = let d = ap hit (left_true (not (is_done c.last)) (leb least c.left) e) in omega arith
 
 pub passes_less : {C : View} {n m : ℕ} (least : ℕ) {U W : List ℕ} (c : Sweeps) {t : Sweeps} → goes_on c least ≡ true → c.left ≡ members U → Passes C n m least U c W t → to_come t < to_come c
-passes_less least c e l (half V k p g) = below c least e (half_less c.quiet c.left k least (let a = p.count in omega arith) g (leb-true least c.left (right_true (not c.done) (leb least c.left) e)))
-passes_less least c e l (whole V W k j p g q) = below c least e (whole_less c.left k j (let a = p.count in let b = q.count in omega arith))
+passes_less least c e l (half V k p g) = below c least e (half_less (is_done (went c k).last) c.left k least (let a = p.count in omega arith) g (leb-true least c.left (right_true (not (is_done c.last)) (leb least c.left) e)))
+passes_less least c e l (whole V W k j p g q) = below c least e
+    (subst (λ (b : Bool). c.left - k - j + hit (not b) < c.left + 1) (sym (done_after (eqb j 0) (went c k).last ∙ ap (λ (b : Bool). b && eqb j 0) (quiet_after (eqb k 0) c.last)))
+    (whole_less c.left k j (let a = p.count in let b = q.count in omega arith)))

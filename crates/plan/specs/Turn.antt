@@ -6,17 +6,37 @@ use Rattle.legalset.specs.Chain.{View, view}
 use Rattle.legalset.specs.Marks.{Passed}
 use Rattle.legalset.specs.Rules.{pass_ok}
 use Rattle.plan.specs.declared.turn.Asked.{Asked}
+use Rattle.plan.specs.declared.turn.Last.{Last}
+use Rattle.plan.specs.declared.turn.Last.TheVariants.{Dropped, Quiet, Done}
 use Rattle.plan.specs.declared.turn.Sweeps.{Sweeps}
 use Rattle.summary.specs.Passes.{Around}
 use Rattle.plan.specs.Sweep.{marks, Marked}
 
+-- the last sweep dropped nothing; nor did the one before
+abbrev pub is_quiet : Last → Bool
+is_quiet Dropped = false
+is_quiet Quiet = true
+is_quiet Done = true
+
+abbrev pub is_done : Last → Bool
+is_done Dropped = false
+is_done Quiet = false
+is_done Done = true
+
+-- after one more, that dropped nothing or did
+abbrev pub after : Bool → Last → Last
+after true Dropped = Quiet
+after true Quiet = Done
+after true Done = Done
+after false l = Dropped
+
 -- after a sweep that dropped k
 abbrev pub went : Sweeps → ℕ → Sweeps
-went c k = record { left = c.left - k; quiet = eqb k 0; done = c.quiet && eqb k 0 }
+went c k = record { left = c.left - k; last = after (eqb k 0) c.last }
 
 -- another one is to come, unless two dropped nothing, or too few are left
 abbrev pub goes_on : Sweeps → ℕ → Bool
-goes_on c least = not c.done && leb least c.left
+goes_on c least = not (is_done c.last) && leb least c.left
 
 -- from the marks U, where the sweeps stood at c: one backward came to V, and that was the last; or one forward came to W
 pub data Passes (C : View) (n m least : ℕ) (U : List ℕ) (c : Sweeps) : List ℕ → Sweeps → Type 0 where

@@ -5,7 +5,7 @@ ghost use Rattle.std.specs.Prelude.{◌≡◌};
 ghost use Rattle.plan.specs.Set.{Choosable, Chose};
 
 use crate::sweep::begin;
-use crate::turn::{Asked, Sweeps, goes_on, turn};
+use crate::turn::{Asked, Last, Sweeps, goes_on, turn};
 use facts::Fact;
 use inst::code::Code;
 use legality::forward::Given;
@@ -20,8 +20,7 @@ pub fn legal_set(code: &Code, regs: &[u32], work: &mut [u64], facts: &mut [Fact]
     let given = Given { code: *code, regs };
     let mut c = Sweeps {
         left: begin(&given, work, facts, z.span),
-        quiet: false,
-        done: false,
+        last: Last::Dropped,
     };
     while goes_on(c, z.least) {
         c = turn(&given, work, facts, z, c);

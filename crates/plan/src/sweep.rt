@@ -116,9 +116,9 @@ pub(crate) fn forward(
     let mut count = 0;
     for p in 0..span.m {
         let f = facts[p];
-        let stays = forth_in(given, f, work, span.s, lasts, p);
-        facts[p].member = stays;
-        count += u32::from(f.member & !stays);
+        let keeps = forth_in(given, f, work, span.s, lasts, p);
+        facts[p].member = keeps;
+        count += u32::from(f.member & !keeps);
     }
     count
 }

@@ -16,12 +16,19 @@ pub struct Asked {
     pub least: u32,
 }
 
-// Where the sweeps stand: so many members are left; the last sweep dropped nothing; nor did the one before.
-#[derive(Clone, Copy)]
+// What the last sweep did: it dropped a member, or there was none yet; it dropped nothing; nor did the one before.
+#[derive(Clone, Copy, PartialEq, Eq, Debug)]
+pub(crate) enum Last {
+    Dropped,
+    Quiet,
+    Done,
+}
+
+// Where the sweeps stand: so many members are left.
+#[derive(Clone, Copy, PartialEq, Eq, Debug)]
 pub(crate) struct Sweeps {
     pub(crate) left: u32,
-    pub(crate) quiet: bool,
-    pub(crate) done: bool,
+    pub(crate) last: Last,
 }
 
 // After a sweep that dropped `count`.
@@ -29,22 +36,28 @@ fn went(c: Sweeps, count: u32) -> Sweeps
     requires { count ≤ c.left }
     ensures { result ≡ went c count }
 {
-    let quiet = count == 0;
-    Sweeps {
-        left: c.left - count,
-        quiet,
-        done: c.quiet & quiet,
+    let left = c.left - count;
+    if count != 0 {
+        return Sweeps {
+            left,
+            last: Last::Dropped,
+        };
     }
+    let last = match c.last {
+        Last::Dropped => Last::Quiet,
+        _ => Last::Done,
+    };
+    Sweeps { left, last }
 }
 
 // Is another sweep to be made? Not after two that dropped nothing, nor where too few are left.
 pub(crate) fn goes_on(c: Sweeps, least: u32) -> bool
     ensures { result ≡ goes_on c least }
 {
-    !c.done & (least <= c.left)
+    !matches!(c.last, Last::Done) & (least <= c.left)
 }
 
-// The words of the registers are cleared, and the notes made, by the sweep backward; those are needed no more after the sweep forward.
+// The words of the registers are cleared; then the notes are made by the sweep backward, and needed no more after the sweep forward.
 pub(crate) fn turn(
     given: &Given<'_>,
     work: &mut [u64],

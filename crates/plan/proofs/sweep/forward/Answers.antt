@@ -10,8 +10,8 @@ use Rattle.plan.proofs.sweep.forward.Goals as goal
 pub loop-p-init : goal.loop-p-init
 loop-p-init c = ahead_none c.requires.0 c.requires.1
 
-pub forth_in-stays-requires : goal.forth_in-stays-requires
-forth_in-stays-requires c =
+pub forth_in-keeps-requires : goal.forth_in-keeps-requires
+forth_in-keeps-requires c =
     let r = c.requires.0 in
     let at-loop = c.loop-p in
     let l : at-loop.p < c.args.span.n = omega (arith, c.loop-p-test.true, r.in_x) in
@@ -28,7 +28,7 @@ loop-p-preserved c =
     let fs = at-loop.facts in
     let p = at-loop.p in
     let l : at-loop.p < a.span.n = omega (arith, c.loop-p-test.true, r.in_x) in
-    let step = c.forth_in-stays in
+    let step = c.forth_in-keeps in
     subst (λ (n : ℕ). Ahead a.given.now.code.recs.now a.given.now.code.ops.now a.given.now.regs.now a.span a.work.now a.lasts.now a.facts.now (p + 1) step.new.work step.new.lasts (set fs p (marked (get_or fs p no_fact) step.result)) (at-loop.count + n)) (sym c.from-count.ensures)
     (ahead_more r at-loop.invariant l step.ensures.0 step.ensures.1)
 
