@@ -31,8 +31,7 @@ pub enum Cause {
 }
 
 impl Cause {
-    /// All causes, by their numbers. There are two more, which this entry never gives: it brings what it works in (10), and no
-    /// kind that can move writes two registers (11).
+    /// All causes, by their numbers. There is one more, 10, which this entry never gives: it brings what it works in.
     pub const ALL: [Cause; 9] =
         [Cause::Room, Cause::Uneven, Cause::Blocks, Cause::Kind, Cause::Slot, Cause::List, Cause::Branch, Cause::Cat, Cause::Type];
 

@@ -2,23 +2,21 @@
 use mathlib.Core.Path.{◌≡◌, refl, sym, ap, ◌∙◌}
 use mathlib.Core.Bool.{Bool, true, false, ◌||◌}
 use mathlib.Core.List.{List, [], ◌∷◌}
-use Prim.Native.Nat.{ℕ, suc, ◌<◌}
+use Prim.Native.Nat.{ℕ, suc}
 use lib.Dec.{ltb}
 use lib.ListN.{length}
 use Rattle.std.specs.Prelude.{Result, Ok, Err}
 use Rattle.words.specs.Lists.{any}
 use Rattle.model.specs.declared.Refusal.{Refusal}
 use Rattle.model.specs.declared.Refusal.TheVariants as cause
-use Rattle.model.specs.Picture.{Picture, inst, nblocks}
+use Rattle.model.specs.Picture.{Picture, nblocks}
 use Rattle.model.specs.Refusal.{too_large, uneven, gaps, bad_kind, bad_list, bad_branch, work64, work32, records, lowest, refusal}
 use Rattle.model.specs.Numbered.{verdict}
 use Rattle.model.specs.Pass.{gated}
 use Rattle.checks.specs.declared.look.Found.{Found}
-use Rattle.checks.specs.Causes.{picture_of, code, bad_regs, long_cat, two_writes, bad_lists, bad_targets, bad_types}
+use Rattle.checks.specs.Causes.{picture_of, code, bad_regs, long_cat, bad_lists, bad_targets, bad_types}
 use Rattle.checks.specs.Found.{found, others}
-use Rattle.checks.proofs.Insts.{code_at, code_all}
 use Rattle.checks.proofs.Seen.{found_kind, found_others}
-use Rattle.acceptance.proofs.Writes.{one_at_most}
 
 -- one test: the answer is its number, or what the rest says
 module _ {r b : Bool} {x : ℕ} (k : ℕ) (bs : List Bool) (whole : lowest k (b ∷ bs) ≡ x) (e : r ≡ b) where
@@ -37,11 +35,8 @@ module _ (P : Picture) (w64 w32 nf : ℕ) where
   abbrev short : Bool
   short = ltb w64 (work64 P) || ltb w32 (work32 P) || ltb nf records
 
-  unfoldable from11 : List Bool
-  from11 = any two_writes (code P.recs n) ∷ []
-
   unfoldable from10 : List Bool
-  from10 = short ∷ from11
+  from10 = short ∷ []
 
   unfoldable from9 : List Bool
   from9 = bad_types P.types P.regs ∷ from10
@@ -65,14 +60,8 @@ module _ (P : Picture) (w64 w32 nf : ℕ) where
   answer = refusal P w64 w32 nf
 
   whole_chain : lowest 1 (too_large P ∷ uneven P ∷ gaps 0 n P.bounds ∷ from4) ≡ answer
-  unfolding from4 from5 from6 from7 from8 from9 from10 from11 code bad_regs two_writes bad_lists bad_targets bad_types
+  unfolding from4 from5 from6 from7 from8 from9 from10 code bad_regs bad_lists bad_targets bad_types
   whole_chain = refl
-
-  -- past cause 10, without cause 4, the answer is 0
-  end : any bad_kind (code P.recs n) ≡ false → 0 ≡ lowest 11 from11
-  unfolding from11
-  end e =
-      sym (ap (λ (b : Bool). lowest 11 (b ∷ [])) (code_all two_writes P.recs n (λ (p : ℕ) (h : p < n). one_at_most (inst P.recs p) (code_at bad_kind P.recs n e p h))))
 
   -- ---- without causes 1 to 3, where x was found in the records
   module _ {r1 r2 r3 : Bool} {x : Result Found Refusal} (e1 : r1 ≡ too_large P) (h1 : r1 ≡ false) (e2 : r2 ≡ uneven P) (h2 : r2 ≡ false) (e3 : r3 ≡ gaps 0 n P.bounds) (h3 : r3 ≡ false)
@@ -88,9 +77,6 @@ module _ (P : Picture) (w64 w32 nf : ℕ) where
         ap (λ (r : Refusal). Err r) z.1 ∙ ap verdict (stop 4 from5 past3 z.0 refl)
 
     module _ {f : Found} (h : x ≡ Ok f) where
-      no_kind : any bad_kind (code P.recs n) ≡ false
-      no_kind = sym (found_others P.regs P.opers (nblocks P) (code P.recs n) e h).0
-
       all_others : f ≡ others P.regs P.opers (nblocks P) (code P.recs n)
       all_others = (found_others P.regs P.opers (nblocks P) (code P.recs n) e h).1
 
@@ -163,11 +149,11 @@ module _ (P : Picture) (w64 w32 nf : ℕ) where
 
                 pub by_work : r10 ≡ true → Err cause.Work ≡ verdict answer
                 unfolding from10
-                by_work t = ap verdict (stop 10 from11 past9 e10 t)
+                by_work t = ap verdict (stop 10 [] past9 e10 t)
 
                 pub by_none : r10 ≡ false → Ok tt ≡ verdict answer
                 unfolding from10
-                by_none t = ap verdict (end no_kind ∙ on 10 from11 past9 e10 t)
+                by_none t = ap verdict (on 10 [] past9 e10 t)
 
 -- ---- what the answers do not look at
 

@@ -1,4 +1,3 @@
-pub mod Writes
 pub mod Chain
 pub mod Gaps
 pub mod Ranges

@@ -23,7 +23,7 @@ use model::Refusal;
 use sizes::{InUse, Room};
 
 // Is the picture accepted, given the lengths of the two work slices and the records lent? Else the first cause of the table that is
-// present. The last cause needs no test: it is absent wherever that of kinds is (proofs/Writes).
+// present.
 pub fn accept(lent: Lent, room: Room, table: &Table) -> Result<(), Refusal>
     ensures { result ≡ verdict (refusal (picture lent.entry []) room.w64 room.w32 room.records) }
 {

@@ -17,7 +17,8 @@ use Rattle.model.specs.Picture.{Picture, Inst, inst, absent, kind, form, roles, 
 use Rattle.model.specs.Refusal.{bad_slot, bad_slots}
 use Rattle.model.specs.Analyse.{facts}
 use Rattle.laws.proofs.Accepted as laws
-use Rattle.laws.proofs.Admitted.{kind_low, writes_low, list_in, reads_low}
+use Rattle.model.proofs.Results.{kind_low}
+use Rattle.laws.proofs.Admitted.{writes_low, list_in, reads_low}
 use Rattle.laws.proofs.Renamed.{optional_there}
 use Rattle.laws.proofs.Sizes.{few_insts, few_types, regs_lent, opers_lent, recs_length, bounds_length, block_within}
 use Rattle.inst.specs.Record as I
@@ -102,14 +103,14 @@ module _ (P : Picture) (ok : laws.Accepted P) where
     within = let e = recs_length P ok in record { whole = omega arith }
 
     known : I.Known P.recs g
-    known = let k = kind_low P i fine in record { within = within; kind = omega arith }
+    known = let k = kind_low i fine.kind_fits in record { within = within; kind = omega arith }
 
     listed : Listed P.recs P.ops g
     listed = let a = list_in P i fine in let b = opers_lent P ok in record { within = within; list = omega arith }
 
     three : (row (kind i)).arm ≡ cat → drop 3 (reads P.ops i) ≡ list_of P.ops i
     three e =
-        let z : roles i ≡ rd ∷ rd ∷ rd ∷ [] = ap (λ (n : ℕ). map (at_form (form i)) (row (kind_of n)).slots) (only_cat (get_or i 0 0) (kind_low P i fine) e) in
+        let z : roles i ≡ rd ∷ rd ∷ rd ∷ [] = ap (λ (n : ℕ). map (at_form (form i)) (row (kind_of n)).slots) (only_cat (get_or i 0 0) (kind_low i fine.kind_fits) e) in
         ap (λ (os : List Role). drop 3 (chosen reading os (slots i) ++ list_of P.ops i)) z
         ∙ three_first P.regs few_regs (slots i) (rw (slots_long P.recs g within) (omega arith)) (subst (λ (os : List Role). bad_slots P.regs os (slots i) ≡ false) z fine.slots_fit) (list_of P.ops i)
 

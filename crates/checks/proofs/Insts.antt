@@ -8,7 +8,7 @@ use Rattle.std.specs.List.{list_any}
 use Rattle.words.specs.Lists.{range, upto, any}
 use native.Mathlib.Nat.{zero-add}
 use Rattle.words.proofs.Lists.{range_append}
-use Rattle.words.proofs.Alls.{any_map, any_append, any_at, any_below, find_yes, find_on}
+use Rattle.words.proofs.Alls.{any_map, any_append, find_yes, find_on}
 use Rattle.model.specs.Picture.{Inst, inst}
 use Rattle.checks.specs.Causes.{code}
 
@@ -56,10 +56,3 @@ module _ (f : Inst → Bool) (recs : List ℕ) where
           sym (or-false (any f (code recs p)))
           ∙ code_more (p + d) {b = any f (code recs p)} {r = false} (go d (λ j a b. k j a (omega arith))) (sym (k (p + d) (omega arith) (omega arith)))
           ∙ ap (λ (m : ℕ). any f (code recs m)) (omega arith)
-
-  -- absent at every instruction
-  pub code_at : (n : ℕ) → any f (code recs n) ≡ false → (p : ℕ) → p < n → f (inst recs p) ≡ false
-  code_at n e p h = any_at at n (sym (by_place n) ∙ e) p h
-
-  pub code_all : (n : ℕ) → ((p : ℕ) → p < n → f (inst recs p) ≡ false) → any f (code recs n) ≡ false
-  code_all n h = by_place n ∙ any_below at n h

@@ -2,10 +2,9 @@
 -- and Pass state them of a picture; proofs/Chain of `acceptance` shows that these are the same.) Assumes nothing.
 use Rattle.std.specs.Prelude.{Bool, ◌&&◌, ◌||◌, List, map, ℕ, eqb, ltb, leb, get_or, length, take}
 use Rattle.words.specs.Lists.{upto, any}
-use Rattle.model.specs.Kinds.{row, Cat}
-use Rattle.model.specs.Picture.{Picture, Inst, inst, absent, kind, form, is_kind, slots, roles}
-use Rattle.model.specs.Picture as Pic
-use Rattle.model.specs.Refusal.{bad_slots, half_part, bad_pairs, may_move}
+use Rattle.model.specs.Kinds.{Cat}
+use Rattle.model.specs.Picture.{Picture, Inst, inst, form, is_kind, slots, roles}
+use Rattle.model.specs.Refusal.{bad_slots, half_part, bad_pairs}
 
 -- bounds, records, locs, vias, types and registers in use, operands and those in use, case pairs, targets, replay
 abbrev pub picture_of : List ℕ → List ℕ → List ℕ → List ℕ → List ℕ → ℕ → List ℕ → ℕ → List ℕ → List ℕ → List ℕ → Picture
@@ -25,10 +24,6 @@ bad_regs R i = bad_slots R (roles i) (slots i) || half_part i
 -- 8
 abbrev pub long_cat : Inst → Bool
 long_cat i = is_kind Cat i && ltb 33 (get_or i 8 0)
-
--- 11
-unfoldable pub two_writes : Inst → Bool
-two_writes i = may_move (row (kind i)).arm && ltb 1 (length (Pic.writes i))
 
 -- the third gate asks for one
 abbrev pub plain_cat : Inst → Bool

@@ -8,7 +8,8 @@ use Rattle.words.specs.Lists.{In}
 use Rattle.words.proofs.Members.{in_get_or}
 use Rattle.model.specs.Picture.{Picture, inst, succs}
 use Rattle.laws.proofs.Accepted as laws
-use Rattle.laws.proofs.Admitted.{kind_low, writes_low, list_in, reads_low, succs_low, pair_fits}
+use Rattle.model.proofs.Results.{kind_low}
+use Rattle.laws.proofs.Admitted.{writes_low, list_in, reads_low, succs_low, pair_fits}
 use Rattle.laws.proofs.Sizes.{few_blocks, few_types, regs_lent, opers_lent, recs_length, block_within}
 use Rattle.inst.specs.Record.{Known}
 use Rattle.cfg.specs.Drawn.{drawn}
@@ -24,7 +25,7 @@ module _ (P : Picture) (ok : laws.Accepted P) where
   admitted p h = ok.each p (place p h)
 
   known : (p : ℕ) → 16 * p + 16 ≤ length P.recs → Known P.recs p
-  known p h = record { within = record { whole = h }; kind = omega (arith, kind_low P (inst P.recs p) (admitted p h)) }
+  known p h = record { within = record { whole = h }; kind = omega (arith, kind_low (inst P.recs p) (admitted p h).kind_fits) }
 
   pub blocks_given : Blocks P.bounds P.recs
   blocks_given = record {

@@ -1,22 +1,16 @@
 -- How an instruction ends a block, by the shape in its kind's row. Assumes nothing.
 use mathlib.Core.Bool.{Bool, true, false, cond}
-use mathlib.Core.Path.{◌≡◌, refl, sym, ap, subst, ◌∙◌}
-use mathlib.Core.List.{List}
-use Prim.Native.Nat.{ℕ, ◌<◌}
+use mathlib.Core.Path.{◌≡◌, refl, sym, subst}
+use Prim.Native.Nat.{◌<◌}
 use lib.ListN.{get_or}
-use Rattle.model.specs.Kinds.{Stmt, kinds, kind_of, place, Br, CondBr, Case}
+use Rattle.model.specs.Kinds.{Br, CondBr, Case}
 use Rattle.model.specs.Picture.{Inst, kind, is_kind, End, goes, parts, cases, stops, end_of}
-use Rattle.model.proofs.Table.{places}
+use Rattle.model.proofs.Table.{place_is}
 use Rattle.inst.specs.Table.{packed, shape}
 use Rattle.inst.specs.Shape.{shape_of}
 use Rattle.inst.specs.declared.table.Shape.{Shape}
 use Rattle.inst.specs.declared.table.Shape.TheVariants.{Stops, Goes, Parts, Cases}
-use Rattle.inst.proofs.Lists.{get_or-upto}
 use Rattle.inst.proofs.Rows.{shape_is}
-use Rattle.words.proofs.Lists.{get_d_map}
-
-pub place_is : (w : ℕ) → w < 101 → place (kind_of w) ≡ w
-place_is w h = sym (get_d_map place Stmt 0 kinds w h) ∙ ap (λ (l : List ℕ). get_or l w 0) places ∙ get_or-upto 101 w h
 
 -- the end that a shape stands for
 abbrev pub EndsAs : Shape → Inst → Type 0

@@ -2,13 +2,11 @@
 use mathlib.Core.Bool.{Bool, true}
 use mathlib.Core.Path.{◌≡◌, refl, ap, ◌∙◌}
 use mathlib.Core.List.{List, [], ◌∷◌}
-use Prim.Native.Nat.{ℕ, zero, suc, ◌+◌, ◌-◌, ◌<◌}
+use Prim.Native.Nat.{ℕ, zero, suc, ◌+◌, ◌-◌}
 use native.Mathlib.Omega.{arith}
-use native.Mathlib.Nat.{zero-add}
 use lib.ListN.{get_or, take, drop}
-use Rattle.words.specs.Lists.{upto, all, conj}
+use Rattle.words.specs.Lists.{all, conj}
 use Rattle.words.proofs.Bools.{left_true, right_true}
-use Rattle.words.proofs.Lists.{get_or-range}
 
 pub conj_at : (bs : List Bool) → conj bs ≡ true → (k : ℕ) → get_or bs k true ≡ true
 conj_at [] e k = refl
@@ -27,6 +25,3 @@ pub part_is : {A : Type 0} {a n s l : ℕ} (xs : List A) → a ≡ s → n ≡ l
 part_is {A} {a} {n} {s} {l} xs e q =
     let h : a + n - a ≡ l = omega arith in
     ap (λ (m : ℕ). take m (drop a xs)) h ∙ ap (λ (m : ℕ). take l (drop m xs)) e
-
-pub get_or-upto : (n k : ℕ) → k < n → get_or (upto n) k 0 ≡ k
-get_or-upto n k h = get_or-range 0 n k h ∙ zero-add k

@@ -16,9 +16,10 @@ use Rattle.model.specs.Live.{live_in, live_out, written}
 use Rattle.model.specs.Analyse.{Facts, Fact, analyse}
 use Rattle.model.specs.Move.{Plan, chain_places, needed, needed_of, apply}
 use Rattle.laws.proofs.Sizes.{regs_lent, admitted_at}
-use Rattle.laws.proofs.Admitted.{one_write, mover_stops}
+use Rattle.model.proofs.Results.{movable_writes_one}
+use Rattle.laws.proofs.Admitted.{mover_stops}
 use Rattle.laws.proofs.Chains.{links_inner, ends_succs, lead, lead_length}
-use Rattle.laws.proofs.Moving.{Moving, found, rest, run_is, member_inside, member_may}
+use Rattle.laws.proofs.Moving.{Moving, found, rest, run_is, member_inside, member_is_movable, member_may}
 use Rattle.laws.proofs.Ordered.{at_x}
 use Rattle.laws.proofs.Applied as A
 use Rattle.walk.specs.Machine.{Instr, Prog, no_instr, instr_at}
@@ -85,7 +86,8 @@ module _ (was : ℕ → Spot) (P : Picture) (G : Facts) (a : Plan) (mv : Moving 
   single p r s rs k e =
       let i = inst P.recs (starts P x + p) in
       let h = inside p k in
-      let l = one_write P i (admitted_at P mv.ok x (starts P x + p) (at_x P G a mv p (omega arith))) (member_may P G a mv p k) in
+      let z = member_is_movable P G a mv p k in
+      let l = movable_writes_one G P.ops z.0 i (admitted_at P mv.ok x (starts P x + p) (at_x P G a mv p (omega arith))).kind_fits z.1 in
       let f : length (writes i) ≡ suc (suc (length rs)) = ap length (sym (ap (λ (i : Instr). i.writes) (in_S p h)) ∙ e) in
       absurd (omega arith)
 

@@ -13,11 +13,11 @@ use Rattle.words.specs.Lists.{upto, any}
 use Rattle.words.proofs.Bools.{or_left, or_right}
 use Rattle.words.proofs.Members.{any_no, no_any, in_map, map_in, in_range, range_in}
 use Rattle.words.proofs.Each.{Each}
-use Rattle.model.specs.Kinds.{row, Cat}
-use Rattle.model.specs.Picture.{Picture, Inst, inst, kind, is_kind, roles, slots, writes, nblocks}
-use Rattle.model.specs.Refusal.{all_code, too_large, uneven, gaps, bad_kind, bad_slots, half_part, bad_list, bad_branch, bad_pairs, may_move, work64, work32, records, causes, lowest, refusal}
+use Rattle.model.specs.Kinds.{Cat}
+use Rattle.model.specs.Picture.{Picture, Inst, inst, is_kind, roles, slots, nblocks}
+use Rattle.model.specs.Refusal.{all_code, too_large, uneven, gaps, bad_kind, bad_slots, half_part, bad_list, bad_branch, bad_pairs, work64, work32, records, causes, lowest, refusal}
 
--- of a single instruction: causes 4, 5, 6, 7, 8 and 11
+-- of a single instruction: causes 4, 5, 6, 7 and 8
 pub record Admitted (P : Picture) (i : Inst) : Type 0 where
   pub kind_fits : bad_kind i ≡ false
   pub slots_fit : bad_slots P.regs (roles i) (slots i) ≡ false
@@ -25,7 +25,6 @@ pub record Admitted (P : Picture) (i : Inst) : Type 0 where
   pub list_fits : bad_list P.opers i ≡ false
   pub branch_fits : bad_branch (nblocks P) i ≡ false
   pub cat_short : (is_kind Cat i && ltb 33 (get_or i 8 0)) ≡ false
-  pub one_result : (may_move (row (kind i)).arm && ltb 1 (length (writes i))) ≡ false
 
 -- of a picture
 pub record Accepted (P : Picture) : Type 0 where
@@ -83,7 +82,6 @@ module _ (P : Picture) where
               list_fits = at_each (bad_list P.opers) (or_left lists ops (none 5)) p h;
               branch_fits = at_each (bad_branch (nblocks P)) (or_left branches targets seven) p h;
               cat_short = at_each (λ i. is_kind Cat i && ltb 33 (get_or i 8 0)) (none 7) p h;
-              one_result = at_each (λ i. may_move (row (kind i)).arm && ltb 1 (length (writes i))) (none 10) p h;
             };
         operands = or_right lists ops (none 5);
         case_targets = or_right branches targets seven;
@@ -119,10 +117,7 @@ not_refused P w64 w32 nf ok a b r =
                       ok.types_used,
                       (
                         ap₂ ◌||◌ (ap₂ ◌||◌ (le-ltb w64 (work64 P) a) (le-ltb w32 (work32 P) b)) (le-ltb nf records r),
-                        (
-                          over_all P (λ i. may_move (row (kind i)).arm && ltb 1 (length (writes i))) (λ p h. (ok.each p h).one_result),
-                          tt,
-                        ),
+                        tt,
                       ),
                     ),
                   ),

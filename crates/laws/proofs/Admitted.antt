@@ -16,7 +16,8 @@ use Rattle.words.proofs.Members.{any_no, in_take, in_drop, in_split, in_get_or}
 use Rattle.words.proofs.Parts.{part_first}
 use Rattle.model.specs.Kinds.{Role, off, wr, rd, wr?, rd?, reading, writing, Row, row, kind_of, place, Br, CondBr, Case, Cat}
 use Rattle.model.specs.Picture.{Picture, Inst, inst, absent, kind, form, is_kind, roles, slots, chosen, list_of, reads, writes, nblocks, ends, size, End, goes, parts, cases, stops, end_of, ending, table, end_succs, succs}
-use Rattle.model.specs.Refusal.{bad_slot, bad_slots, bad_pairs, may_move}
+use Rattle.model.specs.Refusal.{bad_slot, bad_slots, bad_pairs}
+use Rattle.model.proofs.Movable.{may_move}
 use Rattle.laws.proofs.Accepted.{Accepted, Admitted}
 use Rattle.laws.proofs.Blocks.{last_place}
 use Rattle.laws.proofs.Sizes.{opers_lent, admitted_at}
@@ -106,34 +107,12 @@ list_cases O false s n e =
     let b = eqb→eq n 0 (right (eqb s 0) (eqb n 0) t) in
     (omega arith, (λ q. (a, b)))
 
-at_most : (b : Bool) (m n : ℕ) → (b && ltb m n) ≡ false → b ≡ true → n ≤ m
-at_most true m n e t = ltb-false m n e
-at_most false m n e t = absurd (true≢false (sym t))
-
 module _ (P : Picture) (i : Inst) (ok : Admitted P i) where
-  abbrev no_kind : Bool
-  no_kind = ltb 100 (get_or i 0 0)
-
-  abbrev low_form : Bool
-  low_form = ltb (form i) (row (kind i)).least
-
-  abbrev high_form : Bool
-  high_form = ltb (row (kind i)).most (form i)
-
-  abbrev wide : Bool
-  wide = is_kind Cat i && ltb 65535 (get_or i 9 0)
-
-  pub kind_low : get_or i 0 0 ≤ 100
-  kind_low = ltb-false 100 (get_or i 0 0) (or_left no_kind low_form (or_left (no_kind || low_form) high_form (or_left (no_kind || low_form || high_form) wide ok.kind_fits)))
-
   pub writes_low : (r : ℕ) → In r (writes i) → r < P.regs
   writes_low = low_chosen writing refl P.regs (roles i) (slots i) ok.slots_fit
 
   pub slot_reads_low : (r : ℕ) → In r (chosen reading (roles i) (slots i)) → r < P.regs
   slot_reads_low = low_chosen reading refl P.regs (roles i) (slots i) ok.slots_fit
-
-  pub one_write : T (may_move (row (kind i)).arm) → length (writes i) ≤ 1
-  one_write t = at_most (may_move (row (kind i)).arm) 1 (length (writes i)) ok.one_result (Rattle.words.proofs.Bools.T_true (may_move (row (kind i)).arm) t)
 
   -- the list lies within the operands in use; a kind without one has 0, 0
   pub list_in : get_or i 7 0 + get_or i 8 0 ≤ P.opers

@@ -1,20 +1,16 @@
--- A chain's facts, position by position: each is that of its instruction after those before it, and so is the last writer; and what
--- is movable there is of a kind that may move. Assumes nothing.
+-- A chain's facts, position by position: each is that of its instruction after those before it, and so is the last writer. Assumes nothing.
 use Rattle.std.specs.Prelude.{Option, None, Some}
 use mathlib.Core.Path.{◌≡◌, refl, sym, ap, ◌∙◌, subst}
 use mathlib.Core.Bool.{Bool, true, false, cond}
-use mathlib.Core.List.{List, [], ◌∷◌, ◌++◌, map, append_assoc, append-nil}
+use mathlib.Core.List.{List, [], ◌∷◌, ◌++◌, append_assoc, append-nil}
 use Prim.Native.Nat.{ℕ, zero, suc, ◌+◌, ◌<◌}
 use native.Mathlib.Nat.{not-suc-le-zero, le_of_suc-le-suc, suc-add, add-suc, add-zero, zero-add}
 use native.Mathlib.Omega.{arith}
-use lib.Dec.{T}
-use lib.ListN.{get_or, length, take, drop, length-append}
+use lib.ListN.{get_or, length, take, length-append}
 use lib.Seq.{get_or-append_seam, take-append_seam}
 use Rattle.words.specs.Lists.{mem}
-use Rattle.model.specs.Kinds.{Arm, row, const, constF, addr_of, move, select, truth, bin, index, check, dopeLen, load, alloc, layout_of, signal, fills, store, cat, native as nativeArm, stops, deref, writes, other}
-use Rattle.model.specs.Picture.{Inst, kind, reads}
-use Rattle.model.specs.Refusal.{may_move}
-use Rattle.model.specs.Analyse.{Facts, Fact, Read, Org, Unknown, fact, no_fact, analyse, last_writer, arm, movable, org_of, len_of, when_some, known_of, positive, unread, is_layout}
+use Rattle.model.specs.Picture.{Inst}
+use Rattle.model.specs.Analyse.{Facts, Fact, fact, no_fact, analyse, last_writer}
 use Rattle.model.specs.Legal.{fact_at}
 
 module _ (G : Facts) (ops : List ℕ) where
@@ -40,31 +36,6 @@ module _ (G : Facts) (ops : List ℕ) where
       let n : length (past ++ f ∷ []) + k ≡ length past + suc k = ap (λ (x : ℕ). x + k) (length-append past (f ∷ []) ∙ add-suc (length past) 0 ∙ ap suc (add-zero (length past))) ∙ suc-add (length past) k ∙ sym (add-suc (length past) k) in
       subst (λ (x : ℕ). get_or (analyse G ops past (i ∷ is)) x no_fact ≡ fact G ops (take x (analyse G ops past (i ∷ is))) (get_or is k [])) n (analysed (past ++ f ∷ []) is k (le_of_suc-le-suc h))
 
--- what is movable may move
-movable_arm : (i : Inst) (p : ℕ) (k : Bool) (o : ℕ → Org) (l : ℕ → Bool) (y : ℕ → Bool) (os : List Org) (a : Arm) → T (movable (arm i p k o l y os a).class) → T (may_move a)
-movable_arm i p k o l y os const t = t
-movable_arm i p k o l y os constF t = t
-movable_arm i p k o l y os addr_of t = t
-movable_arm i p k o l y os move t = tt
-movable_arm i p k o l y os select t = tt
-movable_arm i p k o l y os truth t = tt
-movable_arm i p k o l y os bin t = tt
-movable_arm i p k o l y os index t = tt
-movable_arm i p k o l y os check t = tt
-movable_arm i p k o l y os dopeLen t = tt
-movable_arm i p k o l y os load t = tt
-movable_arm i p k o l y os alloc t = tt
-movable_arm i p k o l y os layout_of t = tt
-movable_arm i p k o l y os signal t = tt
-movable_arm i p k o l y os fills t = tt
-movable_arm i p k o l y os store t = tt
-movable_arm i p k o l y os cat t = tt
-movable_arm i p k o l y os nativeArm t = tt
-movable_arm i p k o l y os stops t = t
-movable_arm i p k o l y os deref t = t
-movable_arm i p k o l y os writes t = t
-movable_arm i p k o l y os other t = t
-
 -- the last writer, with one fact more
 pub writer_snoc : (k : ℕ) (past : List Fact) (f : Fact) (r : ℕ) → last_writer k (past ++ f ∷ []) r ≡ cond (mem r f.defs) (Some (k + length past)) (last_writer k past r)
 writer_snoc k [] f r = ap (λ (n : ℕ). cond (mem r f.defs) (Some n) None) (sym (add-zero k))
@@ -89,10 +60,3 @@ module _ (G : Facts) (ops : List ℕ) where
 
   pub fact_of : (is : List Inst) (k : ℕ) → k < length is → fact_at (analyse G ops [] is) k ≡ fact G ops (take k (analyse G ops [] is)) (get_or is k [])
   fact_of is k h = subst (λ (n : ℕ). get_or (analyse G ops [] is) n no_fact ≡ fact G ops (take n (analyse G ops [] is)) (get_or is k [])) (zero-add k) (analysed G ops [] is k h)
-
-  pub fact_moves : (past : List Fact) (i : Inst) → T (movable (fact G ops past i).does.class) → T (may_move (row (kind i)).arm)
-  fact_moves past i t =
-      let us : List Read = map (λ r. record { reg = r; writer = last_writer 0 past r }) (reads ops i) in
-      let orgs : List Org = map (org_of G past) us in
-      let lens : List Bool = map (len_of G past) us in
-      movable_arm i (length past) (when_some positive (known_of G (get_or us 1 unread).reg).konst) (λ k. get_or orgs k Unknown) (λ k. get_or lens k false) (is_layout past) (drop 3 orgs) (row (kind i)).arm t

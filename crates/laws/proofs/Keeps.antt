@@ -8,7 +8,7 @@ use Prim.Native.Nat.{ℕ, ◌+◌, ◌*◌, ◌%◌, ◌≤◌, ◌<◌}
 use native.Mathlib.Nat.{zero-add, le_of_eq, le_trans}
 use native.Mathlib.Omega.{arith}
 use lib.Dec.{eqb, ltb, leb, eqb→eq}
-use lib.ListN.{get_or, length, take, drop, length-append, length-map}
+use lib.ListN.{get_or, length, take, drop, length-append}
 use lib.Seq.{take_at}
 use borrow.Author.Tests.{le-ltb, lt-leb, eq-eqb, ne_eqb, ltb-false}
 use Rattle.words.specs.Lists.{In, upto, any, concat}
@@ -16,8 +16,8 @@ use Rattle.words.proofs.Bools.{right, not_false_T, eq?}
 use Rattle.words.proofs.Members.{no_any, any_no, in_map, in_split, in_get_or, concat_in}
 use Rattle.words.proofs.Each.{Each, each_of, each_in}
 use Rattle.model.specs.Kinds.{row, kind_of, place, Cat, Br, CondBr, SigGather}
-use Rattle.model.specs.Picture.{Picture, Inst, inst, absent, roles, slots, list_of, writes, nblocks}
-use Rattle.model.specs.Refusal.{gaps, bad_slots, bad_branch, may_move, refusal}
+use Rattle.model.specs.Picture.{Picture, Inst, inst, absent, roles, slots, list_of, nblocks}
+use Rattle.model.specs.Refusal.{gaps, bad_slots, bad_branch, refusal}
 use Rattle.model.specs.Analyse.{Facts}
 use Rattle.model.specs.Move.{Plan, Job, renamed, made, made_all, new_list, changes, more_of, fresh, members, order_of, order, new_code, apply}
 use Rattle.model.specs.Pass.{round, fits}
@@ -26,7 +26,7 @@ use Rattle.laws.proofs.Admitted.{operand_low, list_low}
 use Rattle.laws.proofs.Blocks.{gaps_spans}
 use Rattle.laws.proofs.Renamed.{slots_more, slots_fit_renamed}
 use Rattle.laws.proofs.Laid.{inst_laid}
-use Rattle.laws.proofs.Made.{Body, made_body, same_roles, made_writes, made_word, made_absent, Sound, MadeFor, Pairs}
+use Rattle.laws.proofs.Made.{Body, made_body, same_roles, made_word, made_absent, Sound, MadeFor, Pairs}
 use Rattle.laws.proofs.Moving.{Moving}
 use Rattle.laws.proofs.Ordered.{order_place}
 use Rattle.laws.proofs.Planned.{chosen}
@@ -67,7 +67,6 @@ module _ (P : Picture) (G : Facts) (a : Plan) (mv : Moving P G a) where
     list_fits = list_more P.opers Q.opers (opers_more P G a mv).0 (row (kind_of (get_or i 0 0))).list (get_or i 7 0) (get_or i 8 0) f.list_fits;
     branch_fits = ap (λ (n : ℕ). bad_branch n i) (same_blocks P G a mv) ∙ f.branch_fits;
     cat_short = f.cat_short;
-    one_result = f.one_result;
   }
 
   admitted_made : (m : Inst) (j : Job) → Sound P Q.regs j → MadeFor P.ops Q.ops Q.opers m j → Admitted Q m
@@ -81,7 +80,6 @@ module _ (P : Picture) (G : Facts) (a : Plan) (mv : Moving P G a) where
     branch_fits = ap₂ (λ (k : ℕ) (z : ℕ × ℕ). eqb k (place Br) && leb (nblocks Q) z.0 || eqb k (place CondBr) && (leb (nblocks Q) z.0 || leb (nblocks Q) z.1)) w0 (λ z. (w9 z, made_word j start e u v 2 z))
         ∙ ap (λ (n : ℕ). bad_branch n j.old) (same_blocks P G a mv) ∙ f.branch_fits;
     cat_short = ap₂ (λ (k n : ℕ). eqb k (place Cat) && ltb 33 n) w0 w8 ∙ f.cat_short;
-    one_result = ap₂ (λ (k n : ℕ). may_move (row (kind_of k)).arm && ltb 1 n) w0 (ap length (made_writes j start e u v) ∙ length-map (writes j.old) j.wr) ∙ f.one_result;
   }
     where
       start : ℕ

@@ -9,19 +9,20 @@ use native.Mathlib.Omega.{arith}
 use lib.Dec.{T, leb, leb→le}
 use lib.ListN.{get_or, length, take, length-map}
 use Rattle.words.specs.Lists.{In, upto, member}
-use Rattle.words.proofs.Bools.{left, right, true_T}
+use Rattle.words.proofs.Bools.{left, right, T_true, true_T}
 use Rattle.words.proofs.Lists.{get_d_map}
 use Rattle.words.proofs.Members.{mem-not_in, filter_in, range_in}
 use Rattle.model.specs.Kinds.{row}
 use Rattle.model.specs.Picture.{Picture, Inst, inst, kind, nblocks, starts, size}
-use Rattle.model.specs.Refusal.{may_move}
-use Rattle.model.specs.Analyse.{Facts, Fact, analyse, movable}
+use Rattle.model.specs.Analyse.{Facts, Fact, fact, analyse, movable}
 use Rattle.model.specs.Legal.{fact_at}
 use Rattle.model.specs.Move.{chain_places, needed_of, Plan, members, fresh, apply}
 use Rattle.model.specs.Pass.{fits}
+use Rattle.model.specs.Results.{is_movable}
+use Rattle.model.proofs.Movable.{may_move, fact_moves}
 use Rattle.laws.proofs.Accepted.{Accepted}
 use Rattle.laws.proofs.Admitted.{ends_parts}
-use Rattle.laws.proofs.Analysed.{fact_of, fact_moves}
+use Rattle.laws.proofs.Analysed.{fact_of}
 use Rattle.laws.proofs.Chains.{Found, chain_found, last_of_chain, lead}
 use Rattle.laws.proofs.Greatest.{greatest_movable}
 use Rattle.laws.proofs.Planned.{Chosen}
@@ -71,21 +72,31 @@ module _ (P : Picture) (G : Facts) (a : Plan) (mv : Moving P G a) where
   pub run_is : a.run ≡ analyse G P.ops [] (map (inst P.recs) (chain_places P (a.x ∷ rest)))
   run_is = mv.choice.run_is ∙ ap (λ (l : List ℕ). analyse G P.ops [] (map (inst P.recs) (chain_places P l))) found.blocks_are
 
-  -- members stand before x's last instruction, and are of a kind that may move
+  -- members stand before x's last instruction, and are movable
   member_movable : (p : ℕ) → member a.set p ≡ true → (p < size P a.x - 1) × T (movable (fact_at a.run p).does.class)
   member_movable p k = greatest_movable a.run (member (needed_of P a.into mv.choice.other)) (size P a.x - 1) p (subst (λ (s : List Bool). T (member s p)) mv.choice.set_is (true_T (member a.set p) k))
 
   pub member_inside : (p : ℕ) → member a.set p ≡ true → p < size P a.x - 1
   member_inside p k = (member_movable p k).0
 
-  pub member_may : (p : ℕ) → member a.set p ≡ true → T (may_move (row (kind (inst P.recs (starts P a.x + p)))).arm)
-  member_may p k =
+  pub member_is_movable : (p : ℕ) → member a.set p ≡ true → (past : List Fact) × (is_movable G P.ops past (inst P.recs (starts P a.x + p)) ≡ true)
+  member_is_movable p k =
       let ps = chain_places P (a.x ∷ rest) in
       let is = map (inst P.recs) ps in
       let l = lead P a.x rest p (member_inside p k) in
-      subst (λ (i : Inst). T (may_move (row (kind i)).arm)) (get_d_map (inst P.recs) 0 [] ps p l.0 ∙ ap (inst P.recs) l.1)
-      (fact_moves G P.ops (take p (analyse G P.ops [] is)) (get_or is p [])
-      (subst (λ (f : Fact). T (movable f.does.class)) (ap (λ (r : List Fact). fact_at r p) run_is ∙ fact_of G P.ops is p (subst (λ (n : ℕ). p < n) (sym (length-map ps (inst P.recs))) l.0)) (member_movable p k).1))
+      let past = take p (analyse G P.ops [] is) in
+      let its : fact_at a.run p ≡ fact G P.ops past (get_or is p []) = ap (λ (r : List Fact). fact_at r p) run_is ∙ fact_of G P.ops is p (subst (λ (n : ℕ). p < n) (sym (length-map ps (inst P.recs))) l.0) in (
+        past,
+        subst (λ (i : Inst). is_movable G P.ops past i ≡ true) (get_d_map (inst P.recs) 0 [] ps p l.0 ∙ ap (inst P.recs) l.1)
+            (ap (λ (f : Fact). movable f.does.class) (sym its) ∙ T_true (movable (fact_at a.run p).does.class) (member_movable p k).1),
+      )
+
+  -- so they are of a kind that may move
+  pub member_may : (p : ℕ) → member a.set p ≡ true → T (may_move (row (kind (inst P.recs (starts P a.x + p)))).arm)
+  member_may p k =
+      let z = member_is_movable p k in
+      let i = inst P.recs (starts P a.x + p) in
+      fact_moves G P.ops z.0 i (true_T (is_movable G P.ops z.0 i) z.1)
 
   -- as places of x
   pub member_below : (p : ℕ) → In p (members P a) → p < size P a.x

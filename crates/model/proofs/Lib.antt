@@ -1,3 +1,5 @@
 pub mod Table
 pub mod Sizes
+pub mod Movable
+pub mod Results
 pub mod Numbers

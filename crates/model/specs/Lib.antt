@@ -4,6 +4,7 @@ pub mod Refusal
 pub mod Numbered
 pub mod Live
 pub mod Analyse
+pub mod Results
 pub mod Legal
 pub mod Move
 pub mod Pass

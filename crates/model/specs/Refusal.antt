@@ -2,9 +2,8 @@
 -- ("What changes shape"); and the lowest number whose cause is present. Assumes nothing.
 use Rattle.std.specs.Prelude.{Bool, true, false, not, ◌&&◌, ◌||◌, cond, List, [], ◌∷◌, map, ℕ, suc, ◌+◌, ◌*◌, ◌/◌, ◌%◌, eqb, ltb, leb, get_or, length, take}
 use Rattle.words.specs.Lists.{upto, any}
-use Rattle.model.specs.Kinds.{Role, Arm, off, wr, rd, wr?, rd?, row, Br, CondBr, Cat, SigGather, const, constF, addr_of, move, select, truth, bin, index, check, dopeLen, load, alloc, layout_of, signal, fills, store, cat, native, stops, deref, writes, other}
-use Rattle.model.specs.Picture.{Picture, Inst, inst, absent, kind, form, slots, roles, is_kind, nblocks, starts, ends}
-use Rattle.model.specs.Picture as Pic
+use Rattle.model.specs.Kinds.{Role, off, wr, rd, wr?, rd?, row, Br, CondBr, Cat, SigGather}
+use Rattle.model.specs.Picture.{Picture, Inst, inst, absent, kind, form, slots, roles, is_kind, nblocks}
 
 abbrev pub all_code : Picture → List Inst
 all_code P = map (inst P.recs) (upto (length P.locs))
@@ -62,31 +61,6 @@ bad_pairs n [] = false
 bad_pairs n (s ∷ []) = false
 bad_pairs n (s ∷ l ∷ ps) = eqb l 0 || ltb n (s + l) || bad_pairs n ps
 
--- the arms of `analyse` that can give a movable instruction
-abbrev pub may_move : Arm → Bool
-may_move const = false
-may_move constF = false
-may_move addr_of = false
-may_move move = true
-may_move select = true
-may_move truth = true
-may_move bin = true
-may_move index = true
-may_move check = true
-may_move dopeLen = true
-may_move load = true
-may_move alloc = true
-may_move layout_of = true
-may_move signal = true
-may_move fills = true
-may_move store = true
-may_move cat = true
-may_move native = true
-may_move stops = false
-may_move deref = false
-may_move writes = false
-may_move other = false
-
 -- the words of 64 and of 32 bits that the pass works in: 4×B×W+2×K, W being K/64 rounded up, and 8×K+16×B+8,000
 abbrev pub work64 : Picture → ℕ
 work64 P = 4 * nblocks P * ((length P.types + 63) / 64) + 2 * length P.types
@@ -117,8 +91,7 @@ causes P w64 w32 nf =
     ∷ any (ltb 7) (take P.regs P.types)
     -- 10: work slices too short; fewer than 800 records is cause 10 too
     ∷ (ltb w64 (work64 P) || ltb w32 (work32 P) || ltb nf records)
-    -- 11: a movable instruction writes two registers
-    ∷ any (λ i. may_move (row (kind i)).arm && ltb 1 (length (Pic.writes i))) is
+    -- 11 went with request 2026-11 (specs/Results)
     ∷ []
 
 -- the lowest number whose cause is present, counted from n; 0 where none is

@@ -4,7 +4,7 @@ use Rattle.std.specs.Prelude.{◌≡◌, refl, List, [], ◌∷◌, ◌++◌, ma
 use Rattle.words.specs.Lists.{range}
 use Rattle.model.specs.declared.Answer.TheVariants.{Done, Refused}
 use Rattle.model.specs.declared.Refusal.TheVariants as cause
-use Rattle.model.specs.Kinds.{AddrOf, Alloc, Bin, BoolOp, Call, CallNative, CallProt, Cat, Check, Drive, LayoutOf, LNum, Load, LogicOp, Ret, SigGather, Stmt, Store, Zero}
+use Rattle.model.specs.Kinds.{AddrOf, Alloc, Bin, BoolOp, Call, CallNative, CallProt, Cat, Check, Drive, LayoutOf, LNum, Load, LogicOp, Ret, SigGather, Stmt, Store, TakeBounds, Zero}
 use Rattle.model.specs.Picture.{Picture, Inst, absent}
 use Rattle.model.specs.Numbered.{refusals, number_of, refusal_of, verdict}
 use Rattle.model.specs.Pass.{Outcome, ends_in, used, sink}
@@ -170,6 +170,8 @@ codes =
     ∷ no 8 (cat_with 0 0 34 0)
     ∷ no 8 (cat_with 1 0 34 0)
     ∷ yes (op Call 0 [] (0 ∷ 34 ∷ []) [])
+    -- request 2026-11: what writes more than one register is taken
+    ∷ yes (in3 TakeBounds 0 0 1 2)
     ∷ []
 
 pub codes_cases : map answered codes ≡ map given codes
@@ -204,11 +206,11 @@ gates_cases = refl
 
 -- ---- the causes by name: each one's number, and back; and what acceptance answers
 
-pub number_cases : map number_of refusals ≡ range 1 11
+pub number_cases : map number_of refusals ≡ range 1 10
 number_cases = refl
 
-pub cause_cases : map refusal_of (range 1 11) ≡ refusals
+pub cause_cases : map refusal_of (range 1 10) ≡ refusals
 cause_cases = refl
 
-pub verdict_cases : map verdict (0 ∷ 1 ∷ 7 ∷ 11 ∷ []) ≡ Ok tt ∷ Err cause.Large ∷ Err cause.Branch ∷ Err cause.Writes ∷ []
+pub verdict_cases : map verdict (0 ∷ 1 ∷ 7 ∷ 10 ∷ []) ≡ Ok tt ∷ Err cause.Large ∷ Err cause.Branch ∷ Err cause.Work ∷ []
 verdict_cases = refl

@@ -24,7 +24,8 @@ pub struct Used {
     pub operands: u32,
 }
 
-// Why a picture is refused: the causes of document 01's table ("The call"), in its order. Where several are present, the first is given.
+// Why a picture is refused: the causes of document 01's table ("The call"), in its order, but for 11, which request 2026-11 took away.
+// Where several are present, the first is given.
 #[derive(Clone, Copy, PartialEq, Eq, Debug)]
 pub enum Refusal {
     Large, // more of anything than there may be, or more in use than lent
@@ -37,7 +38,6 @@ pub enum Refusal {
     Cat, // the list of a Cat is over 33
     Type, // a type in use is above 7
     Work, // the work slices, or the list of records, are too short
-    Writes, // an instruction that may move writes two registers
 }
 
 impl Refusal {
@@ -56,7 +56,6 @@ impl Refusal {
             Refusal::Cat => 8,
             Refusal::Type => 9,
             Refusal::Work => 10,
-            Refusal::Writes => 11,
         }
     }
 }

@@ -6,21 +6,19 @@ use mathlib.Core.List.{List, [], ◌∷◌, map}
 use Prim.Native.Nat.{ℕ, ◌+◌, ◌*◌, ◌-◌, ◌≤◌, ◌<◌}
 use native.Mathlib.Omega.{arith}
 use borrow.Author.Tests.{ne_eqb}
-use lib.Dec.{T, eqb}
+use lib.Dec.{eqb}
 use lib.ListN.{get_or, length, take, length-map}
 use lib.Seq.{get_or-take}
 use Rattle.words.specs.Lists.{In, member}
-use Rattle.words.proofs.Bools.{true_T}
 use Rattle.words.proofs.Lists.{get_d_map}
-use Rattle.model.specs.Kinds.{row}
-use Rattle.model.specs.Picture.{Picture, Inst, inst, absent, kind, writes, starts, size}
-use Rattle.model.specs.Refusal.{may_move}
-use Rattle.model.specs.Analyse.{Facts, Fact, movable, fact}
+use Rattle.model.specs.Picture.{Picture, Inst, inst, absent, writes, starts, size}
+use Rattle.model.specs.Analyse.{Facts, Fact, movable}
 use Rattle.model.specs.Legal.{fact_at}
 use Rattle.model.specs.Move.{Plan, chain_places, run_of, last_use}
+use Rattle.model.specs.Results.{is_movable}
+use Rattle.model.proofs.Results.{movable_writes_one}
 use Rattle.laws.proofs.Sizes.{recs_length}
-use Rattle.laws.proofs.Admitted.{one_write}
-use Rattle.laws.proofs.Analysed.{fact_of, fact_moves}
+use Rattle.laws.proofs.Analysed.{fact_of}
 use Rattle.laws.proofs.Chains.{lead}
 use Rattle.facts.specs.declared.Fact as F
 use Rattle.facts.specs.Marks.{fact_in, bare}
@@ -127,14 +125,12 @@ module _ {fs w : List F.Fact} {xs ys : List ℕ} {n : ℕ} (same : bare fs ≡ w
           let it : get_or (map (inst P.recs) places) p [] ≡ inst P.recs (fact_in w p).rec = get_d_map (inst P.recs) 0 [] places p (omega arith) ∙ ap (inst P.recs) (sym (al.numbers p q)) in
           let k : length (map (inst P.recs) places) ≡ length places = length-map places (inst P.recs) in
           let f = fact_of G P.ops (map (inst P.recs) places) p (omega arith) in
-          let moves : T (movable (fact G P.ops (take p run) (get_or (map (inst P.recs) places) p [])).does.class) =
-          true_T (movable (fact G P.ops (take p run) (get_or (map (inst P.recs) places) p [])).does.class)
+          let moves : is_movable G P.ops (take p run) (inst P.recs (fact_in w p).rec) ≡ true =
+          subst (λ (j : Inst). is_movable G P.ops (take p run) j ≡ true) it
           (ap (λ (y : Fact). movable y.does.class) (sym f) ∙ subst (λ (r : List Fact). movable (fact_at r p).does.class ≡ true) eb (em p e)) in
-          let may : T (may_move (row (kind (inst P.recs (fact_in w p).rec))).arm) =
-          subst (λ (j : Inst). T (may_move (row (kind j)).arm)) it (fact_moves G P.ops (take p run) (get_or (map (inst P.recs) places) p []) moves) in
           let u = (al.safe.good p q).known.within.whole in
           let d = recs_length P (ok l) in
-          subst (λ (r : List ℕ). length r ≤ 1) (sym (told.stands.defs p q)) (one_write P (inst P.recs (fact_in w p).rec) ((ok l).each (fact_in w p).rec (omega arith)) may)
+          subst (λ (r : List ℕ). length r ≤ 1) (sym (told.stands.defs p q)) (movable_writes_one G P.ops (take p run) (inst P.recs (fact_in w p).rec) ((ok l).each (fact_in w p).rec (omega arith)).kind_fits moves)
 
       pub marked_after : Marked P b m n W
       unfolding in_set

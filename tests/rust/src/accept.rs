@@ -16,7 +16,7 @@ pub fn refusal(p: &Picture, work: Work) -> u32 {
     if work.w64 < need.w64 || work.w32 < need.w32 || work.records < need.records {
         return 10;
     }
-    if p.records().any(|r| writes_two(&r)) { 11 } else { 0 }
+    0
 }
 
 fn too_large(p: &Picture) -> bool {
@@ -104,15 +104,6 @@ pub fn may_move(kind: u32) -> bool {
         MOVE | SELECT | CMP | F_CMP | BOOL | BIN | INDEX | CHECK | DOPE_LEN | BOUNDS_LEN | LOAD | ALLOC | LAYOUT_OF | SIG_VAL
             | SIG_READ_SCALAR | SIG_READ | MAKE_DOPE | STORE | CAT | CALL_NATIVE
     )
-}
-
-fn writes_two(r: &Record) -> bool {
-    let written = kinds::slots(r.kind(), r.form())
-        .iter()
-        .zip(r.slots())
-        .filter(|(slot, reg)| matches!(slot, Slot::Def | Slot::MaybeDef) && **reg != ABSENT)
-        .count();
-    may_move(r.kind()) && written > 1
 }
 
 /// The gates of the entry: it answers Done with 0 rounds.

@@ -29,6 +29,8 @@ pub enum Source {
 pub struct Stats {
     /// runs by cause and source
     pub runs: BTreeMap<(u32, Source), usize>,
+    /// runs that the port refuses with 11, which request 2026-11 took away
+    pub elevens: usize,
     pub faults: Vec<String>,
 }
 
@@ -106,18 +108,21 @@ impl Stats {
             self.faults.push(format!("{name} ({source:?}): the port changed what it was lent"));
         }
         *self.runs.entry((wanted, source)).or_default() += 1;
+        self.elevens += usize::from(port == 11);
     }
 
     fn of(&self, cause: u32, source: Source) -> usize {
         self.runs.get(&(cause, source)).copied().unwrap_or(0)
     }
 
-    /// What is missing, if the comparison is to be worth its while. Cause 11 is not wanted: no picture without a lower cause
-    /// has it.
+    /// What is missing, if the comparison is to be worth its while.
     pub fn missing(&self) -> Vec<String> {
         let mut out = Vec::new();
         if !self.faults.is_empty() {
             out.push("no fault".to_string());
+        }
+        if self.elevens > 0 {
+            out.push(format!("11 never, and not {} times", self.elevens));
         }
         let wanted = (0..=9).map(|cause| (cause, Source::Damaged)).chain([(0, Source::Generated), (10, Source::ShortWork), (10, Source::FewRecords)]);
         for (cause, source) in wanted {
@@ -133,9 +138,10 @@ impl Stats {
             [Source::Generated, Source::Damaged, Source::DamagedTwice, Source::ShortWork, Source::FewRecords, Source::Altered, Source::Random];
         println!("refusals: the port against accept.rs, {} runs, {} differences", self.runs.values().sum::<usize>(), self.faults.len());
         println!("cause {}", sources.map(|s| format!("{s:?}")).map(|s| format!("{s:>13}")).join(""));
-        for cause in 0..=11 {
+        for cause in 0..=10 {
             println!("{cause:5} {}", sources.map(|s| format!("{:13}", self.of(cause, s))).join(""));
         }
+        println!("   11: {}", if self.elevens == 0 { "never".to_string() } else { format!("{} runs", self.elevens) });
         for f in self.faults.iter().take(20) {
             println!("fault: {f}");
         }
