@@ -1,4 +1,4 @@
--- Laws on lists beside those of `words`: places in ranges and maps. Assumes nothing.
+-- Laws on lists beside those of `words`: a test at a place, and a part by its two ends. Assumes nothing.
 use mathlib.Core.Bool.{Bool, true}
 use mathlib.Core.Path.{◌≡◌, refl, ap, ◌∙◌}
 use mathlib.Core.List.{List, [], ◌∷◌}

@@ -1,4 +1,5 @@
--- A chain's facts, position by position: each is that of its instruction after those before it, and so is the last writer. Assumes nothing.
+-- A chain's facts, position by position: each is that of its instruction after those before it, and so is the last writer.
+-- Assumes nothing.
 use Rattle.std.specs.Prelude.{Option, None, Some}
 use mathlib.Core.Path.{◌≡◌, refl, sym, ap, ◌∙◌, subst}
 use mathlib.Core.Bool.{Bool, true, false, cond}

@@ -1,5 +1,5 @@
--- Request 2026-11: how many registers an instruction writes, of those that cause 4 lets pass. proofs/Results shows each statement; with
--- the last, refusal 11 had nothing to refuse. Assumes nothing.
+-- Request 2026-11: how many registers an instruction writes, of those that cause 4 lets pass, so that refusal 11 had nothing to refuse;
+-- and that it is not given. proofs/Results shows the first three statements, proofs/Numbers the last. Assumes nothing.
 use Rattle.std.specs.Prelude.{◌≡◌, Bool, true, false, List, ℕ, ◌≤◌, length}
 use Rattle.model.specs.Kinds.{TakeBounds}
 use Rattle.model.specs.Picture.{Picture, Inst, is_kind, writes}
