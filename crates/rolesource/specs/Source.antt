@@ -1,0 +1,41 @@
+-- The table of roles as source text, printed from the list of kinds; or, where a line of the list cannot stand, its number. Assumes
+-- nothing.
+use Rattle.std.specs.Prelude.{Bool, true, false, cond, List, [], ◌∷◌, ◌++◌, map, ℕ, ◌+◌, ◌*◌, ◌/◌, ◌%◌, eqb, get_or, codes}
+use Rattle.std.specs.Str.{bytes_eq}
+use Rattle.std.specs.Fmt.{decimal}
+use Rattle.words.specs.Lists.{concat, range, upto}
+use Rattle.rolesource.specs.Text.{line, lines, word}
+use Rattle.rolesource.specs.Line.{digit, slots_at, shape_of, arm_of, allowed, is_note}
+use Rattle.rolesource.specs.Listed.{unread}
+
+abbrev pub bit : Bool → ℕ
+bit true = 1
+bit false = 0
+
+abbrev pub hex : ℕ → ℕ
+hex n = get_or (codes "0123456789abcdef") (n % 16) 48
+
+-- the digits of a word of the table, the highest first: the arm and whether the kind is quiet; successors, list and whether the form
+-- is allowed; the slots from the last to the first
+abbrev pub digits : ℕ → List ℕ → List ℕ
+digits f l =
+    (arm_of l / 16 + 2 * bit (bytes_eq (word 6 l) (codes "quiet"))) ∷ arm_of l ∷ (shape_of l % 4 + 4 * bit (bytes_eq (word 3 l) (codes "list")) + 8 * bit (allowed f l))
+    ∷ map (λ s. digit (get_or (slots_at f l) s 45)) (4 ∷ 3 ∷ 2 ∷ 1 ∷ 0 ∷ [])
+
+-- the word of the form f, a digit
+pub cell : ℕ → List ℕ → List ℕ
+cell f l = codes " 0x" ++ map hex (digits f l) ++ codes ","
+
+-- what is printed for a line: of a kind the line itself as a comment, then its words at forms 0 to 6 and at any other
+pub row : List ℕ → List ℕ
+row l = cond (is_note l) [] (codes "    // " ++ l ++ codes "\n   " ++ concat (map (λ f. cell f l) (range 48 8)) ++ codes "\n")
+
+abbrev pub heading : List ℕ
+heading = codes "// The table of roles\npub(crate) const ROWS: [u32; 808] = [\n"
+
+abbrev pub table : List ℕ → List ℕ
+table t = heading ++ concat (map (λ n. row (line n t)) (upto (lines t))) ++ codes "];\n"
+
+-- what comes of a list: the table, or one line
+pub source : List ℕ → List ℕ
+source t = cond (eqb (unread t) 0) (table t) (codes "unread " ++ decimal (unread t) ++ codes "\n")
