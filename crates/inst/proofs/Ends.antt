@@ -1,7 +1,7 @@
 -- How an instruction ends a block, by the shape in its kind's row. Assumes nothing.
 use mathlib.Core.Bool.{Bool, true, false, cond}
 use mathlib.Core.Path.{◌≡◌, refl, sym, subst}
-use Prim.Native.Nat.{◌<◌}
+use Prim.Native.Nat.{ℕ, ◌<◌}
 use lib.ListN.{get_or}
 use Rattle.model.specs.Kinds.{Br, CondBr, Case}
 use Rattle.model.specs.Picture.{Inst, kind, is_kind, End, goes, parts, cases, stops, end_of}
@@ -32,8 +32,8 @@ by_kind i false true c h = h
 by_kind i false false true h = h
 by_kind i false false false h = h
 
-pub ends : (i : Inst) {s : Shape} → get_or i 0 0 < 101 → s ≡ shape_of (shape (packed (kind i))) → EndsAs s i
-ends i h e =
+pub ends : (i : Inst) (f : ℕ) {s : Shape} → get_or i 0 0 < 101 → s ≡ shape_of (shape (packed (kind i) f)) → EndsAs s i
+ends i f h e =
     subst (λ (s : Shape). EndsAs s i) (sym e)
-    (rw (shape_is (get_or i 0 0), place_is (get_or i 0 0) h)
+    (rw (shape_is (kind i) f, place_is (get_or i 0 0) h)
     (by_kind i (is_kind Br i) (is_kind CondBr i) (is_kind Case i) refl))

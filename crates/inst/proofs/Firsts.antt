@@ -63,7 +63,7 @@ module _ (recs : List ℕ) (p u : ℕ) (g : Used recs p u) where
       (subst (λ (k : List ℕ). Heads l k x) (sym (writes_end recs p g.within 5 (omega arith))) h)
 
   -- slots 3 and 4 do nothing
-  module _ (few : u < 64) where
+  module _ (few : u < 4096) where
     idle : (s : ℕ) → s < 5 → (two_bits u s ≡ 0) → (l : List ℕ) {x : Firsts} → Heads (rest_reads i (s + 1) ++ l) (rest_writes i (s + 1)) x → Heads (rest_reads i s ++ l) (rest_writes i s) x
     idle s h z l w =
         slot_more s absent absent h (read_no recs p u s g h _ refl (λ q. omega arith)) (write_no recs p u s g h _ refl (λ q. omega arith)) l
@@ -80,7 +80,7 @@ module _ (recs : List ℕ) (p u : ℕ) (g : Used recs p u) where
   not_read : (s : ℕ) → s < 5 → (two_bits u s ≡ 0) → rest_reads i (s + 1) ≡ [] → rest_reads i s ≡ []
   not_read s h z e = reads_next recs p g.within s h (read_no recs p u s g h _ refl (λ q. omega arith)) ∙ present_none (rest_reads i (s + 1)) refl ∙ e
 
-  no_last_read : u < 64 → rest_reads i 3 ≡ []
+  no_last_read : u < 4096 → rest_reads i 3 ≡ []
   no_last_read few =
       let z : two_bits u 3 ≡ 0 = omega arith in
       let y : two_bits u 4 ≡ 0 = omega arith in
@@ -88,10 +88,10 @@ module _ (recs : List ℕ) (p u : ℕ) (g : Used recs p u) where
 
   -- none after those that may read does
   pub readers_end : {s : ℕ} → s ≡ readers u → rest_reads i s ≡ []
-  readers_end {s} e = go (ltb u 64) refl
+  readers_end {s} e = go (ltb u 4096) refl
     where
-      go : (b : Bool) → ltb u 64 ≡ b → rest_reads i s ≡ []
-      go true k = ap (rest_reads i) (e ∙ ap {B = ℕ} (λ (b : Bool). cond b 3 5) k) ∙ no_last_read (ltb-true u 64 k)
+      go : (b : Bool) → ltb u 4096 ≡ b → rest_reads i s ≡ []
+      go true k = ap (rest_reads i) (e ∙ ap {B = ℕ} (λ (b : Bool). cond b 3 5) k) ∙ no_last_read (ltb-true u 4096 k)
       go false k = reads_end recs p g.within s (let z = ap {B = ℕ} (λ (b : Bool). cond b 3 5) k in omega (arith, e, z))
 
   not_written : (s : ℕ) → s < 5 → (two_bits u s / 2 ≡ 1 → ⊥) → rest_writes i (s + 1) ≡ [] → rest_writes i s ≡ []
@@ -101,10 +101,10 @@ module _ (recs : List ℕ) (p u : ℕ) (g : Used recs p u) where
   no_later e =
       let f3 = or_left _ _ e in
       let f2 = or_left _ _ f3 in
-      let n1 = eqb-false (u / 8 % 2) 1 (or_left _ _ f2) in
-      let n2 = eqb-false (u / 32 % 2) 1 (or_right (eqb (u / 8 % 2) 1) _ f2) in
-      let n3 = eqb-false (u / 128 % 2) 1 (or_right (eqb (u / 8 % 2) 1 || eqb (u / 32 % 2) 1) _ f3) in
-      let n4 = eqb-false (u / 512 % 2) 1 (or_right (eqb (u / 8 % 2) 1 || eqb (u / 32 % 2) 1 || eqb (u / 128 % 2) 1) _ e) in
+      let n1 = eqb-false (u / 32 % 2) 1 (or_left _ _ f2) in
+      let n2 = eqb-false (u / 512 % 2) 1 (or_right (eqb (u / 32 % 2) 1) _ f2) in
+      let n3 = eqb-false (u / 8192 % 2) 1 (or_right (eqb (u / 32 % 2) 1 || eqb (u / 512 % 2) 1) _ f3) in
+      let n4 = eqb-false (u / 131072 % 2) 1 (or_right (eqb (u / 32 % 2) 1 || eqb (u / 512 % 2) 1 || eqb (u / 8192 % 2) 1) _ e) in
       not_written 1 (omega arith) (λ q. n1 (omega arith)) (not_written 2 (omega arith) (λ q. n2 (omega arith)) (not_written 3 (omega arith) (λ q. n3 (omega arith)) (not_written 4 (omega arith) (λ q. n4 (omega arith)) (writes_end recs p g.within 5 (omega arith)))))
 
   -- none after those that may write does
@@ -117,7 +117,7 @@ module _ (recs : List ℕ) (p u : ℕ) (g : Used recs p u) where
 
 -- no more than there are
 pub readers_few : (u : ℕ) → readers u ≤ 5
-readers_few u = go (ltb u 64)
+readers_few u = go (ltb u 4096)
   where
     go : (b : Bool) → cond b 3 5 ≤ 5
     go true = omega arith

@@ -2,7 +2,6 @@ pub mod Lists
 pub mod Arms
 pub mod Rows
 pub mod Resolved
-pub mod Forms
 pub mod Words
 pub mod Slots
 pub mod Rest

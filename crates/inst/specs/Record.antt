@@ -1,25 +1,18 @@
 -- 01, "The call", the record: its words, which register each slot reads or writes, and what acceptance gives of a record.
 -- Assumes nothing.
 use Rattle.std.specs.Prelude.{◌≡◌, Bool, cond, not, ◌&&◌, ◌||◌, List, [], ◌∷◌, ℕ, ◌+◌, ◌*◌, ◌/◌, ◌%◌, ◌≤◌, ◌<◌, eqb, leb, ltb, get_or, length, drop}
-use Rattle.model.specs.Kinds.{Role, off, reading, writing}
+use Rattle.model.specs.Kinds.{off, reading, writing}
 use Rattle.model.specs.Picture.{Inst, inst, absent, roles, slots, chosen}
-use Rattle.inst.specs.Table.{does, asks}
+use Rattle.inst.specs.Table.{pack}
 
 -- word k of record p
 abbrev pub word : List ℕ → ℕ → ℕ → ℕ
 word recs p k = get_or (inst recs p) k 0
 
--- ---- what the slots do, and ask: 2 bits a slot
-
-abbrev pub pack : (Role → ℕ) → List Role → ℕ
-pack g os =
-    g (get_or os 0 off) + 4 * g (get_or os 1 off) + 16 * g (get_or os 2 off) + 64 * g (get_or os 3 off) + 256 * g (get_or os 4 off)
+-- ---- what the slots do: 4 bits a slot
 
 unfoldable pub uses_of : Inst → ℕ
-uses_of i = pack does (roles i)
-
-unfoldable pub asks_of : Inst → ℕ
-asks_of i = pack asks (roles i)
+uses_of i = pack (roles i)
 
 -- ---- what acceptance gives, and what was looked up
 
@@ -53,11 +46,11 @@ write_at i s = cond (writing (get_or (roles i) s off)) (get_or i (2 + s) 0) abse
 
 -- of what the slots do: so many slots, from the first on, may read
 abbrev pub readers : ℕ → ℕ
-readers u = cond (ltb u 64) 3 5
+readers u = cond (ltb u 4096) 3 5
 
 -- one after the first writes
 abbrev pub later : ℕ → Bool
-later u = eqb (u / 8 % 2) 1 || eqb (u / 32 % 2) 1 || eqb (u / 128 % 2) 1 || eqb (u / 512 % 2) 1
+later u = eqb (u / 32 % 2) 1 || eqb (u / 512 % 2) 1 || eqb (u / 8192 % 2) 1 || eqb (u / 131072 % 2) 1
 
 -- so many slots, from the first on, may write
 abbrev pub writers : ℕ → ℕ
@@ -74,6 +67,6 @@ rest_reads i s = chosen reading (drop s (roles i)) (drop s (slots i))
 unfoldable pub rest_writes : Inst → ℕ → List ℕ
 rest_writes i s = chosen writing (drop s (roles i)) (drop s (slots i))
 
--- is r, of R registers, refused in a slot that asks this?
+-- is r, of R registers, refused in a slot of this role code?
 abbrev pub bad_at : ℕ → ℕ → ℕ → Bool
-bad_at R a r = cond (eqb a 0) (not (eqb r absent)) (cond (eqb a 1) (leb R r) (leb R r && not (eqb r absent)))
+bad_at R o r = cond (eqb o 0) (not (eqb r absent)) (cond (ltb o 4) (leb R r) (leb R r && not (eqb r absent)))

@@ -1,19 +1,25 @@
--- 01, "the roles of all 101 kinds become a fixed table": what `model`'s Kinds says of a kind, in numbers, and packed into
--- one number; the fields of such a number; a row resolved at a form. Assumes nothing.
-use Rattle.std.specs.Prelude.{Bool, true, false, cond, ◌&&◌, List, [], ◌∷◌, ◌++◌, map, ℕ, ◌+◌, ◌*◌, ◌/◌, ◌%◌, ◌^◌, eqb, leb, get_or}
-use Rattle.model.specs.Kinds.{Kind, Br, CondBr, Case, Slot, Def, Use, Def?, Use?, Use-but-1, Use-from-2, Def-if-1, Role, off, wr, rd, wr?, rd?, Arm, const, constF, addr_of, move, select, truth, bin, index, check, dopeLen, load, alloc, layout_of, signal, fills, store, cat, native, stops, deref, writes, other, row, kinds, place, at_form}
+-- 01, "the roles of all 101 kinds become a fixed table": what `model`'s Kinds says of a kind at a form, in numbers, and in one word;
+-- the fields of such a word; and what the printed table is to be. Assumes nothing.
+use Rattle.std.specs.Prelude.{◌≡◌, Bool, true, false, cond, ◌&&◌, List, [], ◌∷◌, map, ℕ, ◌+◌, ◌*◌, ◌/◌, ◌%◌, ◌^◌, ◌<◌, eqb, leb, get_or}
+use Rattle.model.specs.Kinds.{Kind, Br, CondBr, Case, Role, off, wr, rd, wr?, rd?, Arm, const, constF, addr_of, move, select, truth, bin, index, check, dopeLen, load, alloc, layout_of, signal, fills, store, cat, native, stops, deref, writes, other, row, kind_of, place, at_form}
 
 -- ---- numbers
 
--- a slot's; 0 is none
-abbrev pub slot_code : Slot → ℕ
-slot_code Def = 1
-slot_code Use = 2
-slot_code Def? = 3
-slot_code Use? = 4
-slot_code Use-but-1 = 5
-slot_code Use-from-2 = 6
-slot_code Def-if-1 = 7
+-- a role's: the lowest bit says that the slot is read, the next that it is written, the third that it may be absent
+abbrev pub role_code : Role → ℕ
+role_code off = 0
+role_code rd = 1
+role_code wr = 2
+role_code rd? = 5
+role_code wr? = 6
+
+-- the lower two of these bits: what a role does
+abbrev pub does : Role → ℕ
+does off = 0
+does rd = 1
+does wr = 2
+does rd? = 1
+does wr? = 2
 
 -- an arm's
 abbrev pub arm_code : Arm → ℕ
@@ -53,96 +59,55 @@ arm_at n = get_or arms n other
 abbrev pub shape_code : Kind → ℕ
 shape_code k = cond (eqb (place k) (place Br)) 1 (cond (eqb (place k) (place CondBr)) 2 (cond (eqb (place k) (place Case)) 3 0))
 
--- what a role does: 0 nothing, 1 reads, 2 writes
-abbrev pub does : Role → ℕ
-does off = 0
-does wr = 2
-does rd = 1
-does wr? = 2
-does rd? = 1
-
--- what it asks of its slot: 0 absent, 1 a register, 2 either
-abbrev pub asks : Role → ℕ
-asks off = 0
-asks wr = 1
-asks rd = 1
-asks wr? = 2
-asks rd? = 2
-
 abbrev pub bit : Bool → ℕ
 bit true = 1
 bit false = 0
 
--- ---- a row as one number: five slots of 3 bits, list 1, shape 2, arm 5, quiet 1, least form 3, greatest form 3
+-- ---- a kind at a form as one word: five slots of 4 bits, successors 2, list 1, allowed 1, arm 5, quiet 1
 
-abbrev pub slots_code : List Slot → ℕ
-slots_code [] = 0
-slots_code (s ∷ ss) = slot_code s + 8 * slots_code ss
+-- the five slots
+abbrev pub pack : List Role → ℕ
+pack os =
+    role_code (get_or os 0 off) + 16 * role_code (get_or os 1 off) + 256 * role_code (get_or os 2 off) + 4096 * role_code (get_or os 3 off)
+    + 65536 * role_code (get_or os 4 off)
 
-unfoldable pub packed : Kind → ℕ
-packed k =
-    slots_code (row k).slots + 32768 * bit (row k).list + 65536 * shape_code k + 262144 * arm_code (row k).arm
-    + 8388608 * bit (row k).quiet + 16777216 * (row k).least + 134217728 * (row k).most
+-- is the form one that a record of the kind may have?
+abbrev pub allowed_at : Kind → ℕ → Bool
+allowed_at k f = leb (row k).least f && leb f (row k).most
+
+unfoldable pub packed : Kind → ℕ → ℕ
+packed k f =
+    pack (map (at_form f) (row k).slots) + 1048576 * shape_code k + 4194304 * bit (row k).list + 8388608 * bit (allowed_at k f)
+    + 16777216 * arm_code (row k).arm + 536870912 * bit (row k).quiet
 
 -- its fields
-abbrev pub has_list : ℕ → Bool
-has_list x = eqb (x / 32768 % 2) 1
+abbrev pub uses : ℕ → ℕ
+uses x = x % 1048576
 
 abbrev pub shape : ℕ → ℕ
-shape x = x / 65536 % 4
+shape x = x / 1048576 % 4
+
+abbrev pub has_list : ℕ → Bool
+has_list x = eqb (x / 4194304 % 2) 1
+
+abbrev pub allowed : ℕ → Bool
+allowed x = eqb (x / 8388608 % 2) 1
 
 abbrev pub arm : ℕ → ℕ
-arm x = x / 262144 % 32
+arm x = x / 16777216 % 32
 
 abbrev pub quiet : ℕ → Bool
-quiet x = eqb (x / 8388608 % 2) 1
+quiet x = eqb (x / 536870912 % 2) 1
 
-abbrev pub least : ℕ → ℕ
-least x = x / 16777216 % 8
-
-abbrev pub most : ℕ → ℕ
-most x = x / 134217728 % 8
-
--- may a record of the kind have this form?
-abbrev pub allows : ℕ → ℕ → Bool
-allows x f = leb (least x) f && leb f (most x)
-
--- ---- a row resolved at a form: 2 bits a slot
-
--- the slots in the order of their numbers
-abbrev pub numbered : List Slot
-numbered = Def ∷ Use ∷ Def? ∷ Use? ∷ Use-but-1 ∷ Use-from-2 ∷ Def-if-1 ∷ []
-
--- 2 bits each, the first lowest
-abbrev pub digits : List ℕ → ℕ
-digits [] = 0
-digits (x ∷ xs) = x + 4 * digits xs
-
--- what each slot number does, and asks, at a form
-unfoldable pub acts : ℕ → ℕ
-acts f = digits (does off ∷ map (λ s. does (at_form f s)) numbered)
-
-unfoldable pub wants : ℕ → ℕ
-wants f = digits (asks off ∷ map (λ s. asks (at_form f s)) numbered)
-
--- the two bits at place k
+-- of five slots what slot k does, and with it whether it may be absent
 abbrev pub two_bits : ℕ → ℕ → ℕ
-two_bits m k = m / 2 ^ (2 * k) % 4
+two_bits m k = m / 2 ^ (4 * k) % 4
 
--- each of the row's five slots gets what m has at its number
-unfoldable pub spread : ℕ → ℕ → ℕ
-spread m x =
-    two_bits m (x % 8) + 4 * two_bits m (x / 8 % 8) + 16 * two_bits m (x / 64 % 8) + 64 * two_bits m (x / 512 % 8)
-    + 256 * two_bits m (x / 4096 % 8)
+abbrev pub three_bits : ℕ → ℕ → ℕ
+three_bits m k = m / 2 ^ (4 * k) % 8
 
--- ---- the table: a row for each kind, and behind them what its slots do at form 0, at 1 and from 2 on, 10 bits a form
+-- ---- the table
 
-unfoldable pub used : Kind → ℕ
-used k = spread (acts 0) (packed k) + 1024 * spread (acts 1) (packed k) + 1048576 * spread (acts 2) (packed k)
-
-unfoldable pub rows : List ℕ
-rows = map packed kinds ++ map used kinds
-
--- how far up in such a word a form lies
-unfoldable pub lift : ℕ → ℕ
-lift f = cond (leb 2 f) 20 (10 * f)
+-- each kind has eight words, for forms 0 to 6 and for any other, and each is what the rule gives
+abbrev pub Printed : List ℕ → Type 0
+Printed words = (w f : ℕ) → w < 101 → f < 8 → get_or words (8 * w + f) 0 ≡ packed (kind_of w) f

@@ -1,9 +1,9 @@
 // A function's records and operands beside the table of roles, and what the slots of one record do (01, "The call": `visit_mut` fixes
 // the roles): that is looked up in the table once, and then each slot goes by its place.
 ghost use Rattle.std.specs.Prelude.{◌≡◌, List, [], ◌++◌, ℕ, ◌+◌, ◌<◌};
-ghost use Rattle.model.specs.Picture.{inst, kind, absent, list_of, reads, writes};
+ghost use Rattle.model.specs.Picture.{inst, kind, form, absent, list_of, reads, writes};
 ghost use Rattle.inst.specs.Table.{packed};
-ghost use Rattle.inst.specs.Record.{word, Known, Used, Listed, uses_of, asks_of, read_at, write_at, later, readers, writers, rest_reads, rest_writes};
+ghost use Rattle.inst.specs.Record.{word, Known, Used, Listed, read_at, write_at, later, readers, writers, rest_reads, rest_writes};
 ghost use Rattle.inst.specs.Firsts.{Heads};
 ghost use Rattle.inst.specs.Index.{reg_of};
 
@@ -21,7 +21,7 @@ pub struct Code<'a> {
     pub ops: &'a [u32],
 }
 
-// Record p with what its slots do, 2 bits a slot, looked up once. They stay in one word: what all five do is mostly told by one
+// Record p with what its slots do, 4 bits a slot, looked up once. They stay in one word: what all five do is mostly told by one
 // comparison of it. (No `Record` inside: what is known of `does` says already that the record is whole.)
 #[derive(Clone, Copy)]
 pub struct Slots<'a> {
@@ -32,13 +32,13 @@ pub struct Slots<'a> {
 }
 
 impl<'a> Code<'a> {
-    // The row of record p's kind.
+    // The row of record p: of its kind at its form.
     pub fn row(&self, p: usize) -> Row
         requires { Known self.now.recs.now p }
-        ensures { result.0 ≡ packed (kind (inst self.now.recs.now p)) }
+        ensures { result.0 ≡ packed (kind (inst self.now.recs.now p)) (form (inst self.now.recs.now p)) }
     {
         let rec = Record { recs: self.recs, p };
-        self.table.row(rec.kind())
+        self.table.row(rec.kind(), rec.form())
     }
 
     // The slots of record p.
@@ -47,11 +47,10 @@ impl<'a> Code<'a> {
         ensures recs { result.recs.now ≡ self.now.recs.now }
         ensures place { result.p ≡ p }
     {
-        let rec = Record { recs: self.recs, p };
         Slots {
             recs: self.recs,
             p,
-            does: self.table.used(rec.kind(), rec.form()),
+            does: self.row(p).uses(),
         }
     }
 
@@ -98,14 +97,14 @@ impl Slots<'_> {
         ensures { result ≡ later self.now.does }
     {
         let does = self.does;
-        (does / 8 % 2 == 1) | (does / 32 % 2 == 1) | (does / 128 % 2 == 1) | (does / 512 % 2 == 1)
+        (does / 32 % 2 == 1) | (does / 512 % 2 == 1) | (does / 8192 % 2 == 1) | (does / 131072 % 2 == 1)
     }
 
     // How many slots, from the first on, may read: of most kinds three.
     pub fn readers(&self) -> usize
         ensures { result ≡ readers self.now.does }
     {
-        if self.does < 64 {
+        if self.does < 4096 {
             return 3;
         }
         SLOTS
@@ -169,7 +168,7 @@ impl Slots<'_> {
     fn last_before(&self, x: Firsts) -> Firsts
         ensures { (l : List ℕ) → Heads l [] x → Heads (rest_reads (inst self.now.recs.now self.now.p) 3 ++ l) (rest_writes (inst self.now.recs.now self.now.p) 3) result }
     {
-        if self.does < 64 {
+        if self.does < 4096 {
             return x;
         }
         self.before(3, self.before(4, x))

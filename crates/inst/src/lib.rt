@@ -2,6 +2,7 @@
 // registers it reads and writes.
 #![tactic(auto)]
 
+mod roles; // roles.rt: the table's words, printed
 pub mod table; // table.rt: the table of roles, and a row of it
 pub mod kinds; // kinds.rt: the kinds that code names
 pub mod record; // record.rt: a record's words
