@@ -13,9 +13,9 @@ use Rattle.words.proofs.Bools.{left_true, right_true, or_left, or_right, clash, 
 use Rattle.model.specs.Kinds.{row, kind_of, at_form, off, Br, CondBr, Cat, SigGather}
 use Rattle.model.specs.Picture.{Inst, inst, absent, kind, form, is_kind, roles}
 use Rattle.model.specs.Refusal.{bad_kind, bad_list, bad_branch, half_part}
-use Rattle.inst.specs.Table.{does, shape_code, packed, has_list, shape, least, most, allows, acts, two_bits, spread}
+use Rattle.inst.specs.Table.{does, shape_code, packed, allowed_at, uses, has_list, shape, two_bits}
 use Rattle.inst.specs.Record.{Within, uses_of}
-use Rattle.inst.proofs.Rows.{list_is, shape_is, least_is, most_is}
+use Rattle.inst.proofs.Rows.{list_is, shape_is, allowed_is}
 use Rattle.inst.proofs.Resolved.{uses_by}
 use Rattle.checks.specs.Causes.{bad_regs, long_cat}
 use Rattle.checks.specs.Plain.{simple, bare, odd_slot, usual, plain, Skipped}
@@ -31,7 +31,7 @@ pub record Free (R : ℕ) (i : Inst) : Type 0 where
 -- the places of the function
 module _ (R : ℕ) (i : Inst) where
   abbrev first_test : Bool
-  first_test = simple (packed (kind i)) (form i) && bare i
+  first_test = simple (packed (kind i) (form i)) && bare i
 
   abbrev rest : Bool
   rest = cond first_test (usual R (uses_of i) i) false
@@ -41,7 +41,7 @@ module _ (R : ℕ) (i : Inst) where
     unfolding plain
     not_known h = sym (ap (λ (b : Bool). cond b false rest) (lt-ltb 100 (get_or i 0 0) (rw e at h)))
 
-    module _ (h : k ≤ 100) (x f : ℕ) (s b : Bool) (ex : x ≡ packed (kind_of k)) (ef : f ≡ form i) (es : s ≡ simple x f) (eb : b ≡ bare i) where
+    module _ (h : k ≤ 100) (x f : ℕ) (s b : Bool) (ex : x ≡ packed (kind_of k) f) (ef : f ≡ form i) (es : s ≡ simple x) (eb : b ≡ bare i) where
       tested : (s && b) ≡ first_test
       tested = rw (es, eb, ex, ef, e)
 
@@ -49,8 +49,8 @@ module _ (R : ℕ) (i : Inst) where
       unfolding plain
       known_kind = sym (ap (λ (c : Bool). cond c false rest) (le-ltb 100 (get_or i 0 0) (rw e at h)))
 
-      pub plain_by : (s && b) ≡ true → (u : ℕ) (r : Bool) → u ≡ spread (acts f) (packed (kind_of k)) → r ≡ usual R u i → r ≡ plain R i
-      plain_by t u r eu er = er ∙ ap (λ (m : ℕ). usual R m i) (uses_by i e ef eu) ∙ sym (ap (λ (c : Bool). cond c (usual R (uses_of i) i) false) (sym tested ∙ t)) ∙ known_kind
+      pub plain_by : (s && b) ≡ true → (u : ℕ) (r : Bool) → u ≡ uses x → r ≡ usual R u i → r ≡ plain R i
+      plain_by t u r eu er = er ∙ ap (λ (m : ℕ). usual R m i) (uses_by i e ef ex eu) ∙ sym (ap (λ (c : Bool). cond c (usual R (uses_of i) i) false) (sym tested ∙ t)) ∙ known_kind
 
       pub not_simple : (s && b) ≡ false → false ≡ plain R i
       not_simple t = sym (ap (λ (c : Bool). cond c (usual R (uses_of i) i) false) (sym tested ∙ t)) ∙ known_kind
@@ -72,9 +72,9 @@ goes true c h = h
 goes false c h = clash h refl
 
 -- what the test of a row says of the kind
-module _ (i : Inst) (f : ℕ) (e : simple (packed (kind i)) f ≡ true) where
+module _ (i : Inst) (f : ℕ) (e : simple (packed (kind i) f) ≡ true) where
   abbrev x : ℕ
-  x = packed (kind i)
+  x = packed (kind i) f
 
   abbrev k : ℕ
   k = get_or i 0 0
@@ -83,10 +83,10 @@ module _ (i : Inst) (f : ℕ) (e : simple (packed (kind i)) f ≡ true) where
   first = left_true _ _ e
 
   no_list : (row (kind i)).list ≡ false
-  no_list = sym (list_is k) ∙ not-true (has_list x) (left_true _ _ first)
+  no_list = sym (list_is (kind i) f) ∙ not-true (has_list x) (left_true _ _ first)
 
   no_shape : shape_code (kind i) ≡ 0
-  no_shape = sym (shape_is k) ∙ eqb-true (shape x) 0 (right_true (not (has_list x)) _ first)
+  no_shape = sym (shape_is (kind i) f) ∙ eqb-true (shape x) 0 (right_true (not (has_list x)) _ first)
 
   not_cat : is_kind Cat i ≡ false
   not_cat = ne_eqb k 39 (λ q. true≢false (sym (ap (λ (m : ℕ). (row (kind_of m)).list) q) ∙ no_list))
@@ -97,14 +97,14 @@ module _ (i : Inst) (f : ℕ) (e : simple (packed (kind i)) f ≡ true) where
   not-cond_br : is_kind CondBr i ≡ false
   not-cond_br = ne_eqb k 53 (λ q. let z : ◌≡◌ {A = ℕ} 2 0 = sym (ap (λ (m : ℕ). shape_code (kind_of m)) q) ∙ no_shape in omega arith)
 
-  allowed : allows x f ≡ true
-  allowed = right_true (not (has_list x) && eqb (shape x) 0) _ e
+  may : allowed_at (kind i) f ≡ true
+  may = sym (allowed_is (kind i) f) ∙ right_true (not (has_list x) && eqb (shape x) 0) _ e
 
   from_least : ltb f (row (kind i)).least ≡ false
-  from_least = ap (ltb f) (sym (least_is k)) ∙ le-ltb f (least x) (leb-true (least x) f (left_true _ _ allowed))
+  from_least = le-ltb f (row (kind i)).least (leb-true (row (kind i)).least f (left_true _ _ may))
 
   to_most : ltb (row (kind i)).most f ≡ false
-  to_most = ap (λ (m : ℕ). ltb m f) (sym (most_is k)) ∙ le-ltb (most x) f (leb-true f (most x) (right_true (leb (least x) f) _ allowed))
+  to_most = le-ltb (row (kind i)).most f (leb-true f (row (kind i)).most (right_true (leb (row (kind i)).least f) _ may))
 
 module _ (recs : List ℕ) (p R : ℕ) (w : Within recs p) where
   abbrev j : Inst
@@ -115,22 +115,22 @@ module _ (recs : List ℕ) (p R : ℕ) (w : Within recs p) where
 
   -- a SigGather whose slots are not odd has both of its part registers
   module _ (o : usual R (uses_of j) j ≡ true) where
-    few : (ltb (uses_of j) 256 && eqb (get_or j 6 0) absent) ≡ true
+    few : (ltb (uses_of j) 65536 && eqb (get_or j 6 0) absent) ≡ true
     unfolding usual
     few = left_true _ _ o
 
     four : (odd 0 || (odd 1 || (odd 2 || odd 3))) ≡ false
     unfolding usual
-    four = not-true _ (right_true (ltb (uses_of j) 256 && eqb (get_or j 6 0) absent) _ o)
+    four = not-true _ (right_true (ltb (uses_of j) 65536 && eqb (get_or j 6 0) absent) _ o)
 
     third : (odd 2 || odd 3) ≡ false
     third = or_right (odd 1) _ (or_right (odd 0) _ four)
 
     fifth : odd 4 ≡ false
     fifth =
-        let l = ltb-true (uses_of j) 256 (left_true _ _ few) in
+        let l = ltb-true (uses_of j) 65536 (left_true _ _ few) in
         let z : two_bits (uses_of j) 4 ≡ 0 = omega arith in
-        rw (z, right_true (ltb (uses_of j) 256) _ few)
+        rw (z, right_true (ltb (uses_of j) 65536) _ few)
 
     whole : (b : Bool) → is_kind SigGather j ≡ b → half_part j ≡ false
     whole false q = rw q
@@ -152,8 +152,8 @@ module _ (recs : List ℕ) (p R : ℕ) (w : Within recs p) where
       let a = known (ltb 100 (get_or j 0 0)) (rest R j) h in
       let r = passes (ltb 100 (get_or j 0 0)) (rest R j) h in
       let t = tests (first_test R j) (usual R (uses_of j) j) r in
-      let s = left_true (simple (packed (kind j)) (form j)) (bare j) t in
-      let b = right_true (simple (packed (kind j)) (form j)) (bare j) t in
+      let s = left_true (simple (packed (kind j) (form j))) (bare j) t in
+      let b = right_true (simple (packed (kind j) (form j))) (bare j) t in
       record {
         kinds = rw (a, from_least j (form j) s, to_most j (form j) s, not_cat j (form j) s);
         regs = regs_free (goes (first_test R j) (usual R (uses_of j) j) r);

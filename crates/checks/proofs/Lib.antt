@@ -1,5 +1,6 @@
 pub mod Freed
 pub mod Given
+pub mod Targets
 pub mod Insts
 pub mod Looked
 pub mod Seen

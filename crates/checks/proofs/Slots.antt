@@ -9,11 +9,11 @@ use lib.Dec.{eqb, leb}
 use lib.ListN.{length, get_or, drop, drop_of_length-le}
 use Rattle.words.proofs.Bools.{or_left, or_right}
 use Rattle.model.specs.Kinds.{Role, off, wr, rd, wr?, rd?}
-use Rattle.model.specs.Picture.{Inst, inst, absent, roles, slots}
+use Rattle.model.specs.Picture.{Inst, inst, absent, kind, form, roles, slots}
 use Rattle.model.specs.Refusal.{bad_slot, bad_slots}
-use Rattle.inst.specs.Table.{two_bits, does}
-use Rattle.inst.specs.Record.{Within, uses_of, asks_of, bad_at}
-use Rattle.inst.proofs.Resolved.{does_slot, asks_slot, bad_is}
+use Rattle.inst.specs.Table.{packed, uses, three_bits, does}
+use Rattle.inst.specs.Record.{Within, uses_of, bad_at}
+use Rattle.inst.proofs.Resolved.{uses_resolved, does_slot, code_slot, bad_is}
 use Rattle.inst.proofs.Words.{slots_long, slot_is}
 use Rattle.checks.specs.Plain.{odd_at, odd_slot}
 
@@ -35,9 +35,13 @@ module _ (R : ℕ) where
   over [] = refl
   over (o ∷ os) = refl
 
--- slot s by what it asks
-pub asked : (i : Inst) (R s : ℕ) → s < 5 → (a r : ℕ) → a ≡ two_bits (asks_of i) s → r ≡ get_or i (2 + s) 0 → bad_at R a r ≡ bad_slot R (get_or (roles i) s off) (get_or i (2 + s) 0)
-asked i R s h a r e q = rw (e, q, asks_slot i s h) (sym (bad_is R (get_or i (2 + s) 0) (get_or (roles i) s off)))
+-- what the slots do, by the row
+pub uses_are : (i : Inst) {x u : ℕ} → x ≡ packed (kind i) (form i) → u ≡ uses x → u ≡ uses_of i
+uses_are i ex e = e ∙ ap uses ex ∙ uses_resolved i
+
+-- slot s by its role
+pub asked : (i : Inst) (R s : ℕ) → s < 5 → (a r : ℕ) → a ≡ three_bits (uses_of i) s → r ≡ get_or i (2 + s) 0 → bad_at R a r ≡ bad_slot R (get_or (roles i) s off) (get_or i (2 + s) 0)
+asked i R s h a r e q = rw (e, q, code_slot i s h) (sym (bad_is R (get_or i (2 + s) 0) (get_or (roles i) s off)))
 
 -- a slot that is not odd, b saying that it is absent and l that it is no register: where nothing is done with it, and else
 unused : (b l : Bool) → (b && not true || not b && true || not b && l) ≡ false → not b ≡ false

@@ -1,22 +1,31 @@
 // Cause 7 (01, "The call", the table): every branch of a record, wherever it stands in its block, every case target word,
 // covered by a pair or not, and every case pair.
 ghost use Rattle.std.specs.Prelude.{◌≡◌};
+ghost use Rattle.model.specs.Picture.{kind, form};
 ghost use Rattle.model.specs.Refusal.{bad_branch, bad_pairs};
+ghost use Rattle.inst.specs.Table.{packed};
+ghost use Rattle.inst.specs.Record.{Known};
 ghost use Rattle.inst.specs.Shown.{shown};
 ghost use Rattle.checks.specs.Causes.{bad_targets};
 
 use crate::lists::any_from;
-use inst::kinds::{BR, COND_BR};
 use inst::record::Record;
+use inst::table::{Row, Shape};
 
-// A branch to no block.
-pub(crate) fn bad_branch(rec: Record, blocks: usize) -> bool
+// A branch to no block. (A Case goes by its table, whose targets are looked at with all others.)
+pub(crate) fn bad_branch(row: Row, rec: Record, blocks: usize) -> bool
+    requires known { Known rec.recs.now rec.p }
+    requires row { row.0 ≡ packed (kind (shown rec)) (form (shown rec)) }
     ensures { result ≡ bad_branch blocks (shown rec.entry) }
 {
-    let k = rec.kind();
     let t = rec.payload(0) as usize;
     let f = rec.payload(1) as usize;
-    (k == BR) & (blocks <= t) | (k == COND_BR) & ((blocks <= t) | (blocks <= f))
+    match row.shape() {
+        Shape::Goes => blocks <= t,
+        Shape::Parts => (blocks <= t) | (blocks <= f),
+        Shape::Cases => false,
+        Shape::Stops => false,
+    }
 }
 
 // A case pair, its start and its length, that is empty or past its n targets. (A loop: std has no law of the items of `chunks_exact`,

@@ -2,23 +2,24 @@
 // listed or not.
 ghost use Rattle.std.specs.Prelude.{◌≡◌, ◌≤◌, leb, length};
 ghost use Rattle.std.specs.List.{list_any};
+ghost use Rattle.model.specs.Picture.{kind, form};
 ghost use Rattle.model.specs.Refusal.{bad_list};
-ghost use Rattle.inst.specs.Record.{Known};
+ghost use Rattle.inst.specs.Table.{packed};
 ghost use Rattle.inst.specs.Shown.{shown};
 ghost use Rattle.checks.specs.Causes.{bad_lists, bad_types};
 
 use inst::record::Record;
-use inst::table::Table;
+use inst::table::Row;
 
 // A list past the operands in use, or on a kind without one.
 #[tactic(auto, using(crate::proofs::Looked::has_one, crate::proofs::Looked::has_none))]
-pub(crate) fn bad_list(t: &Table, rec: Record, opers: usize) -> bool
-    requires { Known rec.recs.now rec.p }
+pub(crate) fn bad_list(row: Row, rec: Record, opers: usize) -> bool
+    requires { row.0 ≡ packed (kind (shown rec)) (form (shown rec)) }
     ensures { result ≡ bad_list opers (shown rec.entry) }
 {
     let start = rec.list_start();
     let len = rec.list_len();
-    if t.row(rec.kind()).has_list() {
+    if row.has_list() {
         return opers < start + len;
     }
     !((start == 0) & (len == 0))

@@ -23,7 +23,7 @@ pub struct Found {
 
 // Of n records. Causes 6 and 7 are of lists and targets too, which are looked at elsewhere; so what is found is not one cause, but
 // each by itself.
-#[tactic(auto, using(crate::proofs::Given::within, crate::proofs::Given::known))]
+#[tactic(auto, using(crate::proofs::Given::within, crate::proofs::Given::known, crate::proofs::Given::row_by))]
 pub fn look(
     t: &Table,
     recs: &[u32],
@@ -49,9 +49,10 @@ pub fn look(
         if bad_kind(t, rec) {
             return Err(Refusal::Kind);
         }
-        regs |= bad_regs_at(t, rec, r);
-        lists |= bad_list(t, rec, used);
-        branches |= bad_branch(rec, blocks);
+        let row = t.row(rec.kind(), rec.form());
+        regs |= bad_regs_at(row, rec, r);
+        lists |= bad_list(row, rec, used);
+        branches |= bad_branch(row, rec, blocks);
         cats |= long_cat(rec);
         p = skip(t, recs, n, r, p + 1);
     }

@@ -9,11 +9,11 @@ use inst::record::Record;
 use inst::table::{Row, Table, two_bits};
 use model::ABSENT;
 
-// A kind of this row has neither a list nor successors, and may have this form.
-fn simple(row: Row, form: u32) -> bool
-    ensures { result ≡ simple row.0 form }
+// A kind of this row has neither a list nor successors, and may have the form.
+fn simple(row: Row) -> bool
+    ensures { result ≡ simple row.0 }
 {
-    !row.has_list() & row.stops() & row.allows(form)
+    !row.has_list() & row.stops() & row.allowed()
 }
 
 // A record has no list.
@@ -44,11 +44,10 @@ fn usual(rec: Record, regs: u32, uses: u32) -> bool
     let b1 = odd_slot(rec, regs, uses, 1);
     let b2 = odd_slot(rec, regs, uses, 2);
     let b3 = odd_slot(rec, regs, uses, 3);
-    (uses < 256) & (rec.slot(4) == ABSENT) & !(b0 | (b1 | (b2 | b3)))
+    (uses < 65536) & (rec.slot(4) == ABSENT) & !(b0 | (b1 | (b2 | b3)))
 }
 
 // Is nothing found in a record?
-#[tactic(auto, using(crate::proofs::Freed::not_known, crate::proofs::Freed::plain_by, crate::proofs::Freed::not_simple))]
 fn plain(t: &Table, rec: Record, regs: u32) -> bool
     ensures { result ≡ plain regs (shown rec.entry) }
 {
@@ -56,9 +55,9 @@ fn plain(t: &Table, rec: Record, regs: u32) -> bool
     if LAST < k {
         return false;
     }
-    let f = rec.form();
-    if simple(t.row(k), f) & bare(rec) {
-        return usual(rec, regs, t.used(k, f));
+    let row = t.row(k, rec.form());
+    if simple(row) & bare(rec) {
+        return usual(rec, regs, row.uses());
     }
     false
 }
