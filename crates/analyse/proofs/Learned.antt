@@ -13,7 +13,7 @@ use lib.ListN.{get_or, length, get_or-append, get_or-eq_default}
 use lib.Seq.{get_or-append_seam}
 use Rattle.words.specs.Lists.{mem}
 use Rattle.words.proofs.Bools.{lt?, clash}
-use Rattle.model.specs.Picture.{Inst, inst, absent, kind, reads, writes}
+use Rattle.model.specs.Picture.{Inst, inst, absent, kind, form, reads, writes}
 use Rattle.model.specs.Analyse.{Facts, Fact, fact, no_fact, last_writer, may_suspend}
 use Rattle.inst.specs.Table.{packed, arm_at}
 use Rattle.inst.specs.Table as T
@@ -69,7 +69,7 @@ some_read good = record { each = λ k h e. omega (arith, good.good.each k h, goo
 -- ---- one position
 
 module _ (recs ops : List ℕ) (e : Effect) (b : Bool) (y : Input) (a : Arm) {regs regs' : List ℕ} {g p R : ℕ} {x : Firsts} (ranged : Ranged R p regs) (few : p + 1 < 1000) (good : Learnable recs ops R g)
-    (ea : arm_of a ≡ arm_at (T.arm (packed (kind (inst recs g))))) (low : Low p (inst recs g) e) (heads : Heads (reads ops (inst recs g)) (writes (inst recs g)) x)
+    (ea : arm_of a ≡ arm_at (T.arm (packed (kind (inst recs g)) (form (inst recs g))))) (low : Low p (inst recs g) e) (heads : Heads (reads ops (inst recs g)) (writes (inst recs g)) x)
     (m : Written (marked (stamp p e.org e.len (leads a y.reads e))) (inst recs g) regs regs') where
   abbrev i : Inst
   i = inst recs g

@@ -13,7 +13,7 @@ use lib.Dec.{eqb}
 use lib.ListN.{get_or, length, drop, get_or-eq_default}
 use Rattle.model.specs.Kinds.{row, cat}
 use Rattle.model.specs.Kinds as K
-use Rattle.model.specs.Picture.{Inst, inst, absent, reads, kind}
+use Rattle.model.specs.Picture.{Inst, inst, absent, reads, kind, form}
 use Rattle.model.specs.Analyse as M
 use Rattle.model.specs.Analyse.{Facts, Fact, Org, Unknown, Read, unread, last_writer, org_of, len_of, is_layout, when_some, known_of, positive, arm, pieces, placed, movable, sized, small, whole, fact}
 use Rattle.inst.specs.Table.{packed, arm_code, arm_at}
@@ -67,12 +67,12 @@ module _ (e : Effect) (q n : Bool) where
 
 -- ---- small numbers
 
-pub low_is : (i : Inst) {x : Input} {r : Effect} {v : ℕ} {a : Arm} → arm_of a ≡ arm_at (T.arm (packed (kind i))) → Right r a x → v ≤ 2004
+pub low_is : (i : Inst) {x : Input} {r : Effect} {v : ℕ} {a : Arm} → arm_of a ≡ arm_at (T.arm (packed (kind i) (form i))) → Right r a x → v ≤ 2004
     → Low x.p i (record { class = r.class; org = r.org; len = r.len; layout = r.layout; creates = r.creates; wrote = v; barrier = r.barrier; from = r.from })
 low_is i {x} {r} {v} {a} ea t h = record {
   org = t.near;
   wrote = h;
-  from = ⊎_elim (λ (l : r.from ≤ 2004). inl l) (λ (z : (r.from ≡ 4294967295) × (arm_of a ≡ cat)). inr (z.0, sym (ea ∙ arm_back (get_or i 0 0)) ∙ z.1)) t.from;
+  from = ⊎_elim (λ (l : r.from ≤ 2004). inl l) (λ (z : (r.from ≡ 4294967295) × (arm_of a ≡ cat)). inr (z.0, sym (ea ∙ arm_back (kind i) (form i)) ∙ z.1)) t.from;
 }
 
 -- ---- what is read
@@ -105,11 +105,11 @@ from_self (suc n) ps X e = go (eqb (suc n) 4294967295) e
     go false e = e
 
 -- of a record of the first arm, a Const, the constant is its whole number
-first_length : (i : Inst) (a : Arm) → arm_of a ≡ arm_at (T.arm (packed (kind i))) → a ≡ Const → small (whole i) ≡ is_length (constant_of i)
+first_length : (i : Inst) (a : Arm) → arm_of a ≡ arm_at (T.arm (packed (kind i) (form i))) → a ≡ Const → small (whole i) ≡ is_length (constant_of i)
 unfolding is_length
 first_length i a ea e =
-    let z : T.arm (packed (kind i)) ≡ 0 = arm_is (get_or i 0 0) ∙ ap arm_code (sym (ea ∙ arm_back (get_or i 0 0)) ∙ ap arm_of e) in
-    sym (ap is_length (whole_constant i (eq-eqb (get_or i 0 0) 0 (first_arm (get_or i 0 0) z))))
+    let z : T.arm (packed (kind i) (form i)) ≡ 0 = arm_is (kind i) (form i) ∙ ap arm_code (sym (ea ∙ arm_back (kind i) (form i)) ∙ ap arm_of e) in
+    sym (ap is_length (whole_constant i (eq-eqb (get_or i 0 0) 0 (first_arm (get_or i 0 0) (form i) z))))
 
 module _ (G : Facts) (past : List Fact) (ops : List ℕ) (R : ℕ) (i : Inst) (x : Input) (small_R : R ≤ 65536) (rd : (k : ℕ) → k < length (reads ops i) → get_or (reads ops i) k absent < R) (q : Asked G past ops i x) where
   us : List Read
@@ -133,24 +133,24 @@ module _ (G : Facts) (past : List Fact) (ops : List ℕ) (R : ℕ) (i : Inst) (x
   second = q.o1 ∙ sym (org_at-read G past (reads ops i) 1 here)
 
   -- what is left points to a layout, or not
-  pub led : (e : Effect) (a : Arm) → arm_of a ≡ arm_at (T.arm (packed (kind i))) → org_at e.org ≡ (fact G ops past i).does.org → e.layout ≡ (fact G ops past i).does.layout
+  pub led : (e : Effect) (a : Arm) → arm_of a ≡ arm_at (T.arm (packed (kind i) (form i))) → org_at e.org ≡ (fact G ops past i).does.org → e.layout ≡ (fact G ops past i).does.layout
       → sized (λ k. leads a x.reads e) (org_at e.org) ≡ sized (is_layout (past ++ (fact G ops past i ∷ []))) (org_at e.org)
   unfolding us effect
   led e a ea eo ey =
       let f = fact G ops past i in
       let y' = is_layout (past ++ (f ∷ [])) in
       subst (λ (o : Org). sized (λ k. leads a x.reads e) o ≡ sized y' o) (sym eo)
-      (subst (λ (A : K.Arm). e.layout ≡ (by_arm A).layout → After (is_layout past) y' (length past) (by_arm A).layout → sized (λ k. leads a x.reads e) (by_arm A).org ≡ sized y' (by_arm A).org) (ea ∙ arm_back (get_or i 0 0))
+      (subst (λ (A : K.Arm). e.layout ≡ (by_arm A).layout → After (is_layout past) y' (length past) (by_arm A).layout → sized (λ k. leads a x.reads e) (by_arm A).org ≡ sized y' (by_arm A).org) (ea ∙ arm_back (kind i) (form i))
       (leads_right i (length past) (drop 3 (map (org_of G past) us)) (when_some positive (known_of G (get_or us 1 unread).reg).konst) (λ k. get_or (map (org_of G past) us) k Unknown) (λ k. get_or (map (len_of G past) us) k false) (is_layout past) y' x e
       (subst (λ (o : Org). sized (λ k. (read_at x 0).layout) o ≡ sized (is_layout past) o) first q.layout) (subst (λ (o : Org). sized (λ k. (read_at x 1).layout) o ≡ sized (is_layout past) o) second q.layout1)
       a) ey (after_fact past f))
 
-  module _ (r : Effect) {a : Arm} (ea : arm_of a ≡ arm_at (T.arm (packed (kind i)))) (t : Right r a x) where
+  module _ (r : Effect) {a : Arm} (ea : arm_of a ≡ arm_at (T.arm (packed (kind i) (form i)))) (t : Right r a x) where
     stands : does r (pieces (get_or i 9 0) (drop 3 (map (org_of G past) us))) ≡ effect
     unfolding asked us effect
     stands =
         t.right i (drop 3 (map (org_of G past) us)) q.form q.list (λ z. first_length i a ea z ∙ q.small)
-        ∙ ap (arm i x.p x.divisor (λ k. org_at (read_at x k).org) (λ k. (read_at x k).len) (λ k. (read_at x 0).layout) (drop 3 (map (org_of G past) us))) (ea ∙ arm_back (get_or i 0 0))
+        ∙ ap (arm i x.p x.divisor (λ k. org_at (read_at x k).org) (λ k. (read_at x k).len) (λ k. (read_at x 0).layout) (drop 3 (map (org_of G past) us))) (ea ∙ arm_back (kind i) (form i))
         ∙ arm_ext i x.p (drop 3 (map (org_of G past) us)) x.divisor (when_some positive (known_of G (get_or us 1 unread).reg).konst)
         (λ k. org_at (read_at x k).org) (λ k. get_or (map (org_of G past) us) k Unknown) (λ k. (read_at x k).len) (λ k. get_or (map (len_of G past) us) k false) (λ k. (read_at x 0).layout) (is_layout past)
         (q.divisor ∙ sym (ap (λ (r : ℕ). when_some positive (known_of G r).konst) (divisor_at_read G past (reads ops i) 1)))
@@ -159,7 +159,7 @@ module _ (G : Facts) (past : List Fact) (ops : List ℕ) (R : ℕ) (i : Inst) (x
         q.layout (row (kind i)).arm
         ∙ ap (λ (n : ℕ). arm i n (when_some positive (known_of G (get_or us 1 unread).reg).konst) (λ k. get_or (map (org_of G past) us) k Unknown) (λ k. get_or (map (len_of G past) us) k false) (is_layout past) (drop 3 (map (org_of G past) us)) (row (kind i)).arm) q.p
 
-    pub judged : {v : ℕ} → wrote_at v ≡ fill_in (wrote_at r.wrote) (movable (class_of r.class) || r.barrier || T.quiet (packed (kind i)) || eqb (get_or i 0 0) 58)
+    pub judged : {v : ℕ} → wrote_at v ≡ fill_in (wrote_at r.wrote) (movable (class_of r.class) || r.barrier || T.quiet (packed (kind i) (form i)) || eqb (get_or i 0 0) 58)
         → Judged (record { class = r.class; org = r.org; len = r.len; layout = r.layout; creates = r.creates; wrote = v; barrier = r.barrier; from = r.from }) (fact G ops past i)
     unfolding does fill_in us effect
     judged {v} w = record {
@@ -169,6 +169,6 @@ module _ (G : Facts) (past : List Fact) (ops : List ℕ) (R : ℕ) (i : Inst) (x
       layout = ap (λ (e : M.Effect). e.layout) stands;
       creates = ap (λ (e : M.Effect). e.creates) stands;
       barrier = ap (λ (e : M.Effect). e.barrier) stands;
-      wrote = w ∙ ap (λ (b : Bool). fill_in (wrote_at r.wrote) (movable (class_of r.class) || r.barrier || b || eqb (get_or i 0 0) 58)) (quiet_is (get_or i 0 0)) ∙ ap (λ (e : M.Effect). placed i e) stands;
+      wrote = w ∙ ap (λ (b : Bool). fill_in (wrote_at r.wrote) (movable (class_of r.class) || r.barrier || b || eqb (get_or i 0 0) 58)) (quiet_is (kind i) (form i)) ∙ ap (λ (e : M.Effect). placed i e) stands;
       from = from_self r.from (pieces (get_or i 9 0) (drop 3 (map (org_of G past) us))) _ (ap (λ (e : M.Effect). e.from) stands);
     }

@@ -1,6 +1,6 @@
 // What the instruction at a position does (01, "The legal set": `analyse` and `writes_nothing` of 000).
 ghost use Rattle.std.specs.Prelude.{◌≡◌, ◌||◌, List, ℕ, ◌≤◌, length};
-ghost use Rattle.model.specs.Picture.{inst, kind, reads, writes};
+ghost use Rattle.model.specs.Picture.{inst, kind, form, reads, writes};
 ghost use Rattle.model.specs.Analyse.{Facts, Fact, fact, movable};
 ghost use Rattle.inst.specs.Table.{packed};
 ghost use Rattle.inst.specs.Record.{Within, Known};
@@ -57,7 +57,7 @@ fn placed(e: Effect, quiet: bool, native: bool) -> u32
 
 // What record g does, by the row of its kind and what it asks.
 pub(crate) fn judge(recs: &[u32], g: usize, m: Row, y: Input) -> Effect
-    requires { Known recs.now g × (m.0 ≡ packed (kind (inst recs.now g))) }
+    requires { Known recs.now g × (m.0 ≡ packed (kind (inst recs.now g)) (form (inst recs.now g))) }
     ensures { Low y.p (inst recs.now g) result × ((ops : List ℕ) (G : Facts) (past : List Fact) (R : ℕ) → R ≤ 65536 → Good recs.now ops R g → Asked G past ops (inst recs.now g) y → Judged result (fact G ops past (inst recs.now g))) }
 {
     let e = Arm::of(m).effect(y);

@@ -53,16 +53,16 @@ take_two xs a h =
     ∙ ap (λ (l : List ℕ). get_or xs a 0 ∷ l) (take_one xs (a + 1) h)
 
 -- the shape that the code looks up
-pub shape_is : {s : Shape} {m k w : ℕ} → s ≡ shape_of (shape m) → m ≡ packed (kind_of k) → k ≡ w → s ≡ shape_of (shape (packed (kind_of w)))
-shape_is e q h = e ∙ ap (λ (m : ℕ). shape_of (shape m)) (q ∙ ap (λ (k : ℕ). packed (kind_of k)) h)
+pub shape_is : (f : ℕ) {s : Shape} {m k w : ℕ} → s ≡ shape_of (shape m) → m ≡ packed (kind_of k) f → k ≡ w → s ≡ shape_of (shape (packed (kind_of w) f))
+shape_is f e q h = e ∙ ap (λ (m : ℕ). shape_of (shape m)) (q ∙ ap (λ (k : ℕ). packed (kind_of k) f) h)
 
 -- the words that the code takes for a shape are those that its end names
-module _ (bounds recs pairs targets : List ℕ) (p : ℕ) {s : Shape} (w : Known recs p) (e : s ≡ shape_of (shape (packed (kind (inst recs p))))) where
+module _ (bounds recs pairs targets : List ℕ) (p f : ℕ) {s : Shape} (w : Known recs p) (e : s ≡ shape_of (shape (packed (kind (inst recs p)) f))) where
   abbrev goes_on : End → List ℕ
   goes_on = end_succs (drawn bounds recs [] pairs targets)
 
   ends_as : (t : Shape) → s ≡ t → EndsAs t (inst recs p)
-  ends_as t h = ends (inst recs p) w.kind (sym h ∙ e)
+  ends_as t h = ends (inst recs p) f w.kind (sym h ∙ e)
 
   no_end : s ≡ Stops → {l : List ℕ} → l ≡ take 0 (drop (16 * p + 9) recs) → l ≡ goes_on (end_of (inst recs p))
   no_end h q = q ∙ ap goes_on (sym (ends_as Stops h))

@@ -63,7 +63,7 @@ impl<'a> Func<'a> {
         ensures { result.now ≡ end_succs (drawn_of self.now) (end_of (inst self.now.recs.now p)) }
     {
         let rec = Record { recs: self.recs, p };
-        let shape = self.table.row(rec.kind()).shape();
+        let shape = self.table.row(rec.kind(), rec.form()).shape();
         if matches!(shape, Shape::Cases) {
             return self.case_targets(rec.payload(0));
         }

@@ -14,8 +14,8 @@ use Rattle.model.specs.Kinds as K
 use Rattle.model.specs.Picture.{Inst, inst, absent, roles, writes}
 use Rattle.model.specs.Move.{changes}
 use Rattle.laws.proofs.Made.{same_roles}
-use Rattle.inst.specs.Table.{does}
-use Rattle.inst.specs.Record.{Within, Used, uses_of, pack, write_at, present}
+use Rattle.inst.specs.Table.{pack}
+use Rattle.inst.specs.Record.{Within, Used, uses_of, write_at, present}
 use Rattle.inst.proofs.Rest.{writes_by_place}
 use Rattle.inst.proofs.Words.{word_is}
 use Rattle.rename.specs.Names.{named, reg_or, pick, put_name, job, Fit, Remade, Forgot}
@@ -129,7 +129,7 @@ module _ {q o u d r : ℕ} {ws xs ys ops ops' : List ℕ} (l : Line (length ws) 
 
   pub used_after : Used ys q d
   unfolding uses_of
-  used_after = record { within = within; uses = e ∙ ap (pack does) (sym roles_same) }
+  used_after = record { within = within; uses = e ∙ ap pack (sym roles_same) }
 
   one_same : (x : K.Role) (w : ℕ) → cond (K.writing x) (one (named ws) (reg_or absent) x w) absent ≡ cond (K.writing x) w absent
   one_same K.off w = refl

@@ -34,7 +34,7 @@ fn pass(
     ensures { Passed q o k.goes (word_of k.def) k.new names.old names.new recs.old recs.new ops.old ops.new result }
 {
     let rec = Record { recs, p: q };
-    let does = t.used(rec.kind(), rec.form());
+    let does = t.row(rec.kind(), rec.form()).uses();
     if !k.goes {
         let slots = Slots { recs, p: q, does };
         forget(&slots, names);
@@ -82,7 +82,7 @@ fn own(t: &Table, recs: &mut [u32], q: usize, ops: &mut [u32], o: usize, names: 
     ensures { Owned q o names.old names.new recs.old recs.new ops.old ops.new result }
 {
     let rec = Record { recs, p: q };
-    let does = t.used(rec.kind(), rec.form());
+    let does = t.row(rec.kind(), rec.form()).uses();
     let anew = Anew { names, new: ABSENT };
     let r = remake(recs, q, does, ops, o, anew);
     let slots = Slots { recs, p: q, does };
