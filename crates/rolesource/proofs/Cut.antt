@@ -6,7 +6,7 @@ use Rattle.std.proofs.lemmas.List.{drop_min}
 use Rattle.rolesource.specs.Text.{before, after, past, line, lines, word}
 
 abbrev is : ℕ → ℕ → Bool
-is b x = eqb x b
+is b = λ x. eqb x b
 
 one : (n : ℕ) → 1 + n ≡ suc n
 one n = omega arith
@@ -48,14 +48,20 @@ ends (x ∷ xs) =
 pub lines_are : (xs : List ℕ) → count_by (is 10) xs ≡ lines xs
 lines_are xs = sym (length-filter (is 10) xs) ∙ ends xs
 
--- what is left of a text, as a slice has it
-pub all_left : (xs : List ℕ) (n : ℕ) → take (length xs - n) (drop n xs) ≡ drop n xs
-all_left xs n = take_all (length xs - n) (drop n xs) (omega (arith, length-drop n xs))
+-- as slices have them
+pub before_at : (b : ℕ) (xs : List ℕ) → before b xs ≡ take (position_or_len (λ x. eqb x b) xs) xs
+before_at b xs = sym (before_is b xs)
 
-pub to_end : (xs : List ℕ) (n m : ℕ) → m ≡ min (length xs) n → take (length xs - m) (drop m xs) ≡ drop n xs
-to_end xs n m e =
+pub past_at : (b : ℕ) (xs : List ℕ) → past b xs ≡ take (length xs - prefix_len (λ x. eqb x b) xs) (drop (prefix_len (λ x. eqb x b) xs) xs)
+past_at b xs =
+    let n : ℕ = prefix_len (is b) xs in
+    sym (past_is b xs) ∙ sym (take_all (length xs - n) (drop n xs) (omega (arith, length-drop n xs)))
+
+pub after_at : (b m : ℕ) (xs : List ℕ) → m ≡ min (length xs) (position_or_len (λ x. eqb x b) xs + 1) → after b xs ≡ take (length xs - m) (drop m xs)
+after_at b m xs e =
+    let n : ℕ = position_or_len (is b) xs + 1 in
     let k : m ≡ min n (length xs) = omega arith in
-    all_left xs m ∙ ap (λ (i : ℕ). drop i xs) k ∙ drop_min n xs
+    sym (after_is b xs) ∙ sym (drop_min n xs) ∙ ap (λ (i : ℕ). drop i xs) (sym k) ∙ sym (take_all (length xs - m) (drop m xs) (omega (arith, length-drop m xs)))
 
 -- ---- one more, and the last
 

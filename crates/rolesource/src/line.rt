@@ -4,7 +4,7 @@ ghost use Rattle.std.specs.List.{list_all, range_with_len};
 ghost use Rattle.std.specs.Str.{bytes_eq};
 ghost use Rattle.std.specs.Fmt.{decimal};
 ghost use Rattle.rolesource.specs.Text.{word};
-ghost use Rattle.rolesource.specs.Line.{is_slot, digit, are_slots, place_in, shape_of, arm_of, is_or_dash, least, most, are_forms, allowed, is_change, are_changes, slots_at, is_name_letter, is_name, is_kind, is_note};
+ghost use Rattle.rolesource.specs.Line.{is_slot, digit, are_slots, place_in, shape_of, arm_of, is_or_dash, are_forms, allowed, is_change, are_changes, slots_at, is_name_letter, is_name, is_kind, is_note};
 
 use crate::text::{byte, word};
 use itoa::Buffer;
@@ -58,6 +58,7 @@ fn are_slots(w: &[u8]) -> bool
 }
 
 // A word's place among the first n of a text, or n.
+#[tactic(auto, using(crate::proofs::Placed::place_here, crate::proofs::Placed::place_on, crate::proofs::Placed::place_none))]
 fn place_in(t: &[u8], n: usize, w: &[u8]) -> usize
     ensures same { result ≡ place_in t.now n w.now }
     ensures within { result ≤ n }
@@ -160,6 +161,7 @@ fn are_changes(line: &[u8]) -> bool
 }
 
 // The slots at the form f, a digit: those that a change of f gives, or else those of the kind.
+#[tactic(auto, using(crate::proofs::Placed::slots_here, crate::proofs::Placed::slots_on, crate::proofs::Placed::slots_none))]
 pub fn slots_at(line: &[u8], f: u8) -> &[u8]
     ensures { result.now ≡ slots_at f line.now }
 {
@@ -202,6 +204,7 @@ fn is_numbered(k: usize, line: &[u8]) -> bool
 }
 
 // A line of kind k.
+#[tactic(auto, unfolding(crate::specs::Line::is_kind))]
 pub fn is_kind(line: &[u8], k: usize) -> bool
     ensures { result ≡ is_kind k line.now }
 {

@@ -20,6 +20,7 @@ fn run(text: &[u8], b: u8) -> usize
 }
 
 // What stands before the first b.
+#[tactic(auto, using(crate::proofs::Cut::before_at))]
 fn before(text: &[u8], b: u8) -> &[u8]
     ensures { result.now ≡ before b text.now }
 {
@@ -27,6 +28,7 @@ fn before(text: &[u8], b: u8) -> &[u8]
 }
 
 // What stands after it.
+#[tactic(auto, using(crate::proofs::Cut::after_at))]
 fn after(text: &[u8], b: u8) -> &[u8]
     ensures { result.now ≡ after b text.now }
 {
@@ -34,6 +36,7 @@ fn after(text: &[u8], b: u8) -> &[u8]
 }
 
 // What is left behind the bs at the head.
+#[tactic(auto, using(crate::proofs::Cut::past_at))]
 fn past(text: &[u8], b: u8) -> &[u8]
     ensures { result.now ≡ past b text.now }
 {
@@ -41,6 +44,7 @@ fn past(text: &[u8], b: u8) -> &[u8]
 }
 
 // Line n, from 0.
+#[tactic(auto, using(crate::proofs::Cut::line_more, crate::proofs::Cut::line_last))]
 pub fn line(text: &[u8], n: usize) -> &[u8]
     ensures { result.now ≡ line n text.now }
 {
@@ -52,6 +56,7 @@ pub fn line(text: &[u8], n: usize) -> &[u8]
 }
 
 // How many lines end.
+#[tactic(auto, using(crate::proofs::Cut::lines_are))]
 pub fn lines(text: &[u8]) -> usize
     ensures count { result ≡ lines text.now }
     ensures few { result ≤ length text.now }
@@ -60,6 +65,7 @@ pub fn lines(text: &[u8]) -> usize
 }
 
 // Word k of a line, from 0.
+#[tactic(auto, using(crate::proofs::Cut::word_more, crate::proofs::Cut::word_last))]
 pub fn word(line: &[u8], k: usize) -> &[u8]
     ensures { result.now ≡ word k line.now }
 {
