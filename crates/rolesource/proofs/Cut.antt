@@ -1,5 +1,5 @@
 -- A text cut at a byte, by how many stand before it or are it; lines and words one after the other. Assumes nothing.
-use Rattle.std.proofs.Common.{◌≡◌, refl, sym, ap, ◌∙◌, Bool, true, false, not, cond, ℕ, suc, ◌+◌, ◌-◌, ◌<◌, ◌≤◌, eqb, List, [], ◌∷◌, length, take, drop, count_by, min, take_all, length-drop, arith}
+use Rattle.std.proofs.Common.{◌≡◌, refl, sym, ap, ◌∙◌, Bool, true, false, not, cond, ℕ, suc, ◌+◌, ◌-◌, ◌<◌, ◌≤◌, eqb, List, [], ◌∷◌, length, take, drop, count_by, min, take_all, length-drop, suc-add, arith}
 use Rattle.std.specs.List.{position_or_len, prefix_len, filter}
 use Rattle.std.proofs.lemmas.List.Sums.{length-filter}
 use Rattle.std.proofs.lemmas.List.{drop_min}
@@ -13,30 +13,38 @@ one n = omega arith
 
 -- ---- a byte
 
-pub before_is : (b : ℕ) (xs : List ℕ) → take (position_or_len (is b) xs) xs ≡ before b xs
+pub before_is : (b : ℕ) (xs : List ℕ) → before b xs ≡ take (position_or_len (is b) xs) xs
 unfolding before
 before_is b [] = refl
 before_is b (x ∷ xs) =
     let m : ℕ = position_or_len (is b) xs in
-    elim (eqb x b) as (λ (v : Bool). take (cond (not v) (1 + m) 0) (x ∷ xs) ≡ cond v [] (x ∷ before b xs))
-    [ true ↦ refl | false ↦ ap (λ (n : ℕ). take n (x ∷ xs)) (one m) ∙ ap (λ (l : List ℕ). x ∷ l) (before_is b xs) ]
+    elim (eqb x b) as (λ (v : Bool). cond v [] (x ∷ before b xs) ≡ take (cond (not v) (1 + m) 0) (x ∷ xs))
+    [ true ↦ refl | false ↦ rw one (ap (λ (l : List ℕ). x ∷ l) (before_is b xs)) ]
 
-pub after_is : (b : ℕ) (xs : List ℕ) → drop (position_or_len (is b) xs + 1) xs ≡ after b xs
+pub after_is : (b : ℕ) (xs : List ℕ) → after b xs ≡ drop (position_or_len (is b) xs + 1) xs
 unfolding after
 after_is b [] = refl
 after_is b (x ∷ xs) =
     let m : ℕ = position_or_len (is b) xs in
-    let e : 1 + m + 1 ≡ suc (m + 1) = omega arith in
-    elim (eqb x b) as (λ (v : Bool). drop (cond (not v) (1 + m) 0 + 1) (x ∷ xs) ≡ cond v xs (after b xs))
-    [ true ↦ refl | false ↦ ap (λ (n : ℕ). drop n (x ∷ xs)) e ∙ after_is b xs ]
+    elim (eqb x b) as (λ (v : Bool). cond v xs (after b xs) ≡ drop (cond (not v) (1 + m) 0 + 1) (x ∷ xs))
+    [ true ↦ refl | false ↦ rw (one, suc-add) (after_is b xs) ]
 
-pub past_is : (b : ℕ) (xs : List ℕ) → drop (prefix_len (is b) xs) xs ≡ past b xs
+pub past_is : (b : ℕ) (xs : List ℕ) → past b xs ≡ drop (prefix_len (is b) xs) xs
 unfolding past
 past_is b [] = refl
 past_is b (x ∷ xs) =
     let m : ℕ = prefix_len (is b) xs in
-    elim (eqb x b) as (λ (v : Bool). drop (cond v (1 + m) 0) (x ∷ xs) ≡ cond v (past b xs) (x ∷ xs))
-    [ true ↦ ap (λ (n : ℕ). drop n (x ∷ xs)) (one m) ∙ past_is b xs | false ↦ refl ]
+    elim (eqb x b) as (λ (v : Bool). cond v (past b xs) (x ∷ xs) ≡ drop (cond v (1 + m) 0) (x ∷ xs))
+    [ true ↦ rw one (past_is b xs) | false ↦ refl ]
+
+-- what is left from place m on, as a slice has it
+pub all_left : (xs : List ℕ) (m : ℕ) → take (length xs - m) (drop m xs) ≡ drop m xs
+all_left xs m = take_all (length xs - m) (drop m xs) (omega (arith, length-drop m xs))
+
+pub to_end : (xs : List ℕ) (n m : ℕ) → m ≡ min (length xs) n → drop m xs ≡ drop n xs
+to_end xs n m e =
+    let k : m ≡ min n (length xs) = omega arith in
+    rw k (drop_min n xs)
 
 ends : (xs : List ℕ) → length (filter (is 10) xs) ≡ lines xs
 unfolding lines
@@ -47,21 +55,6 @@ ends (x ∷ xs) =
 
 pub lines_are : (xs : List ℕ) → count_by (is 10) xs ≡ lines xs
 lines_are xs = sym (length-filter (is 10) xs) ∙ ends xs
-
--- as slices have them
-pub before_at : (b : ℕ) (xs : List ℕ) → before b xs ≡ take (position_or_len (λ x. eqb x b) xs) xs
-before_at b xs = sym (before_is b xs)
-
-pub past_at : (b : ℕ) (xs : List ℕ) → past b xs ≡ take (length xs - prefix_len (λ x. eqb x b) xs) (drop (prefix_len (λ x. eqb x b) xs) xs)
-past_at b xs =
-    let n : ℕ = prefix_len (is b) xs in
-    sym (past_is b xs) ∙ sym (take_all (length xs - n) (drop n xs) (omega (arith, length-drop n xs)))
-
-pub after_at : (b m : ℕ) (xs : List ℕ) → m ≡ min (length xs) (position_or_len (λ x. eqb x b) xs + 1) → after b xs ≡ take (length xs - m) (drop m xs)
-after_at b m xs e =
-    let n : ℕ = position_or_len (is b) xs + 1 in
-    let k : m ≡ min n (length xs) = omega arith in
-    sym (after_is b xs) ∙ sym (drop_min n xs) ∙ ap (λ (i : ℕ). drop i xs) (sym k) ∙ sym (take_all (length xs - m) (drop m xs) (omega (arith, length-drop m xs)))
 
 -- ---- one more, and the last
 

@@ -20,7 +20,7 @@ fn run(text: &[u8], b: u8) -> usize
 }
 
 // What stands before the first b.
-#[tactic(auto, using(crate::proofs::Cut::before_at))]
+#[tactic(auto, using(crate::proofs::Cut::before_is))]
 fn before(text: &[u8], b: u8) -> &[u8]
     ensures { result.now ≡ before b text.now }
 {
@@ -28,7 +28,7 @@ fn before(text: &[u8], b: u8) -> &[u8]
 }
 
 // What stands after it.
-#[tactic(auto, using(crate::proofs::Cut::after_at))]
+#[tactic(auto, using(crate::proofs::Cut::after_is, crate::proofs::Cut::all_left, crate::proofs::Cut::to_end))]
 fn after(text: &[u8], b: u8) -> &[u8]
     ensures { result.now ≡ after b text.now }
 {
@@ -36,7 +36,7 @@ fn after(text: &[u8], b: u8) -> &[u8]
 }
 
 // What is left behind the bs at the head.
-#[tactic(auto, using(crate::proofs::Cut::past_at))]
+#[tactic(auto, using(crate::proofs::Cut::past_is, crate::proofs::Cut::all_left))]
 fn past(text: &[u8], b: u8) -> &[u8]
     ensures { result.now ≡ past b text.now }
 {
