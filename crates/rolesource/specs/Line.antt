@@ -69,9 +69,13 @@ is_change k l =
     ltb 2 (length (word k l)) && eqb (get_or (word k l) 1 0) 61 && are_slots (drop 2 (word k l)) && allowed (get_or (word k l) 0 0) l
     && (eqb k 8 || ltb (get_or (word (k - 1) l) 0 0) (get_or (word k l) 0 0))
 
+-- it says so, or is not there
+abbrev pub may_stand : ℕ → List ℕ → Bool
+may_stand k l = eqb (length (word k l)) 0 || is_change k l
+
 -- words 8 to 14 say so, as many as there are, and there are no more
 abbrev pub are_changes : List ℕ → Bool
-are_changes l = all (λ k. eqb (length (word k l)) 0 || is_change k l) (range 8 7) && eqb (length (word 15 l)) 0
+are_changes l = all (λ k. may_stand k l) (range 8 7) && eqb (length (word 15 l)) 0
 
 -- the slots at the form f, a digit: those that a change of f gives, or else those of the kind. n words from k on are looked at
 unfoldable pub slots_from : ℕ → ℕ → ℕ → List ℕ → List ℕ

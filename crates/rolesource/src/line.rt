@@ -1,10 +1,10 @@
 // A line of the list of kinds, word by word (specs/Line).
-ghost use Rattle.std.specs.Prelude.{◌≡◌, ◌≤◌, ◌||◌, eqb, length, drop};
+ghost use Rattle.std.specs.Prelude.{◌≡◌, ◌≤◌, drop};
 ghost use Rattle.std.specs.List.{list_all, range_with_len};
 ghost use Rattle.std.specs.Str.{bytes_eq};
 ghost use Rattle.std.specs.Fmt.{decimal};
 ghost use Rattle.rolesource.specs.Text.{word};
-ghost use Rattle.rolesource.specs.Line.{is_slot, digit, are_slots, place_in, shape_of, arm_of, is_or_dash, are_forms, allowed, is_change, are_changes, slots_at, is_name_letter, is_name, is_kind, is_note};
+ghost use Rattle.rolesource.specs.Line.{is_slot, digit, are_slots, place_in, shape_of, arm_of, is_or_dash, are_forms, allowed, is_change, may_stand, are_changes, slots_at, is_name_letter, is_name, is_kind, is_note};
 
 use crate::text::{byte, word};
 use itoa::Buffer;
@@ -15,6 +15,7 @@ const SUCCESSORS: &[u8] = b"- goes parts cases";
 const ARMS: &[u8] =
     b"const constF addr_of move select truth bin index check dopeLen load alloc layout_of signal fills store cat native stops deref writes other";
 
+// What may stand in words 3 and 6.
 const DASH: &[u8] = b"-";
 
 const LIST: &[u8] = b"list";
@@ -42,14 +43,14 @@ pub fn digit(c: u8) -> u8
     }
 }
 
-// Each byte is one.
+// Each byte is a slot's letter.
 fn all_slots(w: &[u8]) -> bool
     ensures { result ≡ list_all (λ c. is_slot c) w.now }
 {
     w.iter().all(|c| is_slot(*c))
 }
 
-// The slots of a kind, one letter each.
+// The slots of a kind, one letter each, five at most.
 #[tactic(auto, using(crate::proofs::Every::all_is))]
 fn are_slots(w: &[u8]) -> bool
     ensures { result ≡ are_slots w.now }
@@ -138,16 +139,16 @@ fn is_change(k: usize, line: &[u8]) -> bool
         & ((k == 8) | (earlier < f))
 }
 
-// It does, or it is not there.
+// Word k says so, or is not there.
 fn may_stand(k: usize, line: &[u8]) -> bool
-    ensures { result ≡ (eqb (length (word k line.now)) 0 || is_change k line.now) }
+    ensures { result ≡ may_stand k line.now }
 {
     word(line, k).is_empty() | is_change(k, line)
 }
 
-// So each of words 8 to 14.
+// Each of words 8 to 14 does.
 fn all_stand(line: &[u8]) -> bool
-    ensures { result ≡ list_all (λ k. eqb (length (word k line.now)) 0 || is_change k line.now) (range_with_len 8 7) }
+    ensures { result ≡ list_all (λ k. may_stand k line.now) (range_with_len 8 7) }
 {
     (8..15).all(|k| may_stand(k, line))
 }
@@ -181,7 +182,7 @@ fn is_name_letter(c: u8) -> bool
     (b'0' <= c) & (c <= b'9') | (b'A' <= c) & (c <= b'Z') | (b'a' <= c) & (c <= b'z')
 }
 
-// Each byte is one.
+// Each byte is a letter of a name.
 fn all_letters(w: &[u8]) -> bool
     ensures { result ≡ list_all (λ c. is_name_letter c) w.now }
 {
