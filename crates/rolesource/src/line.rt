@@ -59,7 +59,7 @@ fn are_slots(w: &[u8]) -> bool
 }
 
 // A word's place among the first n of a text, or n.
-#[tactic(auto, using(crate::proofs::Placed::place_here, crate::proofs::Placed::place_on, crate::proofs::Placed::place_none))]
+#[tactic(auto, using(crate::proofs::Placed::place, crate::proofs::Placed::place_none))]
 fn place_in(t: &[u8], n: usize, w: &[u8]) -> usize
     ensures same { result ≡ place_in t.now n w.now }
     ensures within { result ≤ n }
@@ -162,7 +162,7 @@ fn are_changes(line: &[u8]) -> bool
 }
 
 // The slots at the form f, a digit: those that a change of f gives, or else those of the kind.
-#[tactic(auto, using(crate::proofs::Placed::slots_here, crate::proofs::Placed::slots_on, crate::proofs::Placed::slots_none))]
+#[tactic(auto, using(crate::proofs::Placed::slots, crate::proofs::Placed::slots_none))]
 pub fn slots_at(line: &[u8], f: u8) -> &[u8]
     ensures { result.now ≡ slots_at f line.now }
 {
