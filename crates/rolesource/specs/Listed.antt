@@ -1,5 +1,5 @@
 -- The whole list: which of its lines is the first that cannot stand there. Assumes nothing.
-use Rattle.std.specs.Prelude.{Bool, cond, not, ◌&&◌, ◌||◌, List, ℕ, zero, suc, eqb, leb, ltb, length}
+use Rattle.std.specs.Prelude.{Bool, true, false, cond, not, ◌&&◌, ◌||◌, List, [], ◌∷◌, ℕ, zero, suc, ◌+◌, eqb, leb, ltb, length}
 use Rattle.std.specs.Str.{bytes_eq}
 use Rattle.words.specs.Lists.{any, upto}
 use Rattle.rolesource.specs.Text.{line, lines, word}
