@@ -1,7 +1,7 @@
 -- A line of the list of kinds, word by word: number, name, slots, list, successors, arm, quiet, forms, and then what forms change.
 -- Words 2 and 8 on follow 001's `visit_mut`, 4 the kinds that end a block, 5 and 6 000's `analyse` and `writes_nothing`. Assumes
 -- nothing.
-use Rattle.std.specs.Prelude.{Bool, true, false, cond, not, ◌&&◌, ◌||◌, List, [], ◌∷◌, map, ℕ, zero, suc, ◌+◌, ◌-◌, eqb, leb, ltb, get_or, length, drop, codes}
+use Rattle.std.specs.Prelude.{Bool, cond, ◌&&◌, ◌||◌, List, ℕ, zero, suc, ◌-◌, eqb, leb, ltb, get_or, length, drop, codes}
 use Rattle.std.specs.Str.{bytes_eq}
 use Rattle.std.specs.Fmt.{decimal}
 use Rattle.words.specs.Lists.{all, any, range}
@@ -22,7 +22,7 @@ are_slots w = ltb 0 (length w) && leb (length w) 5 && all is_slot w
 
 -- ---- words that are one of several: a word's place among the first n of a text, or n
 
-pub place_from : List ℕ → List ℕ → ℕ → ℕ → ℕ
+unfoldable pub place_from : List ℕ → List ℕ → ℕ → ℕ → ℕ
 place_from t w k zero = k
 place_from t w k (suc n) = cond (bytes_eq w (word k t)) k (place_from t w (suc k) n)
 
@@ -69,12 +69,16 @@ is_change k l =
     ltb 2 (length (word k l)) && eqb (get_or (word k l) 1 0) 61 && are_slots (drop 2 (word k l)) && allowed (get_or (word k l) 0 0) l
     && (eqb k 8 || ltb (get_or (word (k - 1) l) 0 0) (get_or (word k l) 0 0))
 
+-- it says so, or is not there
+abbrev pub may_stand : ℕ → List ℕ → Bool
+may_stand k l = eqb (length (word k l)) 0 || is_change k l
+
 -- words 8 to 14 say so, as many as there are, and there are no more
 abbrev pub are_changes : List ℕ → Bool
-are_changes l = all (λ k. eqb (length (word k l)) 0 || is_change k l) (range 8 7) && eqb (length (word 15 l)) 0
+are_changes l = all (λ k. may_stand k l) (range 8 7) && eqb (length (word 15 l)) 0
 
 -- the slots at the form f, a digit: those that a change of f gives, or else those of the kind. n words from k on are looked at
-pub slots_from : ℕ → ℕ → ℕ → List ℕ → List ℕ
+unfoldable pub slots_from : ℕ → ℕ → ℕ → List ℕ → List ℕ
 slots_from f k zero l = word 2 l
 slots_from f k (suc n) l = cond (eqb (get_or (word k l) 0 0) f) (drop 2 (word k l)) (slots_from f (suc k) n l)
 
@@ -86,10 +90,14 @@ slots_at f l = slots_from f 8 7 l
 abbrev pub is_name_letter : ℕ → Bool
 is_name_letter c = leb 48 c && leb c 57 || leb 65 c && leb c 90 || leb 97 c && leb c 122
 
+-- a name: it is not empty
+abbrev pub is_name : List ℕ → Bool
+is_name w = ltb 0 (length w) && all is_name_letter w
+
 -- a line of kind k: at most 100 bytes, and each word what it has to be
-pub is_kind : ℕ → List ℕ → Bool
+unfoldable pub is_kind : ℕ → List ℕ → Bool
 is_kind k l =
-    leb (length l) 100 && bytes_eq (word 0 l) (decimal k) && ltb 0 (length (word 1 l)) && all is_name_letter (word 1 l) && are_slots (word 2 l)
+    leb (length l) 100 && bytes_eq (word 0 l) (decimal k) && is_name (word 1 l) && are_slots (word 2 l)
     && is_or_dash (codes "list") (word 3 l) && ltb (shape_of l) 4 && ltb (arm_of l) 22 && is_or_dash (codes "quiet") (word 6 l)
     && are_forms (word 7 l) && are_changes l
 

@@ -2,30 +2,30 @@
 use Rattle.std.specs.Prelude.{cond, List, [], ◌∷◌, ℕ, zero, suc, eqb}
 
 -- what stands before the first b, and after it
-pub before : ℕ → List ℕ → List ℕ
+unfoldable pub before : ℕ → List ℕ → List ℕ
 before b [] = []
 before b (x ∷ xs) = cond (eqb x b) [] (x ∷ before b xs)
 
-pub after : ℕ → List ℕ → List ℕ
+unfoldable pub after : ℕ → List ℕ → List ℕ
 after b [] = []
 after b (x ∷ xs) = cond (eqb x b) xs (after b xs)
 
 -- what is left behind the bs that stand at the head
-pub past : ℕ → List ℕ → List ℕ
+unfoldable pub past : ℕ → List ℕ → List ℕ
 past b [] = []
 past b (x ∷ xs) = cond (eqb x b) (past b xs) (x ∷ xs)
 
 -- line n of a text, from 0; byte 10 ends a line
-pub line : ℕ → List ℕ → List ℕ
+unfoldable pub line : ℕ → List ℕ → List ℕ
 line zero t = before 10 t
 line (suc n) t = line n (after 10 t)
 
 -- how many lines end
-pub lines : List ℕ → ℕ
+unfoldable pub lines : List ℕ → ℕ
 lines [] = 0
 lines (x ∷ xs) = cond (eqb x 10) (suc (lines xs)) (lines xs)
 
 -- word k of a line, from 0; spaces stand between words. It is empty where the line has fewer
-pub word : ℕ → List ℕ → List ℕ
+unfoldable pub word : ℕ → List ℕ → List ℕ
 word zero l = before 32 (past 32 l)
 word (suc k) l = word k (after 32 (past 32 l))

@@ -1,0 +1,3 @@
+pub mod Cut
+pub mod Every
+pub mod Placed
