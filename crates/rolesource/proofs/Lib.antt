@@ -1,3 +1,4 @@
 pub mod Cut
 pub mod Every
 pub mod Placed
+pub mod Rows

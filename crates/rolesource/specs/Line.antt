@@ -66,7 +66,7 @@ allowed f l = leb (least l) f && leb f (most l)
 -- what a form changes, as in 1=wr-: all its slots anew. Word k says so of an allowed form, a later one than word k - 1
 abbrev pub is_change : ℕ → List ℕ → Bool
 is_change k l =
-    ltb 2 (length (word k l)) && eqb (get_or (word k l) 1 0) 61 && are_slots (drop 2 (word k l)) && allowed (get_or (word k l) 0 0) l
+    eqb (get_or (word k l) 1 0) 61 && are_slots (drop 2 (word k l)) && allowed (get_or (word k l) 0 0) l
     && (eqb k 8 || ltb (get_or (word (k - 1) l) 0 0) (get_or (word k l) 0 0))
 
 -- it says so, or is not there
@@ -90,16 +90,19 @@ slots_at f l = slots_from f 8 7 l
 abbrev pub is_name_letter : ℕ → Bool
 is_name_letter c = leb 48 c && leb c 57 || leb 65 c && leb c 90 || leb 97 c && leb c 122
 
--- a name: it is not empty
+-- a name: letters and digits
 abbrev pub is_name : List ℕ → Bool
-is_name w = ltb 0 (length w) && all is_name_letter w
+is_name w = all is_name_letter w
 
--- a line of kind k: at most 100 bytes, and each word what it has to be
-unfoldable pub is_kind : ℕ → List ℕ → Bool
-is_kind k l =
-    leb (length l) 100 && bytes_eq (word 0 l) (decimal k) && is_name (word 1 l) && are_slots (word 2 l)
-    && is_or_dash (codes "list") (word 3 l) && ltb (shape_of l) 4 && ltb (arm_of l) 22 && is_or_dash (codes "quiet") (word 6 l)
-    && are_forms (word 7 l) && are_changes l
+-- a line that can stand where this number is due: at most 100 bytes, and each word what it has to be
+unfoldable pub is_line : List ℕ → List ℕ → Bool
+is_line number l =
+    leb (length l) 100 && bytes_eq (word 0 l) number && is_name (word 1 l) && are_slots (word 2 l) && is_or_dash (codes "list") (word 3 l)
+    && ltb (shape_of l) 4 && ltb (arm_of l) 22 && is_or_dash (codes "quiet") (word 6 l) && are_forms (word 7 l) && are_changes l
+
+-- a line of kind k
+abbrev pub is_kind : ℕ → List ℕ → Bool
+is_kind k l = is_line (decimal k) l
 
 -- a line that is passed over: it has no word, or its first one begins with #
 abbrev pub is_note : List ℕ → Bool

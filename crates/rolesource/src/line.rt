@@ -132,8 +132,7 @@ fn is_change(k: usize, line: &[u8]) -> bool
     let w = word(line, k);
     let f = byte(w, 0);
     let earlier = byte(word(line, k.saturating_sub(1)), 0);
-    (2 < w.len())
-        & (byte(w, 1) == b'=')
+    (byte(w, 1) == b'=')
         & are_slots(behind(w))
         & allowed(f, line)
         & ((k == 8) | (earlier < f))
@@ -189,12 +188,12 @@ fn all_letters(w: &[u8]) -> bool
     w.iter().all(|c| is_name_letter(*c))
 }
 
-// A name: it is not empty.
+// A name.
 #[tactic(auto, using(crate::proofs::Every::all_is))]
 fn is_name(w: &[u8]) -> bool
     ensures { result ≡ is_name w.now }
 {
-    (0 < w.len()) & all_letters(w)
+    all_letters(w)
 }
 
 // Its first word is the number k.
@@ -205,7 +204,7 @@ fn is_numbered(k: usize, line: &[u8]) -> bool
 }
 
 // A line of kind k.
-#[tactic(auto, unfolding(crate::specs::Line::is_kind))]
+#[tactic(auto, unfolding(crate::specs::Line::is_line))]
 pub fn is_kind(line: &[u8], k: usize) -> bool
     ensures { result ≡ is_kind k line.now }
 {
