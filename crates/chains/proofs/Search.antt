@@ -2,7 +2,8 @@
 use Rattle.std.specs.Prelude.{Option, Some, None}
 use mathlib.Core.Bool.{Bool, true, false, not, ◌&&◌, and-true, and-false}
 use mathlib.Core.List.{List, [], ◌∷◌, ◌++◌}
-use mathlib.Core.Path.{◌≡◌, refl, sym, ap, ◌∙◌, subst}
+use mathlib.Core.Path.{◌≡◌, refl, sym, ap, ap₂, ◌∙◌, subst}
+use mathlib.Core.Logic.{◌⊎◌, inl, inr}
 use Prim.Native.Nat.{ℕ, zero, suc, ◌+◌, ◌*◌, ◌-◌, ◌≤◌, ◌<◌}
 use native.Mathlib.Omega.{arith}
 use borrow.Author.Tests.{eq-eqb, ne_eqb}
@@ -10,13 +11,20 @@ use lib.Dec.{eqb}
 use lib.ListN.{get_or, length}
 use Rattle.words.specs.Lists.{mem, same}
 use Rattle.words.proofs.Bools.{and_no}
+use Rattle.model.specs.Kinds.{kind_of}
 use Rattle.model.specs.Picture.{Picture, inst, End, goes, parts, cases, stops, end_of, ending, preds}
 use Rattle.model.specs.Move as M
 use Rattle.model.specs.Move.{chain, chain_from}
 use Rattle.inst.specs.declared.index.BlockId.{BlockId}
+use Rattle.inst.specs.declared.table.Shape.{Shape}
+use Rattle.inst.specs.declared.table.Shape.TheVariants as S
+use Rattle.inst.specs.Record.{word}
+use Rattle.inst.specs.Shape.{shape_of}
+use Rattle.inst.specs.Table.{packed, shape}
+use Rattle.inst.proofs.Ends.{EndsAs, ends}
 use Rattle.chains.specs.declared.chain.Chain.{Chain}
 use Rattle.chains.specs.declared.chain.Ending.TheVariants.{Goes, Parts, Stops}
-use Rattle.chains.specs.Chain.{blocks_of, last_of, ended, chain_of, rest, ending_of, end_in, Few, Sound, SoundOf, Blocks, Preds, Shown, IsGrown, Next, Found}
+use Rattle.chains.specs.Chain.{blocks_of, last_of, ended, chain_of, rest, ending_of, end_in, Few, Sound, SoundOf, Block, Blocks, Preds, Shown, IsGrown, Next, Found}
 use Rattle.chains.proofs.Struct.{last_more, last_below, sound_start, sound_more}
 
 -- ---- a block's end
@@ -24,52 +32,40 @@ use Rattle.chains.proofs.Struct.{last_more, last_below, sound_start, sound_more}
 pub end_is : {P : Picture} {bounds recs words : List ℕ} {B : ℕ} → Shown P bounds recs words B → (b : ℕ) → ending P b ≡ end_in bounds recs b
 end_is {P} {bounds} s b = ap (λ (l : List ℕ). end_in l P.recs b) s.bounds_are ∙ ap (λ (l : List ℕ). end_in bounds l b) s.recs_are
 
-module _ (bounds recs : List ℕ) (b : ℕ) where
-  abbrev s : ℕ
-  s = get_or bounds (2 * b) 0
+module _ (bounds recs : List ℕ) (b : ℕ) {s e : ℕ} (es : s ≡ get_or bounds (2 * b) 0) (ee : e ≡ get_or bounds (2 * b + 1) 0) where
+  abbrev size : ℕ
+  size = get_or bounds (2 * b + 1) 0 - get_or bounds (2 * b) 0
 
-  abbrev e : ℕ
-  e = get_or bounds (2 * b + 1) 0
+  abbrev by : Bool → ℕ → End
+  by z n = elim z [ true ↦ stops | false ↦ end_of (inst recs (n - 1)) ]
 
   pub empty_end : e ≤ s → Stops ≡ ending_of (end_in bounds recs b)
   unfolding ending_of
-  empty_end h =
-      let z : e - s ≡ 0 = omega arith in
-      sym (ap (λ (t : Bool). ending_of (elim t [ true ↦ stops | false ↦ end_of (inst recs (e - 1)) ])) (eq-eqb (e - s) 0 z))
+  empty_end h = let z : size ≡ 0 = omega arith in sym (ap (λ (t : Bool). ending_of (by t (get_or bounds (2 * b + 1) 0))) (eq-eqb size 0 z))
 
-  module _ (p k : ℕ) (h : s < e) (ep : p ≡ e - 1) (ek : k ≡ get_or (inst recs p) 0 0) where
-    last_end : end_in bounds recs b ≡ end_of (inst recs p)
-    last_end =
-        ap (λ (t : Bool). elim t [ true ↦ stops | false ↦ end_of (inst recs (e - 1)) ]) (ne_eqb (e - s) 0 (λ z. omega arith))
-        ∙ ap (λ (q : ℕ). end_of (inst recs q)) (sym ep)
+  module _ (h : s < e) where
+    last_end : end_in bounds recs b ≡ end_of (inst recs (e - 1))
+    last_end = ap (λ (t : Bool). by t (get_or bounds (2 * b + 1) 0)) (ne_eqb size 0 (λ z. omega arith)) ∙ ap (by false) (sym ee)
 
-    abbrev by : Bool → Bool → Bool → End
-    by x y z =
-        elim x [
-          | true ↦ goes (get_or (inst recs p) 9 0)
-          | false ↦ elim y [ true ↦ parts (get_or (inst recs p) 9 0) (get_or (inst recs p) 10 0) | false ↦ elim z [ true ↦ cases (get_or (inst recs p) 9 0) | false ↦ stops ] ]
-        ]
+    -- by the shape t in the row of its last record's kind k at form f
+    module _ (known : Block bounds recs b) {t : Shape} {w k : ℕ} (f : ℕ) (et : t ≡ shape_of (shape w)) (ew : w ≡ packed (kind_of k) f) (ek : k ≡ word recs (e - 1) 0) where
+      ends_as : (x : Shape) → t ≡ x → EndsAs x (inst recs (e - 1))
+      ends_as x q =
+          ends (inst recs (e - 1)) f (subst (λ (n : ℕ). word recs (n - 1) 0 < 101) (sym ee) (known.kind (omega arith)))
+          (sym q ∙ et ∙ ap (λ (m : ℕ). shape_of (shape m)) (ew ∙ ap (λ (n : ℕ). packed (kind_of n) f) ek))
 
-    tests : (x y : Bool) → eqb k 52 ≡ x → eqb k 53 ≡ y → end_in bounds recs b ≡ by x y (eqb k 54)
-    tests x y ex ey =
-        last_end ∙ ap (λ (n : ℕ). by (eqb n 52) (eqb n 53) (eqb n 54)) (sym ek)
-        ∙ ap (λ (x : Bool). by x (eqb k 53) (eqb k 54)) ex ∙ ap (λ (y : Bool). by x y (eqb k 54)) ey
+      pub goes_end : {v : ℕ} → t ≡ S.Goes → v ≡ word recs (e - 1) 9 → Goes v ≡ ending_of (end_in bounds recs b)
+      unfolding ending_of
+      goes_end q ev = ap (λ (n : ℕ). Goes n) ev ∙ sym (ap ending_of (last_end ∙ ends_as S.Goes q))
 
-    pub goes_end : {v : ℕ} → k ≡ 52 → v ≡ get_or (inst recs p) 9 0 → Goes v ≡ ending_of (end_in bounds recs b)
-    unfolding ending_of
-    goes_end q ev = ap (λ (n : ℕ). Goes n) ev ∙ sym (ap ending_of (tests true (eqb k 53) (eq-eqb k 52 q) refl))
+      pub parts_end : {v u : ℕ} → t ≡ S.Parts → v ≡ word recs (e - 1) 9 → u ≡ word recs (e - 1) 10 → Parts v u ≡ ending_of (end_in bounds recs b)
+      unfolding ending_of
+      parts_end q ev eu = ap₂ (λ (x y : ℕ). Parts x y) ev eu ∙ sym (ap ending_of (last_end ∙ ends_as S.Parts q))
 
-    pub parts_end : {v w : ℕ} → (k ≡ 52 → ⊥) → k ≡ 53 → v ≡ get_or (inst recs p) 9 0 → w ≡ get_or (inst recs p) 10 0 → Parts v w ≡ ending_of (end_in bounds recs b)
-    unfolding ending_of
-    parts_end {v} {w} n q ev ew = ap (λ (x : ℕ). Parts x w) ev ∙ ap (λ (x : ℕ). Parts (get_or (inst recs p) 9 0) x) ew ∙ sym (ap ending_of (tests false true (ne_eqb k 52 n) (eq-eqb k 53 q)))
-
-    pub other_end : (k ≡ 52 → ⊥) → (k ≡ 53 → ⊥) → Stops ≡ ending_of (end_in bounds recs b)
-    unfolding ending_of
-    other_end n m = go (eqb k 54) ∙ sym (ap ending_of (tests false false (ne_eqb k 52 n) (ne_eqb k 53 m)))
-      where
-        go : (z : Bool) → Stops ≡ ending_of (by false false z)
-        go true = refl
-        go false = refl
+      pub other_end : (t ≡ S.Cases) ⊎ (t ≡ S.Stops) → Stops ≡ ending_of (end_in bounds recs b)
+      unfolding ending_of
+      other_end (inl q) = sym (ap ending_of (last_end ∙ ends_as S.Cases q))
+      other_end (inr q) = sym (ap ending_of (last_end ∙ ends_as S.Stops q))
 
 -- an end told by the code
 module _ {E : End} where

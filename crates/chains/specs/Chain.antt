@@ -5,6 +5,7 @@ use Rattle.words.specs.Lists.{upto}
 use Rattle.model.specs.Picture.{Picture, inst, End, goes, parts, cases, stops, end_of, ending, preds}
 use Rattle.model.specs.Move as M
 use Rattle.model.specs.Move.{chain, chain_from}
+use Rattle.inst.specs.Record.{word}
 use Rattle.chains.specs.declared.chain.Chain.{Chain}
 use Rattle.chains.specs.declared.chain.Ending.{Ending}
 use Rattle.chains.specs.declared.chain.Ending.TheVariants.{Goes, Parts, Stops}
@@ -70,10 +71,11 @@ end_in bounds recs b =
 
 -- ---- what acceptance gives
 
--- block b's bounds are there, and its records
+-- block b's bounds are there, and its records, and the kind of the last is one
 pub record Block (bounds recs : List ℕ) (b : ℕ) : Type 0 where
   pub pair : 2 * b + 2 ≤ length bounds
   pub whole : 16 * get_or bounds (2 * b + 1) 0 ≤ length recs
+  pub kind : get_or bounds (2 * b) 0 < get_or bounds (2 * b + 1) 0 → word recs (get_or bounds (2 * b + 1) 0 - 1) 0 < 101
 
 -- of all B blocks, which go to blocks
 pub record Blocks (bounds recs : List ℕ) (B : ℕ) : Type 0 where

@@ -6,8 +6,8 @@ ghost use Rattle.model.specs.Picture.{Picture, preds as preds_of};
 ghost use Rattle.chains.specs.Chain.{blocks_of, last_of, ended, chain_of, ending_of, end_in, Few, Sound, SoundOf, Block, Blocks, Preds, Next, Found};
 
 use inst::index::BlockId;
-use inst::kinds::{BR, COND_BR};
 use inst::record::Record;
+use inst::table::{Shape, Table};
 
 // Of the blocks the first `count` are in use; t and f are where the last of them goes.
 #[derive(Clone, Copy)]
@@ -115,8 +115,8 @@ impl Chain {
     }
 }
 
-// How block b ends.
-pub fn end_of(bounds: &[u32], recs: &[u32], b: BlockId) -> Ending
+// How block b ends: the table of roles tells it of its last record.
+pub fn end_of(table: &Table, bounds: &[u32], recs: &[u32], b: BlockId) -> Ending
     requires { Block bounds.now recs.now b.0 }
     ensures { result ≡ ending_of (end_in bounds.now recs.now b.0) }
 {
@@ -126,19 +126,16 @@ pub fn end_of(bounds: &[u32], recs: &[u32], b: BlockId) -> Ending
         return Ending::Stops;
     }
     let last = Record { recs, p: e - 1 };
-    // A `match` on the number of a kind would prove nothing in its last arm.
-    let k = last.kind();
-    if k == BR {
-        return Ending::Goes(last.payload(0));
+    match table.row(last.kind(), last.form()).shape() {
+        Shape::Goes => Ending::Goes(last.payload(0)),
+        Shape::Parts => Ending::Parts(last.payload(0), last.payload(1)),
+        Shape::Cases | Shape::Stops => Ending::Stops,
     }
-    if k == COND_BR {
-        return Ending::Parts(last.payload(0), last.payload(1));
-    }
-    Ending::Stops
 }
 
 // The chain from block x.
 pub fn find_chain(
+    table: &Table,
     bounds: &[u32],
     recs: &[u32],
     preds: &[u32],
@@ -150,7 +147,7 @@ pub fn find_chain(
 {
     let mut c = Chain::start(x);
     for _i in 0..6u32 {
-        match end_of(bounds, recs, c.last()) {
+        match end_of(table, bounds, recs, c.last()) {
             Ending::Goes(to) => c = c.next(preds, to, blocks)?,
             Ending::Parts(t, f) => return c.ends(t, f, blocks),
             Ending::Stops => return None,

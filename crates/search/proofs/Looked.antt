@@ -22,6 +22,7 @@ use Rattle.model.specs.Pass.{first_plan}
 use Rattle.laws.proofs.Accepted.{Accepted, accepted}
 use Rattle.laws.proofs.Admitted.{ends_goes, ends_parts}
 use Rattle.laws.proofs.Sizes.{recs_length, block_within}
+use Rattle.flow.proofs.Accepted.{graph_given}
 use Rattle.chains.specs.declared.chain.Chain.{Chain}
 use Rattle.chains.specs.Chain as C
 use Rattle.chains.specs.Chain.{ended, chain_of, SoundOf, Sound, Blocks}
@@ -142,7 +143,11 @@ module _ {bounds recs replay : List ℕ} {s : Sizes} {work32 : List ℕ} (g : Se
       let P = g.P in
       let e = recs_length P good in
       let z : Blocks P.bounds P.recs (nblocks P) = record {
-        block = λ b h. let y = (block_within P good b h).1 in record { pair = omega arith; whole = omega arith };
+        block = λ b h. let y = (block_within P good b h).1 in record {
+          pair = omega arith;
+          whole = omega arith;
+          kind = λ (l : get_or P.bounds (2 * b) 0 < get_or P.bounds (2 * b + 1) 0). ((graph_given P good).known (get_or P.bounds (2 * b + 1) 0 - 1) (omega (arith, l, y, e))).kind;
+        };
         goes_in = λ b t h q. (ends_goes P good b t q).0;
         parts_in = λ b t f h q. ends_parts P good b t f q;
       } in

@@ -23,6 +23,7 @@ pub fn look_from(body: &Body<'_>, work32: &[u32], x: BlockId) -> Option<Look>
     requires { Seeking body.now.func.bounds.now body.now.func.recs.now body.now.replay.now body.now.sizes work32.now × (x.0 < body.now.sizes.blocks) }
     ensures { Looked body.now.func.bounds.now body.now.func.recs.now body.now.replay.now body.now.sizes work32.now x.0 result }
 {
+    let table = body.func.table;
     let bounds = body.func.bounds;
     let recs = body.func.recs;
     let size = x.past(bounds) - x.start(bounds);
@@ -30,7 +31,7 @@ pub fn look_from(body: &Body<'_>, work32: &[u32], x: BlockId) -> Option<Look>
         return None;
     }
     let p = at_preds(body.sizes);
-    let Some(c) = find_chain(bounds, recs, &work32[p..], x, body.sizes.blocks) else {
+    let Some(c) = find_chain(table, bounds, recs, &work32[p..], x, body.sizes.blocks) else {
         return None;
     };
     if !worth_a_look(bounds, recs, body.replay, c, x) {
