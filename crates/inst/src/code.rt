@@ -97,7 +97,10 @@ impl Slots<'_> {
         ensures { result ≡ later self.now.does }
     {
         let does = self.does;
-        (does / 32 % 2 == 1) | (does / 512 % 2 == 1) | (does / 8192 % 2 == 1) | (does / 131072 % 2 == 1)
+        (does / 32 % 2 == 1)
+            | (does / 512 % 2 == 1)
+            | (does / 8192 % 2 == 1)
+            | (does / 131072 % 2 == 1)
     }
 
     // How many slots, from the first on, may read: of most kinds three.

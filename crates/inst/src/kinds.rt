@@ -8,10 +8,6 @@ pub const ADDR_OF: u32 = 3;
 
 pub const CAT: u32 = 39;
 
-pub const BR: u32 = 52;
-
-pub const COND_BR: u32 = 53;
-
 pub const CALL: u32 = 57;
 
 pub const CALL_NATIVE: u32 = 58;

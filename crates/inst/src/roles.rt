@@ -1,7 +1,8 @@
-// The table of roles, printed by rolesource from its list of kinds (crates/rolesource/stdin), whose lines stand here as comments:
-// not written by hand. A kind has eight words, for forms 0 to 6 and for any other. The digits of a word, from the right: one for
-// each slot (0 nothing, 1 reads, 2 writes, 5 and 6 the same where it may be absent); 1, 2, 3 for successors as in a Br, a CondBr, a
-// Case, and to that 4 for a list and 8 where the form is allowed; two for the arm of `analyse`, with 20 where the kind is quiet.
+// The table of roles: of each kind eight words, for forms 0 to 6 and for any other. Printed by rolesource from its list of kinds,
+// crates/rolesource/stdin, whose lines stand here as comments; `make roles` prints it anew. The digits of a word, from the right: one
+// for each of five slots, the first slot first (0 nothing, 1 read, 2 written, 5 and 6 the same where it may be absent); how the
+// successors lie (0 none, 1 as in a Br, 2 as in a CondBr, 3 as in a Case), and to that 4 for a list and 8 where the form is allowed;
+// two for the arm of 000's `analyse`, and to these 20 where the kind stands in `writes_nothing`.
 pub(crate) const ROWS: [u32; 808] = [
     //   0 Const           w      -     -           const      quiet  0..0
     0x20800002, 0x20000002, 0x20000002, 0x20000002, 0x20000002, 0x20000002, 0x20000002, 0x20000002,
