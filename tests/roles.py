@@ -52,7 +52,7 @@ def broken(number, old, new, what):
 last, middle = place(100), place(40)
 wants(TABLE, 'the list', text(LINES))
 wants(TABLE, 'the list without its notes', text(line for line in LINES if not line.startswith('#')))
-wants(TABLE, 'more notes', text(['', '   ', '  # more'] + LINES + ['#', '']))
+wants(TABLE, 'more notes', text(['', '   ', '  # Stmt', '# Stmt'] + LINES + ['#', '']))
 
 # kinds
 unread(len(LINES), 'the last kind is missing', text(LINES[:-1]))
@@ -61,7 +61,7 @@ unread(middle + 2, 'a kind twice', text(LINES[:middle + 1] + LINES[middle:]))
 unread(last + 2, 'a kind too many', text(LINES[:last + 1] + ['101 More - - - other - 0..0'] + LINES[last + 1:]))
 broken(99, 'CoverCond', 'Const', 'a name for the second time')
 broken(99, 'CoverCond', 'Cover-Cond', 'a name with another sign than letters and digits')
-broken(0, '  0', ' 00', 'a number written another way')
+broken(0, '  0 Const', ' 00 Const', 'a number written another way')
 
 # words
 broken(54, 'cases', 'case', 'unknown successors')
@@ -93,5 +93,5 @@ unread(1, 'nothing', '')
 
 # the first of several
 n, twice = other(20, 'wrr', 'wrx')
-unread(n, 'the first of two', twice.replace('stops', 'stop'))
+unread(n, 'the first of two', twice.replace('deref ', 'derefs'))
 print(f'roles: {passed} checks passed')

@@ -1,4 +1,6 @@
 pub mod Cut
 pub mod Every
 pub mod Placed
+pub mod Listing
+pub mod Printing
 pub mod Rows

@@ -2,7 +2,7 @@
 use Rattle.std.proofs.Common.{rules, take, ◌∙◌, subst, length-take-le}
 use Rattle.std.specs.Io.KnownBytes.{Appends}
 use Rattle.report.specs.Report.{report_of}
-use Rattle.sinkrounds.proofs.Reading.{front_read, on_ok, written_of}
+use Rattle.input.proofs.Reading.{front_read, on_ok, written_of}
 use Rattle.sinkrounds.proofs.sink_rounds.Goals as goal
 
 pub returns : goal.returns
