@@ -132,10 +132,7 @@ fn is_change(k: usize, line: &[u8]) -> bool
     let w = word(line, k);
     let f = byte(w, 0);
     let earlier = byte(word(line, k.saturating_sub(1)), 0);
-    (byte(w, 1) == b'=')
-        & are_slots(behind(w))
-        & allowed(f, line)
-        & ((k == 8) | (earlier < f))
+    (byte(w, 1) == b'=') & are_slots(behind(w)) & allowed(f, line) & ((k == 8) | (earlier < f))
 }
 
 // Word k says so, or is not there.

@@ -22,7 +22,8 @@ pub const TEXT_BYTES: usize = 23_040;
 pub type Text = ArrayVec<u8, TEXT_BYTES>;
 
 // What stands before the rows.
-const HEADING: &[u8] = b"// The table of roles: of each kind eight words, for forms 0 to 6 and for any other. Printed by rolesource from its list of kinds,\n\
+const HEADING: &[u8] =
+    b"// The table of roles: of each kind eight words, for forms 0 to 6 and for any other. Printed by rolesource from its list of kinds,\n\
 // crates/rolesource/stdin, whose lines stand here as comments; `make roles` prints it anew. The digits of a word, from the right: one\n\
 // for each of five slots, the first slot first (0 nothing, 1 read, 2 written, 5 and 6 the same where it may be absent); how the\n\
 // successors lie (0 none, 1 as in a Br, 2 as in a CondBr, 3 as in a Case), and to that 4 for a list and 8 where the form is allowed;\n\
