@@ -22,6 +22,9 @@ const LIST: &[u8] = b"list";
 
 const QUIET: &[u8] = b"quiet";
 
+// The most bytes that a line has.
+const LINE_BYTES: usize = 100;
+
 // A slot's letter.
 fn is_slot(c: u8) -> bool
     ensures { result ≡ is_slot c }
@@ -205,7 +208,7 @@ fn is_numbered(k: usize, line: &[u8]) -> bool
 pub fn is_kind(line: &[u8], k: usize) -> bool
     ensures { result ≡ is_kind k line.now }
 {
-    (line.len() <= 100)
+    (line.len() <= LINE_BYTES)
         & is_numbered(k, line)
         & is_name(word(line, 1))
         & are_slots(word(line, 2))

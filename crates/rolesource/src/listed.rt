@@ -8,6 +8,11 @@ ghost use Rattle.rolesource.specs.Listed.{kinds, named, stands, complete};
 use crate::line::{is_kind, is_note};
 use crate::text::{line, word};
 
+// How many kinds there are, and the most bytes that a list has.
+const KINDS: usize = 101;
+
+pub const LIST_BYTES: usize = 32_768;
+
 // Line m is a kind of this name.
 fn has_name(list: &[u8], m: usize, name: &[u8]) -> bool
     ensures { result ≡ (not (is_note (line m list.now)) && bytes_eq (word 1 (line m list.now)) name.now) }
@@ -32,7 +37,7 @@ pub fn stands(list: &[u8], n: usize, k: usize) -> bool
     ensures { result ≡ stands n list.now }
 {
     let text = line(list, n);
-    is_note(text) || k < 101 && is_kind(text, k) && !named(list, n)
+    is_note(text) || k < KINDS && is_kind(text, k) && !named(list, n)
 }
 
 // The list of n lines and k kinds ends with its last line, has all kinds, and is no longer than there is room for.
@@ -41,5 +46,5 @@ pub fn complete(list: &[u8], n: usize, k: usize) -> bool
     requires { (n ≡ lines list.now) × (k ≡ kinds n list.now) }
     ensures { result ≡ complete list.now }
 {
-    line(list, n).is_empty() && k == 101 && list.len() <= 32_768
+    line(list, n).is_empty() && k == KINDS && list.len() <= LIST_BYTES
 }

@@ -10,13 +10,14 @@ ghost use Rattle.std.specs.Prelude.{IfSome, OnOk, take};
 ghost use Rattle.std.specs.Io.KnownBytes.{Appends};
 ghost use Rattle.rolesource.specs.Source.{source};
 
+use crate::listed::LIST_BYTES;
 use crate::source::{Text, source};
 use input::read_full;
 use std::io;
 use std::io::{Input, Read, Write};
 
 // Room for the longest list, and for one byte more, which shows that the input is longer.
-const INPUT_BYTES: usize = 32_769;
+const INPUT_BYTES: usize = LIST_BYTES + 1;
 
 // What the input lists, as far as there is room for it, is printed as a table on the output.
 fn role_source<R: Read, W: Write>(input: &mut R, output: &mut W) -> io::Result<()>

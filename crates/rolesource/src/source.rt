@@ -162,7 +162,7 @@ fn put_unread(out: &mut Text, n: usize)
     put(out, b"\n");
 }
 
-// What comes of a list: the table, or the line that stops the reading.
+// What comes of a list: the table, or the line that stops the reading. (Of a list of any length that line might be past a `usize`.)
 pub fn source(list: &[u8], out: &mut Text)
     requires { length list.now ≤ 32769 }
     ensures { out.new.items ≡ source list.now }
