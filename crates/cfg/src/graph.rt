@@ -57,13 +57,14 @@ impl<'a> Func<'a> {
     }
 
     // Where record p goes if it ends a block: as many words of its payload as its shape's number says, or a table. (No `match`: of that
-    // LLVM makes an indirect jump, which live-in, going from block to block, pays for each time that it is not foreseen.)
+    // LLVM makes an indirect jump, which live-in, going from block to block, pays for each time that it is not foreseen. And the row at form
+    // 0: the successors lie alike at each.)
     fn targets_of(&self, p: usize) -> &'a [u32]
         requires { Known self.now.recs.now p }
         ensures { result.now ≡ end_succs (drawn_of self.now) (end_of (inst self.now.recs.now p)) }
     {
         let rec = Record { recs: self.recs, p };
-        let shape = self.table.row(rec.kind(), rec.form()).shape();
+        let shape = self.table.row(rec.kind(), 0).shape();
         if matches!(shape, Shape::Cases) {
             return self.case_targets(rec.payload(0));
         }

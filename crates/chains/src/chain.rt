@@ -115,7 +115,7 @@ impl Chain {
     }
 }
 
-// How block b ends: the table of roles tells it of its last record.
+// How block b ends: the table of roles tells it of its last record, alike at each form.
 pub fn end_of(table: &Table, bounds: &[u32], recs: &[u32], b: BlockId) -> Ending
     requires { Block bounds.now recs.now b.0 }
     ensures { result ≡ ending_of (end_in bounds.now recs.now b.0) }
@@ -126,7 +126,7 @@ pub fn end_of(table: &Table, bounds: &[u32], recs: &[u32], b: BlockId) -> Ending
         return Ending::Stops;
     }
     let last = Record { recs, p: e - 1 };
-    match table.row(last.kind(), last.form()).shape() {
+    match table.row(last.kind(), 0).shape() {
         Shape::Goes => Ending::Goes(last.payload(0)),
         Shape::Parts => Ending::Parts(last.payload(0), last.payload(1)),
         Shape::Cases | Shape::Stops => Ending::Stops,
