@@ -1,6 +1,1 @@
-pub mod Cut
-pub mod Every
-pub mod Placed
-pub mod Listing
 pub mod Printing
-pub mod Rows

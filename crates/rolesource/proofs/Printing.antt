@@ -5,9 +5,9 @@ use Rattle.std.specs.Fmt.{decimal}
 use Rattle.std.specs.Str.{bytes_eq}
 use Rattle.words.specs.Lists.{concat, range, upto}
 use Rattle.words.proofs.Lists.{made_snoc, concat_append}
-use Rattle.rolesource.specs.Text.{word, line, lines}
-use Rattle.rolesource.specs.Line.{is_note, digit, slots_at, shape_of, arm_of, allowed}
-use Rattle.rolesource.specs.Listed.{unread}
+use Rattle.rolelist.specs.Text.{word, line, lines}
+use Rattle.rolelist.specs.Line.{is_note, digit, slots_at, shape_of, arm_of, allowed}
+use Rattle.rolelist.specs.Listed.{unread}
 use Rattle.rolesource.specs.Source.{bit, hex, cell, row, heading, source}
 
 -- one more of what a rule makes

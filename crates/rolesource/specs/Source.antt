@@ -4,9 +4,9 @@ use Rattle.std.specs.Prelude.{Bool, true, false, cond, List, [], ◌∷◌, ◌+
 use Rattle.std.specs.Str.{bytes_eq}
 use Rattle.std.specs.Fmt.{decimal}
 use Rattle.words.specs.Lists.{concat, range, upto}
-use Rattle.rolesource.specs.Text.{line, lines, word}
-use Rattle.rolesource.specs.Line.{digit, slots_at, shape_of, arm_of, allowed, is_note}
-use Rattle.rolesource.specs.Listed.{unread}
+use Rattle.rolelist.specs.Text.{line, lines, word}
+use Rattle.rolelist.specs.Line.{digit, slots_at, shape_of, arm_of, allowed, is_note}
+use Rattle.rolelist.specs.Listed.{unread}
 
 abbrev pub bit : Bool → ℕ
 bit true = 1

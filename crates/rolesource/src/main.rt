@@ -1,18 +1,15 @@
 // `rolesource`: a list of kinds on standard input, the table of roles as source text on standard output.
 #![tactic(auto)]
 
-mod text; // text.rt: lines and words
-mod line; // line.rt: what a line of the list says
-mod listed; // listed.rt: which lines can stand where they are
 mod source; // source.rt: the text of the table
 
 ghost use Rattle.std.specs.Prelude.{IfSome, OnOk, take};
 ghost use Rattle.std.specs.Io.KnownBytes.{Appends};
 ghost use Rattle.rolesource.specs.Source.{source};
 
-use crate::listed::LIST_BYTES;
 use crate::source::{Text, source};
 use input::read_full;
+use rolelist::listed::LIST_BYTES;
 use std::io;
 use std::io::{Input, Read, Write};
 

@@ -4,16 +4,16 @@ ghost use Rattle.std.specs.Prelude.{◌≡◌, false, cond, List, [], ◌∷◌,
 ghost use Rattle.std.specs.Fmt.{decimal};
 ghost use Rattle.arrayvec.specs.ArrayVec.{array_vec_len};
 ghost use Rattle.words.specs.Lists.{concat, range, upto};
-ghost use Rattle.rolesource.specs.Text.{line, lines};
-ghost use Rattle.rolesource.specs.Line.{digit, is_note};
-ghost use Rattle.rolesource.specs.Listed.{unread};
+ghost use Rattle.rolelist.specs.Text.{line, lines};
+ghost use Rattle.rolelist.specs.Line.{digit, is_note};
+ghost use Rattle.rolelist.specs.Listed.{unread};
 ghost use Rattle.rolesource.specs.Source.{bit, hex, cell, row, source};
 
-use crate::line::{allowed, arm_of, digit, is_note, shape_of, slots_at};
-use crate::listed::{complete, stands};
-use crate::text::{line, lines, word};
 use arrayvec::ArrayVec;
 use itoa::Buffer;
+use rolelist::line::{allowed, arm_of, digit, is_note, shape_of, slots_at};
+use rolelist::listed::{complete, stands};
+use rolelist::text::{line, lines, word};
 
 // Room for a table: its heading takes 2,000 bytes at most, a row 208, and the end 3.
 pub const TEXT_BYTES: usize = 23_040;

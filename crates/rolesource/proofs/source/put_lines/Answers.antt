@@ -1,9 +1,9 @@
 -- `source::put_lines` meets its contract: one line more, until one cannot stand or none is left. Assumes nothing.
 use Rattle.std.proofs.Common.{◌≡◌, ◌∙◌, refl, sym, ap, ℕ, Bool, cond, ◌+◌, ◌-◌, zero-add, append-nil, arith}
-use Rattle.rolesource.specs.Text.{line}
-use Rattle.rolesource.specs.Listed.{kinds, first_bad}
+use Rattle.rolelist.specs.Text.{line}
+use Rattle.rolelist.specs.Listed.{kinds, first_bad}
 use Rattle.rolesource.specs.Source.{row}
-use Rattle.rolesource.proofs.Listing.{ready, goes_on, kinds_more, stopped, ended, all_kinds, lines_short}
+use Rattle.rolelist.proofs.Listing.{ready, goes_on, kinds_more, stopped, ended, all_kinds, lines_short}
 use Rattle.rolesource.proofs.Printing.{made_more}
 use Rattle.rolesource.proofs.source.put_lines.Goals as goal
 

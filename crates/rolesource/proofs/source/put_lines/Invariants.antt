@@ -2,8 +2,8 @@
 use Rattle.std.proofs.Common.{◌≡◌, ◌++◌, ◌+◌, ◌-◌, ◌*◌, ◌≤◌, map}
 use Rattle.arrayvec.specs.ArrayVec.{array_vec_len}
 use Rattle.words.specs.Lists.{concat, upto}
-use Rattle.rolesource.specs.Text.{line}
-use Rattle.rolesource.specs.Listed.{kinds, first_bad}
+use Rattle.rolelist.specs.Text.{line}
+use Rattle.rolelist.specs.Listed.{kinds, first_bad}
 use Rattle.rolesource.specs.Source.{row}
 use Rattle.rolesource.proofs.source.put_lines.Given as goal
 

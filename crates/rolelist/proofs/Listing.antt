@@ -6,9 +6,9 @@ use lib.Dec.{T}
 use borrow.Author.Tests.{ltb-true, leb-true, eqb-true, lt-ltb, le-ltb}
 use Rattle.words.specs.Lists.{any, range}
 use Rattle.words.proofs.Bools.{true_T, or_rest, bool?}
-use Rattle.rolesource.specs.Text.{line, lines, word}
-use Rattle.rolesource.specs.Line.{is_line, is_kind, is_note}
-use Rattle.rolesource.specs.Listed.{kinds, named, stands, first_bad, complete, unread}
+use Rattle.rolelist.specs.Text.{line, lines, word}
+use Rattle.rolelist.specs.Line.{is_line, is_kind, is_note}
+use Rattle.rolelist.specs.Listed.{kinds, named, stands, first_bad, complete, unread}
 
 -- line m is a kind of this name
 abbrev pub has_name : List ℕ → List ℕ → ℕ → Bool

@@ -3,8 +3,8 @@ ghost use Rattle.std.specs.Prelude.{◌≡◌, ◌≤◌, drop};
 ghost use Rattle.std.specs.List.{list_all, range_with_len};
 ghost use Rattle.std.specs.Str.{bytes_eq};
 ghost use Rattle.std.specs.Fmt.{decimal};
-ghost use Rattle.rolesource.specs.Text.{word};
-ghost use Rattle.rolesource.specs.Line.{is_slot, digit, are_slots, place_in, shape_of, arm_of, is_or_dash, are_forms, allowed, is_change, may_stand, are_changes, slots_at, is_name_letter, is_name, is_kind, is_note};
+ghost use Rattle.rolelist.specs.Text.{word};
+ghost use Rattle.rolelist.specs.Line.{is_slot, digit, are_slots, place_in, shape_of, arm_of, is_or_dash, are_forms, allowed, is_change, may_stand, are_changes, slots_at, is_name_letter, is_name, is_kind, is_note};
 
 use crate::text::{byte, word};
 use itoa::Buffer;

@@ -1,7 +1,7 @@
 // A text cut into lines, and a line into words (specs/Text).
 ghost use Rattle.std.specs.Prelude.{◌≡◌, ◌≤◌, ◌==◌, get_or, length};
 ghost use Rattle.std.specs.List.{position_or_len, prefix_len};
-ghost use Rattle.rolesource.specs.Text.{before, after, past, line, lines, word};
+ghost use Rattle.rolelist.specs.Text.{before, after, past, line, lines, word};
 
 // How many bytes stand before the first b.
 fn until(text: &[u8], b: u8) -> usize

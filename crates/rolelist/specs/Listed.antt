@@ -2,8 +2,8 @@
 use Rattle.std.specs.Prelude.{Bool, cond, not, ◌&&◌, ◌||◌, List, ℕ, zero, suc, eqb, leb, ltb, length}
 use Rattle.std.specs.Str.{bytes_eq}
 use Rattle.words.specs.Lists.{any, upto}
-use Rattle.rolesource.specs.Text.{line, lines, word}
-use Rattle.rolesource.specs.Line.{is_kind, is_note}
+use Rattle.rolelist.specs.Text.{line, lines, word}
+use Rattle.rolelist.specs.Line.{is_kind, is_note}
 
 -- how many of the first n lines are kinds
 unfoldable pub kinds : ℕ → List ℕ → ℕ

@@ -6,8 +6,8 @@ use mathlib.Core.List.{List, [], ◌∷◌, ◌++◌, map}
 use Prim.Native.Nat.{ℕ}
 use lib.Chars.{codes}
 use lib.ListN.{replicate}
-use Rattle.rolesource.specs.Text.{before, after, past, word}
-use Rattle.rolesource.specs.Line.{place_from, slots_from, slots_at, shape_of, arm_of, is_line, is_note}
+use Rattle.rolelist.specs.Text.{before, after, past, word}
+use Rattle.rolelist.specs.Line.{place_from, slots_from, slots_at, shape_of, arm_of, is_line, is_note}
 
 -- the number that is due, and a line
 record Row : Type 0 where

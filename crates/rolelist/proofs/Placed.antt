@@ -1,9 +1,9 @@
 -- A word's place among others, and the change of a form: one more, and the last. Assumes nothing.
 use Rattle.std.proofs.Common.{◌≡◌, sym, ap, ◌∙◌, cond, ℕ, ◌+◌, ◌-◌, ◌<◌, ◌≤◌, eqb, List, get_or, drop, add-one}
 use Rattle.std.specs.Str.{bytes_eq}
-use Rattle.rolesource.specs.Text.{word}
-use Rattle.rolesource.specs.Line.{place_from, slots_from}
-use Rattle.rolesource.proofs.Cut.{left, none}
+use Rattle.rolelist.specs.Text.{word}
+use Rattle.rolelist.specs.Line.{place_from, slots_from}
+use Rattle.rolelist.proofs.Cut.{left, none}
 
 module _ (t w : List ℕ) where
   pub place : (n i : ℕ) → i < n → place_from t w i (n - i) ≡ cond (bytes_eq w (word i t)) i (place_from t w (i + 1) (n - (i + 1)))

@@ -3,7 +3,7 @@ use Rattle.std.proofs.Common.{◌≡◌, refl, sym, ap, ◌∙◌, Bool, true, f
 use Rattle.std.specs.List.{position_or_len, prefix_len, filter}
 use Rattle.std.proofs.lemmas.List.Sums.{length-filter}
 use Rattle.std.proofs.lemmas.List.{drop_min}
-use Rattle.rolesource.specs.Text.{before, after, past, line, lines, word}
+use Rattle.rolelist.specs.Text.{before, after, past, line, lines, word}
 
 abbrev is : ℕ → ℕ → Bool
 is b = λ x. eqb x b

@@ -4,10 +4,10 @@ use Rattle.std.proofs.lemmas.Iterator.{YieldsList-from_range}
 use Rattle.std.proofs.lemmas.Iterator.Search.{any_from_yields_List}
 use borrow.Author.Tests.{tests}
 use Rattle.words.specs.Lists.{any, upto}
-use Rattle.rolesource.specs.Text.{word}
-use Rattle.rolesource.specs.Listed.{named}
-use Rattle.rolesource.proofs.Listing.{any_from, has_name}
-use Rattle.rolesource.proofs.listed.named.Goals as goal
+use Rattle.rolelist.specs.Text.{word}
+use Rattle.rolelist.specs.Listed.{named}
+use Rattle.rolelist.proofs.Listing.{any_from, has_name}
+use Rattle.rolelist.proofs.listed.named.Goals as goal
 
 pub returns : goal.returns
 unfolding named

@@ -1,9 +1,9 @@
 // The whole list: which of its lines can stand where they are (specs/Listed).
 ghost use Rattle.std.specs.Prelude.{◌≡◌, ◌&&◌, not};
 ghost use Rattle.std.specs.Str.{bytes_eq};
-ghost use Rattle.rolesource.specs.Text.{line, lines, word};
-ghost use Rattle.rolesource.specs.Line.{is_note};
-ghost use Rattle.rolesource.specs.Listed.{kinds, named, stands, complete};
+ghost use Rattle.rolelist.specs.Text.{line, lines, word};
+ghost use Rattle.rolelist.specs.Line.{is_note};
+ghost use Rattle.rolelist.specs.Listed.{kinds, named, stands, complete};
 
 use crate::line::{is_kind, is_note};
 use crate::text::{line, word};

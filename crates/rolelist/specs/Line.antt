@@ -5,7 +5,7 @@ use Rattle.std.specs.Prelude.{Bool, cond, ◌&&◌, ◌||◌, List, ℕ, zero, s
 use Rattle.std.specs.Str.{bytes_eq}
 use Rattle.std.specs.Fmt.{decimal}
 use Rattle.words.specs.Lists.{all, any, range}
-use Rattle.rolesource.specs.Text.{word}
+use Rattle.rolelist.specs.Text.{word}
 
 -- ---- a slot's letter: not visited, read, written, read or absent, written or absent; and the digit that stands for it in the table
 
