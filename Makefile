@@ -1,7 +1,6 @@
 # `make run` runs the pass on a listing, FILE=.. or document 01's, and `make view` shows what it did (HOW=--html, --dot, --rounds:
-# tools/view.py --help has them all); `make lib` makes the library for C and Rust; `make roles` prints
-# the table of roles anew from the list of kinds; `make test` is the gate; `make compare` holds
-# the port against the Rust at length; `make bench` writes docs/BENCH.md.
+# tools/view.py --help has them all); `make lib` makes the library for C and Rust; `make roles` prints the table of roles anew from the
+# list of kinds; `make test` is the gate; `make compare` holds the port against the Rust at length; `make bench` writes docs/BENCH.md.
 .PHONY: run view lib roles test compare bench
 FILE = examples/listing.txt
 export FILE
