@@ -1,17 +1,12 @@
 -- Laws on lists beside those of `words`: a test at a place, and a part by its two ends. Assumes nothing.
 use mathlib.Core.Bool.{Bool, true}
-use mathlib.Core.Path.{◌≡◌, refl, ap, ◌∙◌}
+use mathlib.Core.Path.{◌≡◌, ap, ◌∙◌}
 use mathlib.Core.List.{List, [], ◌∷◌}
 use Prim.Native.Nat.{ℕ, zero, suc, ◌+◌, ◌-◌}
 use native.Mathlib.Omega.{arith}
 use lib.ListN.{get_or, take, drop}
-use Rattle.words.specs.Lists.{all, conj}
+use Rattle.words.specs.Lists.{all}
 use Rattle.words.proofs.Bools.{left_true, right_true}
-
-pub conj_at : (bs : List Bool) → conj bs ≡ true → (k : ℕ) → get_or bs k true ≡ true
-conj_at [] e k = refl
-conj_at (b ∷ bs) e zero = left_true b (conj bs) e
-conj_at (b ∷ bs) e (suc k) = conj_at bs (right_true b (conj bs) e) k
 
 module _ {A : Type 0} where
   -- a test over a whole list, and of the default, passes at every place
