@@ -1,5 +1,5 @@
 -- Which lines can stand, line by line (specs/Listed). Assumes nothing.
-use Rattle.std.proofs.Common.{◌≡◌, refl, sym, ap, ◌∙◌, inl, inr, Bool, true, false, cond, not, ◌&&◌, ◌||◌, ℕ, zero, suc, ◌+◌, ◌-◌, ◌<◌, ◌≤◌, add-one, le_refl, eqb, ltb, leb, List, [], ◌∷◌, length, arith}
+use Rattle.std.proofs.Common.{◌≡◌, refl, sym, ap, ◌∙◌, inl, inr, Bool, true, false, cond, not, ◌&&◌, ◌||◌, ℕ, zero, suc, ◌+◌, ◌-◌, ◌<◌, ◌≤◌, add-one, le_refl, eqb, ltb, leb, List, length, arith}
 use Rattle.std.specs.Str.{bytes_eq}
 use Rattle.std.specs.List.{list_any, range_with_len}
 use lib.Dec.{T}
@@ -18,15 +18,6 @@ has_name t name m = not (is_note (line m t)) && bytes_eq (word 1 (line m t)) nam
 pub any_from : (f : ℕ → Bool) (a n : ℕ) → list_any f (range_with_len a n) ≡ any f (range a n)
 any_from f a zero = refl
 any_from f a (suc n) = ap (λ (b : Bool). f a || b) (ap (λ (k : ℕ). list_any f (range_with_len k n)) (add-one a) ∙ any_from f (suc a) n)
-
-pub lines_short : (t : List ℕ) → lines t ≤ length t
-unfolding lines
-lines_short [] = le_refl 0
-lines_short (x ∷ xs) = go (eqb x 10) (lines_short xs)
-  where
-    go : (b : Bool) → lines xs ≤ length xs → cond b (suc (lines xs)) (lines xs) ≤ suc (length xs)
-    go true h = omega arith
-    go false h = omega arith
 
 both_first : (a b c : Bool) → T (a && b && c) → (a ≡ true) × (b ≡ true)
 both_first true true c h = (refl, refl)

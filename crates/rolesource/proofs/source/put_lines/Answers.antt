@@ -3,7 +3,7 @@ use Rattle.std.proofs.Common.{◌≡◌, ◌∙◌, refl, sym, ap, ℕ, Bool, co
 use Rattle.rolelist.specs.Text.{line}
 use Rattle.rolelist.specs.Listed.{kinds, first_bad}
 use Rattle.rolesource.specs.Source.{row}
-use Rattle.rolelist.proofs.Listing.{ready, goes_on, kinds_more, stopped, ended, all_kinds, lines_short}
+use Rattle.rolelist.proofs.Listing.{ready, goes_on, kinds_more, stopped, ended, all_kinds}
 use Rattle.rolesource.proofs.Printing.{made_more}
 use Rattle.rolesource.proofs.source.put_lines.Goals as goal
 
@@ -42,7 +42,7 @@ loop-m-preserved c =
     }
 
 pub overflow_add-result-else-complete : goal.overflow_add-result-else-complete
-overflow_add-result-else-complete c = omega (arith, c.lines-n.ensures.count, lines_short c.args.list.now, c.requires.0)
+overflow_add-result-else-complete c = omega (arith, c.lines-n.ensures.count, c.lines-n.ensures.few, c.requires.0)
 
 pub returns-then-complete-clause-unread : goal.returns-then-complete-clause-unread
 returns-then-complete-clause-unread c =
