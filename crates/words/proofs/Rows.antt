@@ -9,7 +9,7 @@ use native.Mathlib.Omega.{arith}
 use lib.Bits.{bit_and, bit_or}
 use lib.Dec.{eqb, eqb→eq}
 use lib.ListN.{length, get_or, set, take, replicate, length-set, get_or-eq_default}
-use lib.Seq.{get_or-set_same, get_or-set_other, set_out}
+use lib.Seq.{get_or-set_same, get_or-set_other}
 use borrow.Author.Tests.{eq-eqb, ne_eqb}
 use Rattle.words.specs.Bits.{digit, digit_in, is_in, set_bit, unset_bit, room}
 use Rattle.words.specs.Lists.{hit}
@@ -133,14 +133,6 @@ unset_bit_at ws at r = rw (row_word, row_place, shl_one (r % 64) (omega arith))
 pub in_past : (ws : List ℕ) (at r : ℕ) → length ws ≤ at + r / 64 → is_in ws (64 * at + r) ≡ false
 unfolding is_in
 in_past ws at r h = ap (λ (x : ℕ). eqb x 1) (digit_past ws (64 * at + r) (omega arith))
-
-pub set_past : (ws : List ℕ) (at r : ℕ) → length ws ≤ at + r / 64 → set_bit ws (64 * at + r) ≡ ws
-unfolding set_bit
-set_past ws at r h = set_out ws ((64 * at + r) / 64) _ (omega arith)
-
-pub unset_past : (ws : List ℕ) (at r : ℕ) → length ws ≤ at + r / 64 → unset_bit ws (64 * at + r) ≡ ws
-unfolding unset_bit
-unset_past ws at r h = set_out ws ((64 * at + r) / 64) _ (omega arith)
 
 -- ---- measures
 

@@ -1,12 +1,10 @@
-// Rows of bits in lent 64-bit words: number r is bit r % 64 of word r / 64. As in the Rust's `bit` and `set`, what lies past
-// the row's end is not in it, and cannot be put in.
+// Rows of bits in lent 64-bit words: number r is bit r % 64 of word r / 64. As in the Rust's `bit`, what lies past the row's end is
+// not in it; whoever puts in or takes out shows that it does not lie there, so that neither asks.
 //
 // The rows of several blocks lie in one slice, a block's row from word `at` on. Bit r of that row is bit 64 * at + r of the
-// slice, so the definitions speak of one row, and every law holds for each. By index and not by `get_mut`, whose reference the
-// search does not tie to what the slice then is; putting in and taking out stay two functions of four lines, a closure is longer. A
-// caller of `set_in` needs no proof file for it; a part lent as `&mut words[a..e]` leaves the caller its start, end and sizes to show,
-// and the whole to put together again.
-ghost use Rattle.std.specs.Prelude.{◌≡◌, ◌+◌, ◌*◌, ◌^◌, ◌≤◌, length};
+// slice, so the definitions speak of one row, and every law holds for each. (A part lent as `&mut words[a..e]` leaves the caller its
+// start, end and sizes to show, and the whole to put together again.)
+ghost use Rattle.std.specs.Prelude.{◌≡◌, ◌+◌, ◌*◌, ◌^◌, ◌≤◌, ◌<◌, length};
 ghost use Rattle.words.specs.Bits.{width, is_in, set_bit, unset_bit, ones_in};
 
 // The words of a row of n numbers.
@@ -29,27 +27,21 @@ pub fn bit_in(words: &[u64], at: usize, r: usize) -> bool
 }
 
 // Puts r into the row that begins at word `at`.
-#[tactic(auto, using(crate::proofs::Rows::set_bit_at, crate::proofs::Rows::set_past))]
+#[tactic(auto, using(crate::proofs::Rows::set_bit_at))]
 pub fn set_in(words: &mut [u64], at: usize, r: usize)
-    requires { at ≤ length words.old }
+    requires { 64 * at + r < 64 * length words.old }
     ensures { words.new ≡ set_bit words.old (64 * at + r) }
 {
-    let i = at + r / 64;
-    if i < words.len() {
-        words[i] |= 1 << (r % 64);
-    }
+    words[at + r / 64] |= 1 << (r % 64);
 }
 
 // Takes r out of the row that begins at word `at`.
-#[tactic(auto, using(crate::proofs::Rows::unset_bit_at, crate::proofs::Rows::unset_past))]
+#[tactic(auto, using(crate::proofs::Rows::unset_bit_at))]
 pub fn unset_in(words: &mut [u64], at: usize, r: usize)
-    requires { at ≤ length words.old }
+    requires { 64 * at + r < 64 * length words.old }
     ensures { words.new ≡ unset_bit words.old (64 * at + r) }
 {
-    let i = at + r / 64;
-    if i < words.len() {
-        words[i] &= !(1 << (r % 64));
-    }
+    words[at + r / 64] &= !(1 << (r % 64));
 }
 
 // How many numbers are in the row. The bound is there for the sum: 2^58 full words have 2^64 bits.
