@@ -5,7 +5,7 @@ use mathlib.Core.Path.{◌≡◌, refl, ap, sym, ◌∙◌, subst}
 use Prim.Native.Nat.{ℕ, ◌≤◌, ◌<◌}
 use native.Mathlib.Omega.{arith}
 use lib.Dec.{eqb, ltb}
-use borrow.Author.Tests.{eqb-true, eqb-false, ltb-true, ltb-false}
+use borrow.Author.Tests.{eqb-true, eqb-false, ltb-true, ltb-false, le-ltb}
 use mathlib.Core.Logic.{◌⊎◌, inl, inr}
 use Rattle.model.specs.Picture.{absent}
 use Rattle.inst.specs.Index.{block_of, reg_of, pick, word_of, Among}
@@ -20,6 +20,11 @@ block_number None = 0
 among_more : {count more : ℕ} → count ≤ more → (d : Option Reg) → Among count d → Among more d
 among_more h (Some k) a = (omega (arith, h, a.0), a.1)
 among_more h None a = tt
+
+-- absent is no register, by as many as a list can have
+pub none_made : (count : ℕ) {n : ℕ} → n ≡ absent → count ≤ absent → None ≡ reg_of n count
+unfolding reg_of
+none_made count {n} e h = sym (ap (λ (b : Bool). pick {A = Reg} b (record { 0 = n })) (le-ltb n count (omega arith)))
 
 module _ (n count : ℕ) where
   pub is_block : (r : BlockId) → block_of n count ≡ Some r → (n ≡ r.0) × (n < count)

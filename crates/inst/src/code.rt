@@ -1,8 +1,8 @@
 // A function's records and operands beside the table of roles, and what the slots of one record do (01, "The call": `visit_mut` fixes
 // the roles): that is looked up in the table once, and then each slot goes by its place.
-ghost use Rattle.std.specs.Prelude.{◌≡◌, List, [], ◌++◌, ℕ, ◌+◌, ◌<◌};
+ghost use Rattle.std.specs.Prelude.{◌≡◌, List, [], ◌++◌, ℕ, ◌+◌, ◌/◌, ◌%◌, ◌≤◌, ◌<◌, eqb};
 ghost use Rattle.model.specs.Picture.{inst, kind, form, absent, list_of, reads, writes};
-ghost use Rattle.inst.specs.Table.{packed};
+ghost use Rattle.inst.specs.Table.{packed, two_bits};
 ghost use Rattle.inst.specs.Record.{word, Known, Used, Listed, read_at, write_at, later, readers, writers, rest_reads, rest_writes};
 ghost use Rattle.inst.specs.Firsts.{Heads};
 ghost use Rattle.inst.specs.Index.{reg_of};
@@ -76,20 +76,44 @@ impl<'a> Code<'a> {
 }
 
 impl Slots<'_> {
-    // The register, of `count`, that slot s reads, if there is one: absent is not below any count.
+    // The register, of `count`, that slot s reads, if there is one: absent is not below the count.
     pub fn read(&self, s: usize, count: usize) -> Option<Reg>
-        requires { s < 5 }
+        requires slot { s < 5 }
+        requires few { count ≤ absent }
         ensures { result ≡ reg_of (read_at (inst self.now.recs.now self.now.p) s) count }
     {
-        Reg::new(self.read_word(s), count)
+        if self.reads(s) {
+            return Reg::new(self.word(s), count);
+        }
+        None
     }
 
     // The register, of `count`, that slot s writes, if there is one.
     pub fn write(&self, s: usize, count: usize) -> Option<Reg>
-        requires { s < 5 }
+        requires slot { s < 5 }
+        requires few { count ≤ absent }
         ensures { result ≡ reg_of (write_at (inst self.now.recs.now self.now.p) s) count }
     {
-        Reg::new(self.write_word(s), count)
+        if self.writes(s) {
+            return Reg::new(self.word(s), count);
+        }
+        None
+    }
+
+    // Does slot s read? (Of a slot's two bits the lower says that it is read, the upper that it is written.)
+    fn reads(&self, s: usize) -> bool
+        requires { s < 5 }
+        ensures { result ≡ eqb (two_bits self.now.does s % 2) 1 }
+    {
+        two_bits(self.does, s) % 2 == 1
+    }
+
+    // Does slot s write?
+    fn writes(&self, s: usize) -> bool
+        requires { s < 5 }
+        ensures { result ≡ eqb (two_bits self.now.does s / 2) 1 }
+    {
+        two_bits(self.does, s) / 2 == 1
     }
 
     // Does a slot after the first write? Few kinds have one.
@@ -135,13 +159,12 @@ impl Slots<'_> {
         rec.slot(s)
     }
 
-    // The word of slot s where it reads, or absent. (Of a slot's two bits the lower says that it is read, the upper that it is
-    // written.)
+    // The word of slot s where it reads, or absent.
     fn read_word(&self, s: usize) -> u32
         requires { s < 5 }
         ensures { result ≡ read_at (inst self.now.recs.now self.now.p) s }
     {
-        if two_bits(self.does, s) % 2 == 1 {
+        if self.reads(s) {
             return self.word(s);
         }
         ABSENT
@@ -152,7 +175,7 @@ impl Slots<'_> {
         requires { s < 5 }
         ensures { result ≡ write_at (inst self.now.recs.now self.now.p) s }
     {
-        if two_bits(self.does, s) / 2 == 1 {
+        if self.writes(s) {
             return self.word(s);
         }
         ABSENT
