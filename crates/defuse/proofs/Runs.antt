@@ -29,7 +29,7 @@ pub none_held : (f : List ℕ → ℕ → List ℕ) (l : List ℕ) {r : Option R
 unfolding steps
 none_held f l e = sym (ap (λ (x : Option Reg). steps f l (one x)) e)
 
-one_held : (f : List ℕ → ℕ → List ℕ) (l : List ℕ) {r : Option Reg} {k : Reg} → r ≡ Some k → f l k.0 ≡ steps f l (one r)
+pub one_held : (f : List ℕ → ℕ → List ℕ) (l : List ℕ) {r : Option Reg} {k : Reg} → r ≡ Some k → f l k.0 ≡ steps f l (one r)
 unfolding steps
 one_held f l e = sym (ap (λ (x : Option Reg). steps f l (one x)) e)
 
@@ -87,13 +87,14 @@ module _ (recs : List ℕ) (p : ℕ) {c s : ℕ} (w : Within recs p) (h : s < 5)
   write_next l e = writes_step recs p w s h ∙ ap (λ (xs : List ℕ). xs ++ rest_writes (inst recs p) (s + 1)) (sym (slot_written l e))
 
 -- one slot done, the others left
-pub read_on : {recs : List ℕ} {p c s : ℕ} (u : ℕ) → Within recs p → Low c (rest_reads (inst recs p) 0) → s < 5 → (r : Option Reg) (l m : List ℕ) → r ≡ reg_of (read_at (inst recs p) s) c → m ≡ steps (put u) l (one r)
-    → steps (put u) m (rest_reads (inst recs p) (s + 1)) ≡ steps (put u) l (rest_reads (inst recs p) s)
-read_on {recs} {p} {c} {s} u w low h r l m e q = steps_on (put u) (one r) (rest_reads (inst recs p) (s + 1)) (rest_reads (inst recs p) s) l (read_next recs p w h low e) q refl
+pub read_on : {recs : List ℕ} {p c s : ℕ} (u : ℕ) → Within recs p → Low c (rest_reads (inst recs p) 0) → s < 5 → (r : Option Reg) (l m : List ℕ) {e : List ℕ} → r ≡ reg_of (read_at (inst recs p) s) c → m ≡ steps (put u) l (one r)
+    → steps (put u) l (rest_reads (inst recs p) s) ≡ e → steps (put u) m (rest_reads (inst recs p) (s + 1)) ≡ e
+read_on {recs} {p} {c} {s} u w low h r l m e q = steps_on (put u) (one r) (rest_reads (inst recs p) (s + 1)) (rest_reads (inst recs p) s) l (read_next recs p w h low e) q
 
-pub write_on : {recs : List ℕ} {p c s : ℕ} (u d : ℕ) → Within recs p → Low c (writes (inst recs p)) → s < 5 → (r : Option Reg) (l m : List ℕ) → r ≡ reg_of (write_at (inst recs p) s) c → m ≡ steps (wrote u d) l (one r)
-    → steps (wrote u d) m (rest_writes (inst recs p) (s + 1)) ≡ steps (wrote u d) l (rest_writes (inst recs p) s)
-write_on {recs} {p} {c} {s} u d w low h r l m e q = steps_on (wrote u d) (one r) (rest_writes (inst recs p) (s + 1)) (rest_writes (inst recs p) s) l (write_next recs p w h low e) q refl
+-- whatever is done with what is written
+pub write_on : {recs : List ℕ} {p c s : ℕ} (f : List ℕ → ℕ → List ℕ) → Within recs p → Low c (writes (inst recs p)) → s < 5 → (r : Option Reg) (l m : List ℕ) {e : List ℕ} → r ≡ reg_of (write_at (inst recs p) s) c → m ≡ steps f l (one r)
+    → steps f l (rest_writes (inst recs p) s) ≡ e → steps f m (rest_writes (inst recs p) (s + 1)) ≡ e
+write_on {recs} {p} {c} {s} f w low h r l m e q = steps_on f (one r) (rest_writes (inst recs p) (s + 1)) (rest_writes (inst recs p) s) l (write_next recs p w h low e) q
 
 -- ---- one instruction
 

@@ -1,7 +1,6 @@
 -- The rows of bits that the instructions make (01, "A round": "read before written", "written"): of each block a row of what
 -- is read before it is written, from word u of the slice on, and a row of what is written, from word d on. Assumes nothing.
-use Rattle.std.specs.Prelude.{◌≡◌, List, [], ◌∷◌, ℕ, ◌+◌, ◌*◌, ◌<◌, ◌≤◌, length, Option, Some, None}
-use denote.Ref.{MutBor}
+use Rattle.std.specs.Prelude.{List, [], ◌∷◌, ℕ, ◌+◌, ◌*◌, ◌<◌, ◌≤◌, length, Option, Some, None}
 use Rattle.words.specs.Bits.{set_bit, unset_bit}
 use Rattle.words.specs.Lists.{In}
 use Rattle.words.specs.Steps.{steps}
@@ -21,14 +20,6 @@ put u ws r = set_bit ws (64 * u + r)
 -- r is written: out of the row at u, into the one at d
 abbrev pub wrote : ℕ → ℕ → List ℕ → ℕ → List ℕ
 wrote u d ws r = set_bit (unset_bit ws (64 * u + r)) (64 * d + r)
-
--- something may be done at each slot, on n words
-abbrev pub AtSlots : ℕ → (MutBor (List ℕ) → ℕ → Type 0) → Type 0
-AtSlots n can = (xs : MutBor (List ℕ)) (s : ℕ) → length xs.now ≡ n → s < 5 → can xs s
-
--- what the words become by the slots from s on stays the same when slot s is done
-abbrev pub Keeps : (MutBor (List ℕ) → ℕ → Unit {0} → MutBor (List ℕ) → Type 0) → (ℕ → List ℕ → List ℕ) → Type 0
-Keeps does left = (s : ℕ) (xs ys : MutBor (List ℕ)) → s < 5 → does xs s tt ys → left (s + 1) ys.now ≡ left s xs.now
 
 -- an instruction in front of those that the rows are of
 unfoldable pub before : List ℕ → ℕ → ℕ → List ℕ → Inst → List ℕ
@@ -56,3 +47,7 @@ pub record Code (recs ops : List ℕ) (R : ℕ) : Type 0 where
 -- n blocks have their rows of live-in and of what they write, of w words each, in the slice
 pub record Room (n w : ℕ) (bits : List ℕ) : Type 0 where
   pub fits : n * w + n * w ≤ length bits
+
+-- the row of R registers that begins at word x lies in the words
+pub record InRow (x R : ℕ) (bits : List ℕ) : Type 0 where
+  pub fits : 64 * x + R ≤ 64 * length bits

@@ -1,14 +1,18 @@
 // What a run of instructions reads before it writes it, and what it writes (01, "A round": "read before written"; in the Rust
 // the first part of `liveness`), in two rows of bits. The instructions are taken from the last to the first: what one writes
-// goes out of the row of reads, and what it reads goes in.
-ghost use Rattle.std.specs.Prelude.{◌≡◌, ℕ, List, map, ◌-◌, ◌*◌, ◌≤◌, length};
+// goes out of the row of reads, and what it reads goes in. On the way each writer is noted, so that rows and facts on registers take
+// one pass over the records (request 2026-04).
+ghost use Rattle.std.specs.Prelude.{◌≡◌, map, ◌-◌, ◌*◌, ◌≤◌, ◌<◌, length};
 ghost use Rattle.words.specs.Lists.{range};
 ghost use Rattle.model.specs.Picture.{inst, reads, writes};
+ghost use Rattle.inst.specs.Index.{Among};
 ghost use Rattle.inst.specs.Record.{Known, Listed, rest_reads};
-ghost use Rattle.defuse.specs.Sets.{one, put, wrote, before, run, Low, AtSlots, Keeps};
+ghost use Rattle.defuse.specs.Sets.{one, put, wrote, before, run, Low, InRow};
 ghost use Rattle.defuse.specs.Coded.{Coded};
+ghost use Rattle.defuse.specs.Writers.{note, notes};
 ghost use Rattle.words.specs.Steps.{steps};
 
+use crate::writers::note;
 use inst::code::{Code, Slots};
 use inst::index::Reg;
 use words::bits::{set_in, unset_in};
@@ -22,21 +26,23 @@ pub struct Pair {
     pub regs: usize,
 }
 
-// Register r, if it is one, is written.
-fn write_one(bits: &mut [u64], at: Pair, r: Option<Reg>)
-    requires { (at.u ≤ length bits.old) × (at.d ≤ length bits.old) }
-    ensures { bits.new ≡ steps (wrote at.u at.d) bits.old (one r) }
+// Register r, if it is one, is written by record p.
+fn write_one(bits: &mut [u64], writers: &mut [u64], at: Pair, r: Option<Reg>, p: usize)
+    requires { InRow at.u at.regs bits.old × InRow at.d at.regs bits.old × Among at.regs r × (p < 32768) }
+    ensures bits { bits.new ≡ steps (wrote at.u at.d) bits.old (one r) }
+    ensures writers { writers.new ≡ steps (note p) writers.old (one r) }
 {
     let Some(k) = r else {
         return;
     };
     unset_in(bits, at.u, k.at());
     set_in(bits, at.d, k.at());
+    note(writers, k, p);
 }
 
 // Register r, if it is one, is read.
 fn read_one(bits: &mut [u64], at: Pair, r: Option<Reg>)
-    requires { at.u ≤ length bits.old }
+    requires { InRow at.u at.regs bits.old × Among at.regs r }
     ensures { bits.new ≡ steps (put at.u) bits.old (one r) }
 {
     let Some(k) = r else {
@@ -45,45 +51,32 @@ fn read_one(bits: &mut [u64], at: Pair, r: Option<Reg>)
     set_in(bits, at.u, k.at());
 }
 
-// f at the first n slots, one by one. Where `left s` says what the bits become by the slots from s on, and f keeps that, it says so of
-// those from n on.
-fn each_slot<F: Fn(&mut [u64], usize)>(bits: &mut [u64], n: usize, f: F)
-    requires few { n ≤ 5 }
-    requires can { AtSlots (length bits.old) (F.pre f) }
-    ensures { (left : ℕ → List ℕ → List ℕ) → Keeps (F.post f) left → left n bits.new ≡ left 0 bits.old }
+// What a record writes in its slots.
+fn write_slots(bits: &mut [u64], writers: &mut [u64], slots: &Slots<'_>, at: Pair)
+    requires { InRow at.u at.regs bits.old × InRow at.d at.regs bits.old × Low at.regs (writes (inst slots.now.recs.now slots.now.p)) × (slots.now.p < 32768) }
+    ensures bits { bits.new ≡ steps (wrote at.u at.d) bits.old (writes (inst slots.now.recs.now slots.now.p)) }
+    ensures writers { writers.new ≡ steps (note slots.now.p) writers.old (writes (inst slots.now.recs.now slots.now.p)) }
 {
+    let n = slots.writers();
     for s in 0..n {
-        f(bits, s);
+        write_one(bits, writers, at, slots.write(s, at.regs), slots.p);
     }
 }
 
-// What a record writes.
-fn write_slots(bits: &mut [u64], slots: &Slots<'_>, at: Pair)
-    requires { (at.u ≤ length bits.old) × (at.d ≤ length bits.old) × Low at.regs (writes (inst slots.now.recs.now slots.now.p)) }
-    ensures { bits.new ≡ steps (wrote at.u at.d) bits.old (writes (inst slots.now.recs.now slots.now.p)) }
-{
-    each_slot(
-        bits,
-        slots.writers(),
-        |bits, s| write_one(bits, at, slots.write(s, at.regs)),
-    );
-}
-
-// What the slots of a record read.
+// What it reads in its slots.
 fn read_slots(bits: &mut [u64], slots: &Slots<'_>, at: Pair)
-    requires { (at.u ≤ length bits.old) × Low at.regs (rest_reads (inst slots.now.recs.now slots.now.p) 0) }
+    requires { InRow at.u at.regs bits.old × Low at.regs (rest_reads (inst slots.now.recs.now slots.now.p) 0) }
     ensures { bits.new ≡ steps (put at.u) bits.old (rest_reads (inst slots.now.recs.now slots.now.p) 0) }
 {
-    each_slot(
-        bits,
-        slots.readers(),
-        |bits, s| read_one(bits, at, slots.read(s, at.regs)),
-    );
+    let n = slots.readers();
+    for s in 0..n {
+        read_one(bits, at, slots.read(s, at.regs));
+    }
 }
 
 // What a list of operands reads.
 fn read_list(bits: &mut [u64], xs: &[u32], at: Pair)
-    requires { (at.u ≤ length bits.old) × Low at.regs xs.now }
+    requires { InRow at.u at.regs bits.old × Low at.regs xs.now }
     ensures { bits.new ≡ steps (put at.u) bits.old xs.now }
 {
     for r in xs {
@@ -92,23 +85,32 @@ fn read_list(bits: &mut [u64], xs: &[u32], at: Pair)
 }
 
 // Record p in front of those that the rows are of.
-fn add_front(code: &Code<'_>, bits: &mut [u64], p: usize, at: Pair)
-    requires { (at.u ≤ length bits.old) × (at.d ≤ length bits.old) × Known code.now.recs.now p × Listed code.now.recs.now code.now.ops.now p
+fn add_front(code: &Code<'_>, bits: &mut [u64], writers: &mut [u64], p: usize, at: Pair)
+    requires { InRow at.u at.regs bits.old × InRow at.d at.regs bits.old × (p < 32768) × Known code.now.recs.now p × Listed code.now.recs.now code.now.ops.now p
         × Low at.regs (reads code.now.ops.now (inst code.now.recs.now p)) × Low at.regs (writes (inst code.now.recs.now p)) }
-    ensures { bits.new ≡ before code.now.ops.now at.u at.d bits.old (inst code.now.recs.now p) }
+    ensures bits { bits.new ≡ before code.now.ops.now at.u at.d bits.old (inst code.now.recs.now p) }
+    ensures writers { writers.new ≡ steps (note p) writers.old (writes (inst code.now.recs.now p)) }
 {
     let slots = code.slots(p);
-    write_slots(bits, &slots, at);
+    write_slots(bits, writers, &slots, at);
     read_slots(bits, &slots, at);
     read_list(bits, code.list(p), at);
 }
 
-// The rows of the records from lo up to hi.
-pub fn block_sets(code: &Code<'_>, bits: &mut [u64], lo: usize, hi: usize, at: Pair)
-    requires { (at.u ≤ length bits.old) × (at.d ≤ length bits.old) × (lo ≤ hi) × (16 * hi ≤ length code.now.recs.now) × Coded code.now at.regs }
-    ensures { bits.new ≡ run code.now.ops.now at.u at.d bits.old (map (inst code.now.recs.now) (range lo (hi - lo))) }
+// The rows of the records from lo up to hi, and their writers, noted in as many words as there are.
+pub fn block_sets(
+    code: &Code<'_>,
+    bits: &mut [u64],
+    writers: &mut [u64],
+    lo: usize,
+    hi: usize,
+    at: Pair,
+)
+    requires { InRow at.u at.regs bits.old × InRow at.d at.regs bits.old × (lo ≤ hi) × (hi ≤ 32768) × (16 * hi ≤ length code.now.recs.now) × Coded code.now at.regs }
+    ensures bits { bits.new ≡ run code.now.ops.now at.u at.d bits.old (map (inst code.now.recs.now) (range lo (hi - lo))) }
+    ensures writers { writers.new ≡ notes code.now.recs.now writers.old (range lo (hi - lo)) }
 {
     for p in (lo..hi).rev() {
-        add_front(code, bits, p, at);
+        add_front(code, bits, writers, p, at);
     }
 }

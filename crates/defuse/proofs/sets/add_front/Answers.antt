@@ -10,17 +10,19 @@ use Rattle.defuse.proofs.Runs.{slots_low, list_low, all_before}
 use Rattle.defuse.proofs.sets.add_front.Goals as goal
 
 pub write_slots-requires : goal.write_slots-requires
-write_slots-requires c = let e = c.slots-slots.ensures in (c.requires.0, c.requires.1, rw (e.recs, e.place) c.requires.5)
+write_slots-requires c = let g = c.requires in let e = c.slots-slots.ensures in (g.0, g.1, rw (e.recs, e.place) g.6, rw e.place g.2)
 
 pub read_slots-requires : goal.read_slots-requires
 read_slots-requires c =
+    let g = c.requires in
     let e = c.slots-slots.ensures in
-    (omega (arith, c.requires.0, c.write_slots.auto.bits), rw (e.recs, e.place) (slots_low c.args.code.now.ops.now _ c.requires.4))
+    (record { fits = omega (arith, g.0.fits, c.write_slots.auto.bits) }, rw (e.recs, e.place) (slots_low c.args.code.now.ops.now _ g.5))
 
 pub read_list-requires : goal.read_list-requires
 read_list-requires c =
+    let g = c.requires in
     let f = c.args.code.now in
-    (omega (arith, c.requires.0, c.write_slots.auto.bits, c.read_slots.auto.bits), subst (Low c.args.at.regs) (sym c.list.ensures) (list_low f.ops.now (inst f.recs.now c.args.p) c.requires.4))
+    (record { fits = omega (arith, g.0.fits, c.write_slots.auto.bits, c.read_slots.auto.bits) }, subst (Low c.args.at.regs) (sym c.list.ensures) (list_low f.ops.now (inst f.recs.now c.args.p) g.5))
 
 pub returns : goal.returns
 returns c =
@@ -28,5 +30,9 @@ returns c =
     let f = a.code.now in
     let e = c.slots-slots.ensures in
     let i = inst f.recs.now a.p in
-    all_before f.ops.now a.at.u a.at.d i (rest_reads i 0) (list_of f.ops.now i) _ (reads_all _ _)
-    (rw (e.recs, e.place) at c.write_slots.ensures) (rw (e.recs, e.place) at c.read_slots.ensures) (c.read_list.ensures ∙ ap (steps (put a.at.u) _) c.list.ensures)
+    let wrote = rw (e.recs, e.place) at c.write_slots.ensures in
+    record {
+      bits = all_before f.ops.now a.at.u a.at.d i (rest_reads i 0) (list_of f.ops.now i) _ (reads_all _ _)
+          wrote.bits (rw (e.recs, e.place) at c.read_slots.ensures) (c.read_list.ensures ∙ ap (steps (put a.at.u) _) c.list.ensures);
+      writers = wrote.writers;
+    }

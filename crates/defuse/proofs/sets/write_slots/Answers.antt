@@ -1,25 +1,52 @@
 -- `defuse::sets::write_slots` meets its contract. Assumes nothing.
-use borrow.Author.Rules.{rules}
-use mathlib.Core.List.{List}
-use mathlib.Core.Path.{ap, ◌∙◌}
-use Prim.Native.Nat.{ℕ}
-use Rattle.model.specs.Picture.{inst}
-use Rattle.inst.specs.Record.{rest_writes}
+use native.Mathlib.Omega.{arith}
+use mathlib.Core.Path.{◌≡◌, refl, ap, ◌∙◌}
+use Prim.Native.Nat.{◌<◌}
+use Rattle.inst.specs.Record.{writers}
 use Rattle.inst.proofs.Firsts.{writers_few, writers_end}
+use Rattle.inst.proofs.Indices.{among_made}
 use Rattle.inst.proofs.Rest.{writes_all}
 use Rattle.defuse.specs.Sets.{wrote}
+use Rattle.defuse.specs.Writers.{note}
 use Rattle.defuse.proofs.Runs.{write_on}
 use Rattle.words.specs.Steps.{steps}
 use Rattle.words.proofs.Steps.{steps_end}
 use Rattle.defuse.proofs.sets.write_slots.Goals as goal
 
-pub each_slot-requires-clause-few : goal.each_slot-requires-clause-few
-each_slot-requires-clause-few c = rw c.writers.ensures (writers_few c.args.slots.now.does)
+pub write-requires-clause-slot : goal.write-requires-clause-slot
+write-requires-clause-slot c = omega (arith, c.loop-s-test.true, c.writers-n.ensures, writers_few c.args.slots.now.does)
+
+pub write-requires-clause-few : goal.write-requires-clause-few
+write-requires-clause-few c = omega (arith, c.requires.2.few)
+
+pub write_one-requires : goal.write_one-requires
+write_one-requires c =
+    let g = c.requires in
+    (
+      record { fits = omega (arith, g.0.fits, c.loop-s.auto.bits) },
+      record { fits = omega (arith, g.1.fits, c.loop-s.auto.bits) },
+      among_made _ _ c.write.ensures refl _ (omega (arith, g.2.few)) (omega arith),
+      g.3,
+    )
+
+pub loop-s-preserved : goal.loop-s-preserved
+loop-s-preserved c =
+    let a = c.args in
+    let e = c.write_one.ensures in
+    let on = c.loop-s.invariant in
+    let low : c.loop-s.s < 5 = omega (arith, c.loop-s-test.true, c.writers-n.ensures, writers_few a.slots.now.does) in
+    (
+      write_on (wrote a.at.u a.at.d) a.slots.now.used.within c.requires.2 low _ _ _ c.write.ensures e.bits on.0,
+      write_on (note a.slots.now.p) a.slots.now.used.within c.requires.2 low _ _ _ c.write.ensures e.writers on.1,
+    )
 
 pub returns : goal.returns
 returns c =
     let a = c.args in
-    let i = inst a.slots.now.recs.now a.slots.now.p in
-    steps_end (wrote a.at.u a.at.d) (rest_writes i c.writers.result) (writers_end _ _ _ a.slots.now.used c.writers.ensures)
-    (c.each_slot.ensures (λ (s : ℕ) (xs : List ℕ). steps (wrote a.at.u a.at.d) xs (rest_writes i s)) (λ s xs ys h p. search (rules, write_on {s = s} a.at.u a.at.d a.slots.now.used.within c.requires.2 h))
-    ∙ ap (steps (wrote a.at.u a.at.d) a.bits.now) (writes_all i))
+    let on = c.loop-s.invariant in
+    let all : c.loop-s.s ≡ writers a.slots.now.does = omega (arith, c.loop-s.auto.s-end, c.loop-s-test.false, c.writers-n.ensures) in
+    let none = writers_end _ _ _ a.slots.now.used all in
+    record {
+      bits = steps_end (wrote a.at.u a.at.d) _ none on.0 ∙ ap (steps (wrote a.at.u a.at.d) a.bits.now) (writes_all _);
+      writers = steps_end (note a.slots.now.p) _ none on.1 ∙ ap (steps (note a.slots.now.p) a.writers.now) (writes_all _);
+    }
