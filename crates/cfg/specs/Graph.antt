@@ -9,9 +9,10 @@ use Rattle.cfg.specs.Drawn.{drawn}
 pub record Tables (pairs targets : List ℕ) : Type 0 where
   pub inside : (k : ℕ) → 2 * k + 1 < length pairs → get_or pairs (2 * k) 0 + get_or pairs (2 * k + 1) 0 ≤ length targets
 
--- there are at most 4,096 blocks, and each lies within the records
+-- there are at most 4,096 blocks and 32,768 records, and each block lies within these
 pub record Blocks (bounds recs : List ℕ) : Type 0 where
   pub few : length bounds / 2 ≤ 4096
+  pub short : length recs ≤ 16 * 32768
   pub inside : (b : ℕ) → b < length bounds / 2 → 16 * get_or bounds (2 * b + 1) 0 ≤ length recs
   pub order : (b : ℕ) → b < length bounds / 2 → get_or bounds (2 * b) 0 ≤ get_or bounds (2 * b + 1) 0
 

@@ -10,7 +10,7 @@ use Rattle.model.specs.Picture.{Picture, inst, succs}
 use Rattle.laws.proofs.Accepted as laws
 use Rattle.model.proofs.Results.{kind_low}
 use Rattle.laws.proofs.Admitted.{writes_low, list_in, reads_low, succs_low, pair_fits}
-use Rattle.laws.proofs.Sizes.{few_blocks, few_types, regs_lent, opers_lent, recs_length, block_within}
+use Rattle.laws.proofs.Sizes.{few_blocks, few_insts, few_types, regs_lent, opers_lent, recs_length, block_within}
 use Rattle.inst.specs.Record.{Known}
 use Rattle.cfg.specs.Drawn.{drawn}
 use Rattle.cfg.specs.Graph.{Tables, Blocks, Graph}
@@ -30,6 +30,7 @@ module _ (P : Picture) (ok : laws.Accepted P) where
   pub blocks_given : Blocks P.bounds P.recs
   blocks_given = record {
     few = few_blocks P ok;
+    short = omega (arith, recs_length P ok, few_insts P ok);
     inside = λ b h. let z = block_within P ok b h in let y = z.1 in omega (arith, recs_length P ok);
     order = λ b h. (block_within P ok b h).0;
   }

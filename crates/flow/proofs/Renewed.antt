@@ -4,20 +4,23 @@ use mathlib.Core.Path.{◌≡◌, refl, sym, ap, ap₂, subst, ◌∙◌}
 use mathlib.Core.Logic.{◌⊎◌, ◌≢◌, inl, inr, ⊎_elim}
 use mathlib.Core.Bool.{false}
 use mathlib.Core.List.{List, [], ◌∷◌, ◌++◌, map, append_assoc}
-use Prim.Native.Nat.{ℕ, ◌+◌, ◌-◌, ◌*◌, ◌/◌, ◌≤◌, ◌<◌}
+use Prim.Native.Nat.{ℕ, suc, ◌+◌, ◌-◌, ◌*◌, ◌/◌, ◌≤◌, ◌<◌}
 use native.Mathlib.Omega.{arith}
 use lib.ListN.{length, length-drop, take, drop, get_or, replicate, length-replicate}
 use borrow.Rule.Slice.PartMut.{put_mid}
 use lib.Seq.{sets, sets-eq, drop-drop, length-sets, length-take-le, get_or-set_other}
 use Rattle.words.specs.Bits.{is_in, set_bit, unset_bit}
-use Rattle.words.specs.Lists.{In, range}
+use Rattle.words.specs.Lists.{In, range, concat}
 use Rattle.words.proofs.Copying.{get_d_sets_before, get_or-sets_in, get_or-sets_after}
-use Rattle.words.proofs.Parts.{below_split}
+use Rattle.words.proofs.Parts.{row_fits}
 use Rattle.words.proofs.Rows.{in_clear}
-use Rattle.model.specs.Picture.{Picture, Inst, inst, reads, writes, code}
+use Rattle.model.specs.Picture.{Picture, Inst, inst, reads, writes, places, code}
 use Rattle.cfg.specs.Drawn.{drawn}
 use Rattle.cfg.specs.Graph.{Blocks}
 use Rattle.defuse.specs.Sets.{put, wrote, before, run, Code}
+use Rattle.defuse.specs.Writers.{notes}
+use Rattle.defuse.proofs.Noted.{notes_append}
+use Rattle.words.proofs.Bools.{lt?}
 use Rattle.words.specs.Steps.{steps}
 use Rattle.flow.specs.Live.{RowRoom, Rows, OnlyRows}
 use Rattle.flow.proofs.Firsts.{at, Small, code_small, length_run, run_own, run_kill}
@@ -157,21 +160,44 @@ module _ (bounds recs ops : List ℕ) (w b : ℕ) (l : List ℕ) {R : ℕ} (ok :
 
 -- ---- all blocks
 
--- the rows of blocks 0 to b - 1 were made
-pub record Made (bounds recs ops : List ℕ) (w b : ℕ) (l m : List ℕ) : Type 0 where
-  pub size : length m ≡ length l
-  pub each : (c : ℕ) → c < b → Rows (drawn bounds recs ops [] []) w c m
-  pub behind : (i : ℕ) → 3 * (length bounds / 2) * w + w ≤ i → get_or m i 0 ≡ get_or l i 0
+-- room for four rows a block is room for all rows, if there is a block
+pub room_of : {n w : ℕ} (b : ℕ) {l : List ℕ} → b < n → 4 * n * w ≤ length l → RowRoom n w l
+room_of {n} {w} b h e =
+    let some : 0 < n = omega arith in
+    record { fits = omega (arith, row_fits w some) }
 
-module _ {bounds recs ops : List ℕ} {w : ℕ} {l : List ℕ} where
-  one_more : {b : ℕ} {k m : List ℕ} → b < length bounds / 2 → Made bounds recs ops w b l k → Rows (drawn bounds recs ops [] []) w b m → OnlyRows (length bounds / 2) w b k m
-      → Made bounds recs ops w (b + 1) l m
-  one_more {b} {k} {m} h s r o = record {
-    size = o.size ∙ s.size;
-    each = λ c j. ⊎_elim (λ (e : c < b). rows_else (drawn bounds recs ops [] []) w c k m b h (omega arith) (λ q. omega arith) o (s.each c e)) (λ (e : c ≡ b). rw e r) (below_split c b j);
-    behind = λ i j. let y = within_rows (length bounds / 2) w b h in o.same i (inr (omega (arith, apart_rows (length bounds / 2) w b b h))) (inr (omega arith)) ∙ s.behind i j;
+-- the rows of blocks b to n - 1 were made, and who writes what in them was noted
+pub record Made (bounds recs ops : List ℕ) (w b : ℕ) (l vs m ws : List ℕ) : Type 0 where
+  pub size : length m ≡ length l
+  pub each : (c : ℕ) → b ≤ c → c < length bounds / 2 → Rows (drawn bounds recs ops [] []) w c m
+  pub behind : (i : ℕ) → 3 * (length bounds / 2) * w + w ≤ i → get_or m i 0 ≡ get_or l i 0
+  pub noted : ws ≡ notes recs vs (concat (map (places (drawn bounds recs ops [] [])) (range b (length bounds / 2 - b))))
+
+module _ {bounds recs ops : List ℕ} {w : ℕ} {l vs : List ℕ} where
+  pub made_none : (b : ℕ) → (length bounds / 2) ≤ b → Made bounds recs ops w b l vs l vs
+  unfolding notes
+  made_none b h = record {
+    size = refl;
+    each = λ c j k. absurd (omega arith);
+    behind = λ i j. refl;
+    noted = let z : (length bounds / 2) - b ≡ 0 = omega arith in sym (ap (λ (n : ℕ). notes recs vs (concat (map (places (drawn bounds recs ops [] [])) (range b n)))) z);
   }
 
-  pub made_more : {b c : ℕ} {k m : List ℕ} → b ≡ c → b < length bounds / 2 → Made bounds recs ops w b l k → Rows (drawn bounds recs ops [] []) w c m → OnlyRows (length bounds / 2) w c k m
-      → Made bounds recs ops w (b + 1) l m
-  made_more {b} {c} {k} {m} e h s r o = one_more h s (subst (λ (x : ℕ). Rows (drawn bounds recs ops [] []) w x m) (sym e) r) (subst (λ (x : ℕ). OnlyRows (length bounds / 2) w x k m) (sym e) o)
+  -- one block more, in front
+  pub made_more : {b c : ℕ} {k m xs ys : List ℕ} → c + 1 ≡ b → b ≤ (length bounds / 2) → Made bounds recs ops w b l vs k xs → Rows (drawn bounds recs ops [] []) w c m → OnlyRows (length bounds / 2) w c k m → ys ≡ notes recs xs (places (drawn bounds recs ops [] []) c)
+      → Made bounds recs ops w c l vs m ys
+  unfolding notes
+  made_more {b} {c} {k} {m} {xs} {ys} e h s r o q = record {
+    size = o.size ∙ s.size;
+    each = λ d j f. ⊎_elim (λ (g : d < b). let z : c ≡ d = omega arith in subst (λ (x : ℕ). Rows (drawn bounds recs ops [] []) w x m) z r) (λ (g : b ≤ d). rows_else (drawn bounds recs ops [] []) w d k m c (omega arith) f (λ z. omega arith) o (s.each d g f)) (lt? d b);
+    behind = λ i j. let y = within_rows (length bounds / 2) w c (omega arith) in o.same i (inr (omega (arith, apart_rows (length bounds / 2) w c c (omega arith)))) (inr (omega arith)) ∙ s.behind i j;
+    noted =
+        let z : (length bounds / 2) - c ≡ suc ((length bounds / 2) - b) = omega arith in
+        let y : b ≡ suc c = omega arith in
+        q ∙ ap (λ (t : List ℕ). notes recs t (places (drawn bounds recs ops [] []) c)) (s.noted ∙ ap (λ (x : ℕ). notes recs vs (concat (map (places (drawn bounds recs ops [] [])) (range x ((length bounds / 2) - b))))) y)
+        ∙ sym (notes_append recs vs (places (drawn bounds recs ops [] []) c) (concat (map (places (drawn bounds recs ops [] [])) (range (suc c) ((length bounds / 2) - b)))))
+        ∙ ap (λ (n : ℕ). notes recs vs (concat (map (places (drawn bounds recs ops [] [])) (range c n)))) (sym z);
+  }
+
+  pub made_room : {b : ℕ} {k xs : List ℕ} → 0 < b → b ≤ (length bounds / 2) → 4 * (length bounds / 2) * w ≤ length l → Made bounds recs ops w b l vs k xs → RowRoom (length bounds / 2) w k
+  made_room {b} h j e s = room_of (b - 1) (omega arith) (rw s.size e)
