@@ -1,4 +1,4 @@
 pub mod First
-pub mod Soles
 pub mod Turned
+pub mod Writers
 pub mod Writing

@@ -5,7 +5,7 @@ use Rattle.std.specs.declared.cmp.Ordering.TheVariants.{Less, Equal, Greater}
 use mathlib.Core.Bool.{Bool, true, false, cond, not, ◌||◌, ◌&&◌, and-true}
 use mathlib.Core.List.{List}
 use mathlib.Core.Logic.{◌⊎◌, inl, inr, ⊎_elim}
-use mathlib.Core.Path.{◌≡◌, refl, sym, ap, ◌∙◌, subst}
+use mathlib.Core.Path.{◌≡◌, refl, sym, ap, ◌∙◌}
 use Prim.Native.Nat.{ℕ, zero, suc, ◌+◌, ◌*◌, ◌-◌, ◌≤◌, ◌<◌}
 use native.Mathlib.Decide.{ℕ_discrete}
 use native.Mathlib.Nat.{not-suc-le-zero}
@@ -15,20 +15,21 @@ use lib.Dec.{eqb, leb, ltb}
 use lib.Ieee.{binary64, nan_bits}
 use lib.IntN.{ℤ, pos, negsuc}
 use lib.Signed.{lt_z}
-use lib.ListN.{get_or, length, set, length-set}
+use lib.ListN.{get_or, length, replicate, set, length-set}
 use lib.Seq.{get_or-set_same, get_or-set_other}
+use Rattle.words.specs.Lists.{upto}
 use Rattle.model.specs.Kinds.{Const, ConstF}
 use Rattle.model.specs.Picture.{Inst, inst, is_kind}
 use Rattle.model.specs.Analyse.{Org, Unknown, Ro, Frame, same_org, whole, unknown, known, small, positive, when_some}
 use Rattle.inst.specs.Constant.{bits_of, constant_of}
 use Rattle.inst.specs.Record.{Within}
 use Rattle.inst.proofs.Constants.{constant_by}
-use Rattle.regfacts.specs.Written.{Fits}
 use Rattle.words.proofs.Bools.{and_no}
 use Rattle.effects.specs.Origin.{org_at, num}
 use Rattle.effects.proofs.Origins.{same_at}
-use Rattle.regfacts.specs.Flags.{many, sole, Soles, flags_of, flags_in, sole_of, known_from, Found}
-use Rattle.regfacts.proofs.Soles.{sole_writer, sole_small}
+use Rattle.defuse.specs.Writers.{many, notes}
+use Rattle.regfacts.specs.Flags.{flags_of, flags_in, sole_of, known_from, Found}
+use Rattle.regfacts.proofs.Writers.{sole_writer, sole_small}
 
 -- ---- a constant
 
@@ -133,39 +134,35 @@ sole_within recs v e (inr z) f = let a = (sole_some recs v e).0 in record { whol
 
 -- ---- all of them
 
--- below r the words are facts, from there on writers
-pub record Turning (recs : List ℕ) (n R r : ℕ) (words : List ℕ) : Type 0 where
-  pub upto : r ≤ R
-  pub size : length words ≡ R
+-- below r the words are facts, from there on the writers of old
+pub record Turning (recs old : List ℕ) (n r : ℕ) (words : List ℕ) : Type 0 where
+  pub size : length words ≡ length old
   pub done : (k : ℕ) → k < r → get_or words k 0 ≡ flags_of (known_from recs n k)
-  pub todo : (k : ℕ) → r ≤ k → k < R → get_or words k 0 ≡ sole recs k n
+  pub todo : (k : ℕ) → r ≤ k → get_or words k 0 ≡ get_or old k 0
 
-pub turning_none : {recs : List ℕ} {n R : ℕ} {xs : List ℕ} → Soles recs n R xs → Turning recs n R 0 xs
-turning_none s = record { upto = omega arith; size = s.size; done = λ k h. absurd (not-suc-le-zero h); todo = λ k a h. s.each k h }
+pub turning_none : (recs old : List ℕ) (n : ℕ) → Turning recs old n 0 old
+turning_none recs old n = record { size = refl; done = λ k h. absurd (not-suc-le-zero h); todo = λ k h. refl }
 
-pub turning_more : {recs : List ℕ} {n R r v : ℕ} {xs : List ℕ} → n ≤ 32768 → Turning recs n R r xs → r < R → v ≡ flags_of (sole_of recs (get_or xs r 0)) → Turning recs n R (r + 1) (set xs r v)
-turning_more {recs} {n} {R} {r} {v} {xs} small_n t h e = record {
-  upto = omega (arith, t.size);
-  size = length-set xs r v ∙ t.size;
-  done = λ k l. go k l (ℕ_discrete k r);
-  todo = λ k a l. get_or-set_other xs r k v 0 (λ q. omega arith) ∙ t.todo k (omega arith) l;
-}
-  where
-    go : (k : ℕ) → k < r + 1 → Dec (k ≡ r) → get_or (set xs r v) k 0 ≡ flags_of (known_from recs n k)
-    go k l (yes q) =
-        ap (λ (x : ℕ). get_or (set xs r v) x 0) q ∙ get_or-set_same xs r v 0 (omega (arith, t.size, h)) ∙ e
-        ∙ ap (λ (x : ℕ). flags_of (sole_of recs x)) (t.todo r (omega arith) (omega (arith, t.size)))
-        ∙ ap flags_of (sole_writer recs r n small_n) ∙ ap (λ (x : ℕ). flags_of (known_from recs n x)) (sym q)
-    go k l (no q) = get_or-set_other xs r k v 0 q ∙ t.done k (omega arith)
+module _ {recs old : List ℕ} {n r : ℕ} {xs : List ℕ} where
+  pub turning_end : Turning recs old n r xs → length old ≤ r → Found recs n (length old) xs
+  turning_end t h = record { size = t.size; each = λ k l. t.done k (omega arith) }
 
-pub turning_end : {recs : List ℕ} {n R Q r : ℕ} {xs : List ℕ} → R ≡ Q → Turning recs n R r xs → R ≤ r → Found recs n Q xs
-turning_end e t h = record { size = t.size ∙ e; each = λ k l. t.done k (omega (arith, t.size, e)) }
+  module _ (few : n ≤ 32768) (noted_all : old ≡ notes recs (replicate (length old) 0) (upto n)) (t : Turning recs old n r xs) (h : r < length old) where
+    pub turning_more : {v : ℕ} → v ≡ flags_of (sole_of recs (get_or xs r 0)) → Turning recs old n (r + 1) (set xs r v)
+    turning_more {v} e = record {
+      size = length-set xs r v ∙ t.size;
+      done = λ k l. go k l (ℕ_discrete k r);
+      todo = λ k l. get_or-set_other xs r k v 0 (λ q. omega arith) ∙ t.todo k (omega arith);
+    }
+      where
+        go : (k : ℕ) → k < r + 1 → Dec (k ≡ r) → get_or (set xs r v) k 0 ≡ flags_of (known_from recs n k)
+        go k l (yes q) =
+            ap (λ (x : ℕ). get_or (set xs r v) x 0) q ∙ get_or-set_same xs r v 0 (omega (arith, t.size)) ∙ e
+            ∙ ap (λ (x : ℕ). flags_of (sole_of recs x)) (t.todo r (omega arith))
+            ∙ ap flags_of (sole_writer recs few noted_all r h) ∙ ap (λ (x : ℕ). flags_of (known_from recs n x)) (sym q)
+        go k l (no q) = get_or-set_other xs r k v 0 q ∙ t.done k (omega arith)
 
-pub turning_fits : {recs : List ℕ} {n R r : ℕ} {xs : List ℕ} → n ≤ 32768 → ((p : ℕ) → p < n → Fits recs R p) → Turning recs n R r xs → r < R → (get_or xs r 0 ≡ many) ⊎ (16 * get_or xs r 0 ≤ length recs)
-turning_fits {recs} {n} {R} {r} {xs} small_n fits t h =
-    let e = t.todo r (omega arith) (omega (arith, t.size)) in
-    ⊎_elim (λ (q : sole recs r n ≡ many). inl (e ∙ q)) (λ (q : sole recs r n ≤ n). inr (subst (λ (x : ℕ). 16 * x ≤ length recs) (sym e) (go (sole recs r n) q))) (sole_small recs r n small_n)
-  where
-    go : (v : ℕ) → v ≤ n → 16 * v ≤ length recs
-    go zero l = omega arith
-    go (suc v) l = let w = (fits v l).whole.within.whole in omega arith
+    pub turning_fits : 16 * n ≤ length recs → (get_or xs r 0 ≡ many) ⊎ (16 * get_or xs r 0 ≤ length recs)
+    turning_fits long =
+        let e = t.todo r (omega arith) in
+        ⊎_elim (λ (q : get_or old r 0 ≡ many). inl (e ∙ q)) (λ (q : get_or old r 0 ≤ n). inr (omega (arith, e))) (sole_small recs few noted_all r h)

@@ -1,4 +1,4 @@
--- 01, "A round", the facts on registers: the only writer of a register as a number, and the facts as flags. Assumes nothing.
+-- 01, "A round", the facts on registers: as flags, and from the only writer of a register as a number. Assumes nothing.
 use Rattle.std.specs.Prelude.{◌≡◌, Bool, false, cond, List, map, ℕ, zero, suc, ◌+◌, ◌*◌, ◌/◌, ◌%◌, ◌≤◌, ◌<◌, eqb, get_or, length, Option, Some}
 use Rattle.words.specs.Lists.{mem, filter, upto}
 use Rattle.model.specs.Picture.{inst, writes}
@@ -6,25 +6,7 @@ use Rattle.model.specs.Analyse.{Known, unknown, known, from_writers, Facts, know
 use Rattle.inst.specs.declared.constant.Constant.{Constant}
 use Rattle.inst.specs.declared.constant.Constant.TheVariants.{Whole}
 use Rattle.effects.specs.Origin.{num}
-use Rattle.inst.specs.Written.{settle}
-
-abbrev pub many : ℕ
-many = 4294967295
-
--- v after a write by record p: 0 none, q + 1 record q
-unfoldable pub noted : ℕ → ℕ → ℕ
-noted p v = cond (eqb v 0) (p + 1) (cond (eqb v (p + 1)) v many)
-
--- the only writer of r among the first n records
-unfoldable pub sole : List ℕ → ℕ → ℕ → ℕ
-sole recs r zero = 0
-sole recs r (suc n) = settle (noted n) (mem r (writes (inst recs n))) (sole recs r n)
-
-pub record Soles (recs : List ℕ) (n K : ℕ) (words : List ℕ) : Type 0 where
-  pub size : length words ≡ K
-  pub each : (r : ℕ) → r < K → get_or words r 0 ≡ sole recs r n
-
--- ---- flags
+use Rattle.defuse.specs.Writers.{many}
 
 -- read-only 1, frame 2, a length 4, above zero 8
 unfoldable pub flags_of : Known → ℕ
