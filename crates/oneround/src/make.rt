@@ -21,11 +21,11 @@ fn renew(code: &Code, bounds: &[u32], work64: &mut [u64], was: u32, l: Line)
     let mv = l.moved;
     let k = l.registers as usize;
     if width(k) != width(was as usize) {
-        all_rows(work64, code, bounds, k);
+        all_rows(work64, &mut [], code, bounds, k);
         return;
     }
-    block_rows(work64, code, bounds, k, mv.from);
-    block_rows(work64, code, bounds, k, mv.into);
+    block_rows(work64, &mut [], code, bounds, k, mv.from);
+    block_rows(work64, &mut [], code, bounds, k, mv.into);
 }
 
 // The round's move, if it fits. (The slices that are written stay apart, as in `round`.)

@@ -178,7 +178,7 @@ pub fn virdzeba_live<'a>(
         pairs,
         targets,
     };
-    all_rows(bits, &code, bounds, k);
+    all_rows(bits, &mut [], &code, bounds, k);
     live_in(bits, &func, k);
     0
 }

@@ -1,6 +1,6 @@
 // Before the first round (01, "A round"): facts on registers, of all that are lent, and the predecessors of each block. Both stand
 // for the whole call: a new register has no facts, and a round changes no block's successors. The rows of what each block reads
-// first and writes stand until a round changes its code.
+// first and writes stand until a round changes its code. Rows and facts come of one pass over the instructions (request 2026-04).
 ghost use Rattle.std.specs.Prelude.{◌≡◌};
 ghost use Rattle.search.specs.Search.{Beginning, Began};
 
@@ -23,7 +23,10 @@ pub fn begin(func: &Func<'_>, ops: &[u32], work64: &mut [u64], work32: &mut [u32
     let b = func.bounds.len() / 2;
     let a = at_regs(s);
     let p = at_preds(s);
-    all_rows(work64, &code, func.bounds, s.regs as usize);
-    find_facts(&code, &mut work64[a..a + s.lent], s.insts);
+    let (rows, rest) = work64.split_at_mut(a);
+    let words = &mut rest[..s.lent];
+    words.fill(0);
+    all_rows(rows, words, &code, func.bounds, s.regs as usize);
+    find_facts(func.recs, words, s.insts);
     find_preds(&mut work32[p..p + 2 * b], func);
 }
