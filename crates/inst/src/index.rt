@@ -11,6 +11,9 @@ pub struct Reg(u32);
 pub struct BlockId(u32);
 
 impl Reg {
+    // What stands where no register does yet: it is not looked at there.
+    pub(crate) const FIRST: Reg = Reg(0);
+
     // The register n of count, or none.
     #[tactic(auto, unfolding(crate::specs::Index::reg_of))]
     pub fn new(n: u32, count: usize) -> Option<Reg>
