@@ -4,8 +4,9 @@
 ghost use Rattle.std.specs.Prelude.{◌≡◌, ℕ, List, map, ◌-◌, ◌*◌, ◌≤◌, length};
 ghost use Rattle.words.specs.Lists.{range};
 ghost use Rattle.model.specs.Picture.{inst, reads, writes};
+ghost use Rattle.inst.specs.Index.{one, Low};
 ghost use Rattle.inst.specs.Record.{Known, Listed, rest_reads};
-ghost use Rattle.defuse.specs.Sets.{one, put, wrote, before, run, Low, AtSlots, Keeps};
+ghost use Rattle.defuse.specs.Sets.{put, wrote, before, run, AtSlots, Keeps};
 ghost use Rattle.defuse.specs.Coded.{Coded};
 ghost use Rattle.words.specs.Steps.{steps};
 
