@@ -11,8 +11,8 @@ pub struct Reg(u32);
 pub struct BlockId(u32);
 
 impl Reg {
-    // What stands where no register does yet: it is not looked at there.
-    pub(crate) const FIRST: Reg = Reg(0);
+    // What fills a place of `Regs` that holds none: it is never handed out.
+    pub(crate) const BLANK: Reg = Reg(0);
 
     // The register n of count, or none.
     #[tactic(auto, unfolding(crate::specs::Index::reg_of))]

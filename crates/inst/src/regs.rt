@@ -21,7 +21,7 @@ impl<const N: usize> Regs<N> {
         ensures count { result.count ≡ 0 }
     {
         Regs {
-            regs: [Reg::FIRST; N],
+            regs: [Reg::BLANK; N],
             count: 0,
         }
     }

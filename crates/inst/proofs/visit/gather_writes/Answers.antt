@@ -1,9 +1,8 @@
 -- `inst::visit::gather_writes` meets its contract. Assumes nothing.
-use native.Mathlib.Omega.{arith}
-use Prim.Native.Nat.{◌<◌}
 use mathlib.Core.Path.{◌≡◌, sym, subst}
 use mathlib.Core.List.{List}
-use Prim.Native.Nat.{ℕ}
+use Prim.Native.Nat.{ℕ, ◌<◌}
+use native.Mathlib.Omega.{arith}
 use Rattle.model.specs.Picture.{inst, writes}
 use Rattle.inst.specs.Record.{writers}
 use Rattle.inst.proofs.Rest.{writes_all}
