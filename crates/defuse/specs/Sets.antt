@@ -1,17 +1,11 @@
 -- The rows of bits that the instructions make (01, "A round": "read before written", "written"): of each block a row of what
 -- is read before it is written, from word u of the slice on, and a row of what is written, from word d on. Assumes nothing.
-use Rattle.std.specs.Prelude.{List, [], ◌∷◌, ℕ, ◌+◌, ◌*◌, ◌<◌, ◌≤◌, length, Option, Some, None}
+use Rattle.std.specs.Prelude.{List, [], ◌∷◌, ℕ, ◌+◌, ◌*◌, ◌<◌, ◌≤◌, length}
 use Rattle.words.specs.Bits.{set_bit, unset_bit}
 use Rattle.words.specs.Lists.{In}
 use Rattle.words.specs.Steps.{steps}
 use Rattle.model.specs.Picture.{Inst, inst, reads, writes}
 use Rattle.inst.specs.Record.{Known, Listed}
-use Rattle.inst.specs.declared.index.Reg.{Reg}
-
--- the register, if it is one
-abbrev pub one : Option Reg → List ℕ
-one (Some r) = r.0 ∷ []
-one None = []
 
 -- r is read: it goes into the row at u
 abbrev pub put : ℕ → List ℕ → ℕ → List ℕ
@@ -29,11 +23,6 @@ before ops u d ws i = steps (put u) (steps (wrote u d) ws (writes i)) (reads ops
 unfoldable pub run : List ℕ → ℕ → ℕ → List ℕ → List Inst → List ℕ
 run ops u d ws [] = ws
 run ops u d ws (i ∷ is) = before ops u d (run ops u d ws is) i
-
--- each of the list is one of R registers, and absent is none
-pub record Low (R : ℕ) (l : List ℕ) : Type 0 where
-  pub few : R ≤ 65536
-  pub each : (q : ℕ) → In q l → q < R
 
 -- what acceptance (01, "The call", causes 1 and 4 to 6) gives of the records: known kinds, lists within the operands, and each
 -- register that is read or written is one of R

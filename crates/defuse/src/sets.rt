@@ -5,9 +5,9 @@
 ghost use Rattle.std.specs.Prelude.{◌≡◌, map, ◌-◌, ◌*◌, ◌≤◌, ◌<◌, length};
 ghost use Rattle.words.specs.Lists.{range};
 ghost use Rattle.model.specs.Picture.{inst, reads, writes};
-ghost use Rattle.inst.specs.Index.{Among};
+ghost use Rattle.inst.specs.Index.{one, Low, Among};
 ghost use Rattle.inst.specs.Record.{Known, Listed, rest_reads};
-ghost use Rattle.defuse.specs.Sets.{one, put, wrote, before, run, Low, InRow};
+ghost use Rattle.defuse.specs.Sets.{put, wrote, before, run, InRow};
 ghost use Rattle.defuse.specs.Coded.{Coded};
 ghost use Rattle.defuse.specs.Writers.{note, notes};
 ghost use Rattle.words.specs.Steps.{steps};

@@ -5,6 +5,8 @@ pub mod Resolved
 pub mod Words
 pub mod Slots
 pub mod Rest
+pub mod Few
+pub mod Gathered
 pub mod Looked
 pub mod Firsts
 pub mod Constants

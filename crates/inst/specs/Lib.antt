@@ -4,5 +4,6 @@ pub mod Shown
 pub mod Record
 pub mod Constant
 pub mod Index
+pub mod Regs
 pub mod Firsts
 pub mod Written

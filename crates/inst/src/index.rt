@@ -11,6 +11,9 @@ pub struct Reg(u32);
 pub struct BlockId(u32);
 
 impl Reg {
+    // What fills a place of `Regs` that holds none: it is never handed out.
+    pub(crate) const BLANK: Reg = Reg(0);
+
     // The register n of count, or none.
     #[tactic(auto, unfolding(crate::specs::Index::reg_of))]
     pub fn new(n: u32, count: usize) -> Option<Reg>

@@ -10,4 +10,6 @@ pub mod scanned; // scanned.rt: the first registers that a record reads and writ
 pub mod code; // code.rt: the records with the table and the operands, and the slots of one
 pub mod constant; // constant.rt: the constant that a record holds
 pub mod index; // index.rt: register numbers and block numbers
+pub mod regs; // regs.rt: a few registers in one struct
+pub mod visit; // visit.rt: what a record reads and writes, gathered in one visit
 pub mod written; // written.rt: a word a register, changed at each that a record writes

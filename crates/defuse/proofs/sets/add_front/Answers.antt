@@ -5,8 +5,10 @@ use Rattle.model.specs.Picture.{inst, list_of}
 use Rattle.inst.specs.Record.{rest_reads}
 use Rattle.inst.proofs.Rest.{reads_all}
 use Rattle.words.specs.Steps.{steps}
-use Rattle.defuse.specs.Sets.{put, Low}
-use Rattle.defuse.proofs.Runs.{slots_low, list_low, all_before}
+use Rattle.inst.specs.Index.{Low}
+use Rattle.inst.proofs.Gathered.{slots_low, list_low}
+use Rattle.defuse.specs.Sets.{put}
+use Rattle.defuse.proofs.Runs.{all_before}
 use Rattle.defuse.proofs.sets.add_front.Goals as goal
 
 pub write_slots-requires : goal.write_slots-requires
