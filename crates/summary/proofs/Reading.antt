@@ -32,7 +32,7 @@ module _ (s : Reads) {k : ℕ} {m : Option Reg} where
 
 -- the same places from the next one on
 abbrev pub past : Reads → Reads
-past s = record { slots = s.slots; list = s.list; k = s.k + 1; count = s.count }
+past s = record { slots = s.slots; list = s.list; k = s.k + 1; count = s.count; few = s.few }
 
 pub left_more : (s : Reads) {m : Option Reg} → s.k < 5 + length s.list.now → m ≡ place (past s) s.k → left s ≡ m ∷ left (past s)
 unfolding place

@@ -1,5 +1,5 @@
 // What a record reads and writes, place by place.
-ghost use Rattle.std.specs.Prelude.{◌≡◌, Option, Bool, List, ℕ, ◌+◌, ◌<◌, length};
+ghost use Rattle.std.specs.Prelude.{◌≡◌, Option, Bool, List, ℕ, ◌+◌, ◌≤◌, ◌<◌, length};
 ghost use Rattle.std.specs.Iterator.{YieldsFirst, item_count};
 ghost use Rattle.words.specs.Lists.{all};
 ghost use Rattle.model.specs.Picture.{inst, list_of, reads, writes};
@@ -20,6 +20,7 @@ pub struct Reads<'a> {
     list: &'a [u32],
     k: usize,
     count: usize,
+    ghost few: { count ≤ 65536 },
 }
 
 impl<'a> Reads<'a> {
@@ -27,7 +28,7 @@ impl<'a> Reads<'a> {
 
     // All that record g reads.
     pub fn new(code: &Code<'a>, g: usize, count: usize) -> Self
-        requires { Known code.now.recs.now g × Listed code.now.recs.now code.now.ops.now g }
+        requires { Known code.now.recs.now g × Listed code.now.recs.now code.now.ops.now g × (count ≤ 65536) }
         ensures { left result ≡ all_places code.now.ops.now (inst code.now.recs.now g) count }
     {
         Reads {
