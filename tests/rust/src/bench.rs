@@ -2,7 +2,8 @@
 
 use crate::accept;
 use crate::boundary;
-use crate::copies::copies;
+use crate::callgrind::counted;
+use crate::copies::{copies, filled};
 use crate::driver::{Facts, Pass};
 use crate::fact::Fact;
 use crate::generate::{Size, bare};
@@ -12,7 +13,6 @@ use crate::picture::{Picture, Record};
 use crate::port;
 use crate::stack::stack;
 use crate::time::{medians, once};
-use std::process::Command;
 
 /// Seeds that are looked at.
 const SEEDS: u64 = 1500;
@@ -129,18 +129,6 @@ fn nearest(designs: &[Design], rounds: usize, size: [usize; 3]) -> u64 {
     some.min_by(|a, b| far(a).total_cmp(&far(b))).expect("pictures that move").seed
 }
 
-/// The picture, with empty statements in a last block up to so many instructions.
-fn filled(mut p: Picture, instructions: usize) -> Picture {
-    let more = instructions - p.locs.len();
-    p.bounds.extend([p.locs.len() as u32, instructions as u32]);
-    p.recs.extend(Record::new(STMT, 0, &[], (0, 0), &[]).0.repeat(more));
-    p.locs.resize(instructions, 0);
-    if !p.vias.is_empty() {
-        p.vias.resize(instructions, 0);
-    }
-    p
-}
-
 /// So many instructions in blocks of a hundred that are in no chain.
 fn unchained(instructions: usize) -> Vec<Vec<Record>> {
     let mut block = vec![Record::new(CMP, 0, &[0, 0, 0], (0, 0), &[]); 99];
@@ -193,19 +181,10 @@ pub fn run_once(side: &str, name: &str) -> bool {
     true
 }
 
-/// The thousands of instructions that one side takes on a row, as callgrind counts them; a dash where there is no valgrind.
-fn counted(side: &str, row: &Row) -> String {
+/// The thousands of instructions that one side takes on a row; a dash where there is no valgrind.
+fn thousands(side: &str, row: &Row) -> String {
     let within = if side == "port" { "virdzeba_sink_all" } else { "*calls::the_pass*" };
-    let this = std::env::current_exe().expect("this program");
-    let run = Command::new("valgrind")
-        .args(["--tool=callgrind", "--callgrind-out-file=/dev/null"])
-        .arg(format!("--toggle-collect={within}"))
-        .arg(this)
-        .args(["once", side, &row.name()])
-        .output();
-    let said = run.map(|done| String::from_utf8_lossy(&done.stderr).into_owned()).unwrap_or_default();
-    let count = said.lines().find_map(|line| line.split_once("Collected : ")?.1.trim().parse::<f64>().ok());
-    count.map_or("-".to_string(), |n| format!("{:.0}", n / 1000.0))
+    counted(within, &["once", side, &row.name()]).map_or("-".to_string(), |n| format!("{:.0}", n / 1000.0))
 }
 
 /// The medians of the Rust, the port, and the port's acceptance alone, once the results are the same.
@@ -237,8 +216,8 @@ fn print_row(row: Row) {
         p.regs,
         outcome.lines.len(),
         rust / port,
-        counted("rust", &row),
-        counted("port", &row),
+        thousands("rust", &row),
+        thousands("port", &row),
     );
 }
 

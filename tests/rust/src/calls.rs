@@ -226,6 +226,13 @@ fn the_pass(mut s: Sink) -> Sink {
     s
 }
 
+/// Liveness alone, which a profiler knows by this name too.
+#[inline(never)]
+fn the_liveness(mut s: Sink) -> Sink {
+    s.liveness();
+    s
+}
+
 impl Pass {
     /// `sink_all`, one `try_block` after the other in its order, with what each round leaves.
     pub fn rounds(prog: &Program, f: &crate::Func, replay: &[usize], facts: Facts) -> Trace {
@@ -283,10 +290,7 @@ impl Pass {
 
     /// How long liveness takes at best, in milliseconds, of so many runs.
     pub fn live_time(prog: &Program, f: &crate::Func, runs: usize) -> f64 {
-        best(runs, || begin(prog, f, &[]), |mut s| {
-            s.liveness();
-            s
-        })
+        best(runs, || begin(prog, f, &[]), the_liveness)
     }
 
     /// How long `find_preds` and `sink_all` take, in milliseconds, facts lengthened. All else is made before the time begins, and

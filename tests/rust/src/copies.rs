@@ -1,6 +1,6 @@
-//! Larger pictures: one picture again and again, or with its registers spread over more of them.
+//! Larger pictures: one picture again and again, filled up, or with its registers spread over more of them.
 
-use crate::kinds::{BR, CASE, COND_BR, KINDS};
+use crate::kinds::{BR, CASE, COND_BR, KINDS, STMT};
 use crate::picture::{ABSENT, Picture, Record};
 use crate::random::Random;
 
@@ -59,6 +59,18 @@ pub fn copies(p: &Picture, instructions: usize, groups: usize) -> Picture {
     (q.bounds, q.recs, q.locs) = (laid.bounds, laid.recs, locs);
     (q.regs, q.opers) = (q.types.len() as u32, q.ops.len() as u32);
     q
+}
+
+/// The picture, with empty statements in a last block up to so many instructions.
+pub fn filled(mut p: Picture, instructions: usize) -> Picture {
+    let more = instructions - p.locs.len();
+    p.bounds.extend([p.locs.len() as u32, instructions as u32]);
+    p.recs.extend(Record::new(STMT, 0, &[], (0, 0), &[]).0.repeat(more));
+    p.locs.resize(instructions, 0);
+    if !p.vias.is_empty() {
+        p.vias.resize(instructions, 0);
+    }
+    p
 }
 
 /// A record with its registers, list, branches and case table moved on by so much.

@@ -56,7 +56,9 @@ impl Stats {
         // What lies in the lent slices must not matter.
         let junk = rnd.word();
         let (mut words, mut bits) = (vec![junk as u32; work.w32], vec![junk; work.w64]);
-        for (what, found) in [("preds", port::preds(&mut words, p, work)), ("live", port::live(&mut bits, p, work))] {
+        let mut rows = bits.clone();
+        let found = [("preds", port::preds(&mut words, p, work)), ("live", port::live(&mut bits, p, work)), ("rows", port::rows(&mut rows, p, work))];
+        for (what, found) in found {
             if found != wanted {
                 self.faults.push(format!("{name}: {what} is refused with {found}, not {wanted}"));
                 return;
@@ -67,7 +69,7 @@ impl Stats {
         }
         if wanted != 0 {
             self.refused += 1;
-            if words.iter().any(|&w| w != junk as u32) || bits.iter().any(|&w| w != junk) {
+            if words.iter().any(|&w| w != junk as u32) || bits.iter().chain(&rows).any(|&w| w != junk) {
                 self.faults.push(format!("{name}: the port wrote though it refuses"));
             }
             return;
@@ -77,6 +79,11 @@ impl Stats {
         self.pictures += 1;
         self.same_preds(p, &rust, &words, name);
         self.same_rows(p, &rust, &bits, name);
+        // Live-in is not made yet, and when it is, all behind it stays.
+        let live = p.nblocks() * (p.regs as usize).div_ceil(64);
+        if rows[..live].iter().any(|&w| w != junk) || rows[live..] != bits[live..] {
+            self.faults.push(format!("{name}: the rows that live-in begins with"));
+        }
     }
 
     fn same_preds(&mut self, p: &Picture, rust: &Flow, words: &[u32], name: &str) {

@@ -5,6 +5,8 @@ pub mod accept;
 pub mod bench;
 pub mod boundary;
 pub mod bytes;
+#[cfg(feature = "port")]
+pub mod callgrind;
 pub mod convert;
 pub mod copies;
 pub mod crossed;
@@ -18,6 +20,8 @@ pub mod generate;
 pub mod kinds;
 pub mod large;
 pub mod listing;
+#[cfg(feature = "port")]
+pub mod live;
 pub mod opt;
 pub mod oracle;
 pub mod picture;

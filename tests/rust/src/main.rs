@@ -7,7 +7,7 @@ use compare::listing::listing;
 use compare::oracle::oracle_with_work;
 use compare::picture::Picture;
 #[cfg(feature = "port")]
-use compare::{bench, facts, flow, large, port, refusals};
+use compare::{bench, facts, flow, large, live, port, refusals};
 #[cfg(feature = "host")]
 use compare::sink;
 use compare::roles::roles;
@@ -19,7 +19,7 @@ use std::path::Path;
 use std::process::ExitCode;
 
 const USAGE: &str =
-    "compare listing | bytes | rounds | sunk | program PATH | selfcheck N SEED | roles KINDS | crossed FOLDER [ROWS] | vectors FOLDER, with the host's entry: sink N SEED, and with the port's layers: refusals | flow | facts | large N SEED | bench SEED | once port|rust ROW";
+    "compare listing | bytes | rounds | sunk | program PATH | selfcheck N SEED | roles KINDS | crossed FOLDER [ROWS] | vectors FOLDER, with the host's entry: sink N SEED, and with the port's layers: refusals | flow | facts | large N SEED | bench SEED | once port|rust ROW | live SEED | live once SIDE ROW";
 
 /// A picture's code, block by block.
 fn show(what: &str, p: &Picture) {
@@ -185,6 +185,13 @@ fn main() -> ExitCode {
         }),
         #[cfg(feature = "port")]
         ["once", side, row] if bench::run_once(side, row) => ExitCode::SUCCESS,
+        #[cfg(feature = "port")]
+        ["live", seed] => drawn("0", seed, |_, seed| {
+            live::print_table(seed);
+            Vec::new()
+        }),
+        #[cfg(feature = "port")]
+        ["live", "once", side, row] if live::run_once(side, row) => ExitCode::SUCCESS,
         #[cfg(feature = "host")]
         ["sink", n, seed] => drawn(n, seed, |n, seed| {
             let stats = sink::sink(n, seed, virdzeba::entry);
@@ -198,7 +205,7 @@ fn main() -> ExitCode {
             ExitCode::from(2)
         }
         #[cfg(not(feature = "port"))]
-        ["refusals" | "flow" | "facts" | "large" | "bench" | "once", ..] => {
+        ["refusals" | "flow" | "facts" | "large" | "bench" | "once" | "live", ..] => {
             eprintln!("This was built without the port: `tools/build.sh probe_c`, at the root of the repository, then `cargo build --features port`.");
             ExitCode::from(2)
         }

@@ -71,6 +71,9 @@ port! {
     preds virdzeba_preds (words: u32) (w64, records);
     /// Where the answer is 0: of each block its live-in row, a word for each 64 registers lent.
     live virdzeba_live (bits: u64) (w32, records);
+    /// What `live` begins with: where the answer is 0, of each of n blocks the rows of what it writes and of what it reads first, block
+    /// b's at rows n + b and 2n + 1 + b.
+    rows virdzeba_rows (bits: u64) (w32, records);
 }
 
 #[link(name = "probe", kind = "static")]

@@ -1,5 +1,5 @@
 //! Times in milliseconds, of the processor and not of the clock, so that other work on the machine shows less: of one run, the
-//! best of several, or the medians of several things in turn.
+//! best of several, or of several things in turn.
 
 use std::hint::black_box;
 
@@ -42,14 +42,19 @@ pub fn best<G, T>(runs: usize, mut fresh: impl FnMut() -> G, mut run: impl FnMut
 pub fn medians<const N: usize>(mut runs: [&mut dyn FnMut() -> f64; N]) -> [f64; N] {
     let slowest = runs.iter_mut().map(|run| run()).fold(0.001, f64::max);
     let many = ((1000.0 / slowest) as usize).clamp(15, 401) | 1;
+    in_turn(many, runs).map(|of| of[many / 2])
+}
+
+/// The times of several things, each run once in turn, so often: those of each by themselves, the least first.
+pub fn in_turn<const N: usize>(turns: usize, mut runs: [&mut dyn FnMut() -> f64; N]) -> [Vec<f64>; N] {
     let mut times = [const { Vec::new() }; N];
-    for _ in 0..many {
+    for _ in 0..turns {
         for (times, run) in times.iter_mut().zip(&mut runs) {
             times.push(run());
         }
     }
     times.map(|mut of| {
         of.sort_by(f64::total_cmp);
-        of[many / 2]
+        of
     })
 }
