@@ -114,6 +114,13 @@ rows_room P w64 w32 e =
     let d = (work_room P w64 w32 records e).0 in
     omega arith
 
+-- and so have four rows a block, before the words of registers
+pub all_room : (P : Picture) → Accepted P → 4 * nblocks P * width P.regs ≤ at_regs P
+all_room P ok =
+    let l = regs_lent P ok in
+    let wide : width P.regs ≤ width (length P.types) = omega arith in
+    mul-le-mul_left (4 * nblocks P) wide
+
 module _ (P : Picture) {bounds recs ops : List ℕ} {w : ℕ} (eb : bounds ≡ P.bounds) (er : recs ≡ P.recs) (eo : ops ≡ P.ops) (ew : w ≡ width P.regs) {b : ℕ} (bits : List ℕ) where
   pub rows_of : Rows (drawn bounds recs ops [] []) w b bits → Rows P (width P.regs) b bits
   rows_of h =

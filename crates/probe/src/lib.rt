@@ -5,11 +5,12 @@
 pub mod whole; // whole.rt: the whole call
 pub mod attempt; // attempt.rt: the search from one block
 
-ghost use Rattle.std.specs.Prelude.{◌≡◌, [], length};
+ghost use Rattle.std.specs.Prelude.{◌≡◌, [], ℕ, ◌/◌, ◌<◌, length};
 ghost use Rattle.words.specs.Bits.{width};
 ghost use Rattle.model.specs.Refusal.{refusal};
 ghost use Rattle.checks.specs.Causes.{picture_of};
-ghost use Rattle.flow.specs.Live.{Live};
+ghost use Rattle.cfg.specs.Drawn.{drawn};
+ghost use Rattle.flow.specs.Live.{Live, Rows};
 ghost use Rattle.cfg.specs.Preds.{Preds};
 
 use acceptance::accept;
@@ -118,6 +119,60 @@ pub fn virdzeba_preds<'a>(
         targets,
     };
     find_preds(words, &func);
+    0
+}
+
+// What live-in begins with, so that its time can be told from that of the sweeps: of each block of an accepted picture the rows of what
+// it reads first and of what it writes, where flow/src/rows.rt says. The slice and the answer are those of `virdzeba_live`.
+pub fn virdzeba_rows<'a>(
+    bits: &mut [u64],
+    bounds: &[u32],
+    recs: &'a [u32],
+    locs: &[u32],
+    vias: &[u32],
+    types: &[u32],
+    ops: &[u32],
+    pairs: &[u32],
+    targets: &'a [u32],
+    registers: u32,
+    operands: u32,
+    w32: usize,
+    records: usize,
+) -> u32
+    ensures value { result ≡ refusal (picture_of bounds.now recs.now locs.now vias.now types.now registers ops.now operands pairs.now targets.now []) (length bits.old) w32 records }
+    ensures bits_unchanged { (result ≡ 0 → ⊥) → bits.new ≡ bits.old }
+    ensures rows { result ≡ 0 → (b : ℕ) → b < length bounds.now / 2 → Rows (drawn bounds.now recs.now ops.now [] []) (width registers) b bits.new }
+{
+    let t = Table::new();
+    let lent = Lent {
+        bounds,
+        recs,
+        locs,
+        vias,
+        types,
+        ops,
+        pairs,
+        targets,
+        used: InUse {
+            regs: registers,
+            opers: operands,
+        },
+    };
+    let room = Room {
+        w64: bits.len(),
+        w32: w32,
+        records: records,
+    };
+    if let Err(cause) = accept(lent, room, &t) {
+        return cause.number();
+    }
+    let k = registers as usize;
+    let code = Code {
+        table: &t,
+        recs,
+        ops,
+    };
+    all_rows(bits, &mut [], &code, bounds, k);
     0
 }
 

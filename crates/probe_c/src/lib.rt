@@ -1,12 +1,13 @@
 // Single layers of the port for C, and so for tests/rust: crate `probe`'s functions under their own names, with their clauses.
 #![tactic(auto)]
 
-ghost use Rattle.std.specs.Prelude.{◌≡◌, [], length};
+ghost use Rattle.std.specs.Prelude.{◌≡◌, [], ℕ, ◌/◌, ◌<◌, length};
 ghost use Rattle.words.specs.Bits.{width};
 ghost use Rattle.model.specs.Refusal.{refusal};
 ghost use Rattle.model.specs.Pass.{sink};
 ghost use Rattle.checks.specs.Causes.{picture_of};
-ghost use Rattle.flow.specs.Live.{Live};
+ghost use Rattle.cfg.specs.Drawn.{drawn};
+ghost use Rattle.flow.specs.Live.{Live, Rows};
 ghost use Rattle.cfg.specs.Preds.{Preds};
 ghost use Rattle.rounds.specs.Ended.{Work};
 ghost use Rattle.sink.specs.Sink.{Lent};
@@ -64,6 +65,34 @@ pub extern "C" fn virdzeba_preds<'a>(
 {
     probe::virdzeba_preds(
         words, bounds, recs, locs, vias, types, ops, pairs, targets, registers, operands, w64,
+        records,
+    )
+}
+
+// What live-in begins with, so that its time can be told from that of the sweeps: of each block of an accepted picture the rows of what
+// it reads first and of what it writes, where flow/src/rows.rt says. The slice and the answer are those of `virdzeba_live`.
+#[unsafe(no_mangle)]
+pub extern "C" fn virdzeba_rows<'a>(
+    bits: &mut [u64],
+    bounds: &[u32],
+    recs: &'a [u32],
+    locs: &[u32],
+    vias: &[u32],
+    types: &[u32],
+    ops: &[u32],
+    pairs: &[u32],
+    targets: &'a [u32],
+    registers: u32,
+    operands: u32,
+    w32: usize,
+    records: usize,
+) -> u32
+    ensures value { result ≡ refusal (picture_of bounds.now recs.now locs.now vias.now types.now registers ops.now operands pairs.now targets.now []) (length bits.old) w32 records }
+    ensures bits_unchanged { (result ≡ 0 → ⊥) → bits.new ≡ bits.old }
+    ensures rows { result ≡ 0 → (b : ℕ) → b < length bounds.now / 2 → Rows (drawn bounds.now recs.now ops.now [] []) (width registers) b bits.new }
+{
+    probe::virdzeba_rows(
+        bits, bounds, recs, locs, vias, types, ops, pairs, targets, registers, operands, w32,
         records,
     )
 }

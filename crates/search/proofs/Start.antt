@@ -35,7 +35,7 @@ use Rattle.sizes.specs.declared.Sizes.{Sizes}
 use Rattle.sizes.specs.Parts.{regs_at}
 use Rattle.words.specs.Bits.{width}
 use Rattle.chainwords.specs.Work.{at_regs}
-use Rattle.chainwords.proofs.Standing.{SameRows, same_rows, firsts_before, rows_room, rows_of}
+use Rattle.chainwords.proofs.Standing.{SameRows, same_rows, firsts_before, rows_room, all_room, rows_of}
 use Rattle.search.specs.Search.{Beginning, Began}
 
 -- ---- sizes
@@ -95,7 +95,7 @@ preds_at P {bounds} {recs} {pairs} {targets} {words} e f g h z =
 
 -- what `flow` asks to make rows of R registers
 abbrev pub RowsAsk : List ℕ → List ℕ → List ℕ → ℕ → List ℕ → Type 0
-RowsAsk bounds recs ops R bits = Blocks bounds recs × Code recs ops R × RowRoom (length bounds / 2) (width R) bits
+RowsAsk bounds recs ops R bits = Blocks bounds recs × Code recs ops R × RowRoom (length bounds / 2) (width R) bits × (4 * (length bounds / 2) * width R ≤ length bits)
 
 pub rows_asked : (P : Picture) (w32 : ℕ) {bounds recs ops : List ℕ} {R : ℕ} (bits : List ℕ) → refusal P (length bits) w32 records ≡ 0 → bounds ≡ P.bounds → recs ≡ P.recs → ops ≡ P.ops → R ≡ P.regs
     → RowsAsk bounds recs ops R bits
@@ -105,7 +105,7 @@ rows_asked P w32 {bounds} {recs} {ops} {R} bits r eb er eo eR =
     (subst (λ (l : List ℕ). RowsAsk P.bounds l ops R bits) (sym er)
     (subst (λ (l : List ℕ). RowsAsk P.bounds P.recs l R bits) (sym eo)
     (subst (λ (v : ℕ). RowsAsk P.bounds P.recs P.ops v bits) (sym eR)
-    (blocks_given P ok, code_given P ok, record { fits = rows_room P (length bits) w32 r }))))
+    (blocks_given P ok, code_given P ok, record { fits = rows_room P (length bits) w32 r }, omega (arith, all_room P ok, (work_room P (length bits) w32 records r).0)))))
 
 -- rows stay where words from at_regs on are written
 rows_stay : (P : Picture) → Accepted P → (xs ys : List ℕ) → take (at_regs P) ys ≡ take (at_regs P) xs → (b : ℕ) → b < nblocks P → Rows P (width P.regs) b xs → Rows P (width P.regs) b ys

@@ -24,7 +24,7 @@ all_rows-requires c =
     let P = picture_of a.bounds.now a.recs.now a.locs.now a.vias.now a.types.now a.registers a.ops.now a.operands a.pairs.now a.targets.now [] in
     let z = none P (length a.bits.now) a.w32 a.records c.accept.ensures c.in_default.is in
     let k = rows_asked P a.w32 a.bits.now (needed_records P (length a.bits.now) a.w32 a.records z) refl refl refl refl in
-    (k.0, k.1, k.2)
+    (k.0, k.1, k.3)
 
 pub live_in-requires : goal.live_in-requires
 live_in-requires c =

@@ -8,7 +8,7 @@ pub all_rows-requires : goal.all_rows-requires
 all_rows-requires c =
     let p = c.requires in
     let z = renew_ask p _ refl refl in
-    (z.0, z.1, z.2)
+    (z.0, z.1, z.3)
 
 pub block_rows-requires : goal.block_rows-requires
 block_rows-requires c =
