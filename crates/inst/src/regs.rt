@@ -43,7 +43,7 @@ impl<const N: usize> Regs<N> {
         }
     }
 
-    // They as a slice.
+    // Those in use, as a slice.
     pub fn as_slice(&self) -> &[Reg]
         ensures { result.now ≡ held self.now }
     {
