@@ -1,26 +1,31 @@
 -- What the call begins with (01, "A round"): acceptance gives what the search for facts, predecessors and rows asks, and the words
 -- that it leaves stand for them. Assumes nothing.
 use mathlib.Core.Path.{◌≡◌, sym, ap, ap₂, ◌∙◌, subst}
-use mathlib.Core.List.{List, [], ◌∷◌}
+use mathlib.Core.List.{List, [], ◌∷◌, ◌++◌, map}
 use Prim.Native.Nat.{ℕ, ◌+◌, ◌-◌, ◌*◌, ◌/◌, ◌≤◌, ◌<◌}
 use native.Mathlib.Nat.{le_refl, le_of_eq}
 use native.Mathlib.Omega.{arith}
 use borrow.Author.Tests.{ne_eqb}
-use borrow.Rule.Slice.PartMut.{put_mid, mid_len, same_len_mid, take_put}
+use borrow.Rule.Slice.PartMut.{put_mid, mid_len, same_len_mid}
 use lib.Dec.{eqb}
-use lib.ListN.{length, take, drop, length-map}
+use lib.ListN.{length, take, drop, length-map, length-append, length-drop, replicate, length-replicate}
+use Rattle.std.proofs.lemmas.List.{take-append-le}
+use Rattle.std.proofs.Math.Seq.{take-append_seam, drop-append_seam}
 use Rattle.words.specs.Bits.{width}
-use Rattle.words.specs.Lists.{upto}
+use Rattle.words.specs.Lists.{upto, concat}
 use Rattle.words.proofs.Lists.{length_range, front_same}
 use Rattle.words.proofs.Parts.{put_part}
-use Rattle.model.specs.Picture.{Picture, nblocks, preds}
+use Rattle.model.specs.Picture.{Picture, nblocks, places, preds}
 use Rattle.model.specs.Refusal.{records, refusal}
 use Rattle.model.specs.Analyse.{facts}
 use Rattle.laws.proofs.Accepted.{Accepted, accepted, work_room}
 use Rattle.laws.proofs.Sizes as S
+use Rattle.laws.proofs.Blocks.{all_places}
 use Rattle.cfg.specs.Drawn.{drawn}
 use Rattle.cfg.specs.Graph.{Blocks}
 use Rattle.defuse.specs.Sets.{Code}
+use Rattle.defuse.specs.Writers.{notes}
+use Rattle.defuse.proofs.Noted.{length_notes}
 use Rattle.flow.specs.Live.{RowRoom, Rows}
 use Rattle.cfg.specs.Preds as F
 use Rattle.cfg.specs.Preds.{many, first}
@@ -28,9 +33,8 @@ use Rattle.flow.proofs.Accepted.{blocks_given, code_given}
 use Rattle.flow.proofs.Standing.{rows_same}
 use Rattle.flow.proofs.Whole.{preds_whole}
 use Rattle.chains.specs.Chain as C
-use Rattle.regfacts.specs.Written.{Fits}
 use Rattle.regfacts.specs.Flags.{Found, Seen}
-use Rattle.analyse.proofs.Accepted.{fits_given, seen_given}
+use Rattle.analyse.proofs.Accepted.{seen_given}
 use Rattle.sizes.specs.declared.Sizes.{Sizes}
 use Rattle.sizes.specs.Parts.{regs_at}
 use Rattle.words.specs.Bits.{width}
@@ -148,58 +152,76 @@ module _ {bounds recs ops pairs targets work64 work32 : List ℕ} {s : Sizes} (k
   pub regs_room : {a : ℕ} → a ≡ regs_at s → a + 2 * lent ≤ length work64
   regs_room e = let f = start_at e in let r = rooms.room64 in omega arith
 
-  -- `all_rows`
-  pub rows_ask : (r : ℕ) → r ≡ regs → RowsAsk bounds recs ops r work64
-  rows_ask r er = rows_asked k.P (length work32) work64 k.accepted k.bounds_are k.recs_are k.ops_are (er ∙ k.regs_are)
+  -- four rows a block end before the words of the registers
+  rows_wide : {r a : ℕ} → r ≡ regs → a ≡ regs_at s → 4 * (length bounds / 2) * width r ≤ a
+  rows_wide {r} {a} er ea =
+      let b : length bounds / 2 ≡ nblocks k.P = ap (λ (l : List ℕ). length l / 2) k.bounds_are in
+      let rows : 4 * (length bounds / 2) * width r ≡ 4 * nblocks k.P * width k.P.regs = ap₂ (λ (n v : ℕ). 4 * n * width v) b (er ∙ k.regs_are) in
+      let end : a ≡ 4 * nblocks k.P * width (length k.P.types) = start_at ea ∙ ap₂ (λ (n v : ℕ). 4 * n * width v) b k.lent_are in
+      omega (arith, rows, end, all_room k.P good)
+
+  -- `all_rows`, over the words before those of the registers
+  pub rows_ask : {r a : ℕ} (front : List ℕ) → r ≡ regs → a ≡ regs_at s → length front ≡ a → Blocks bounds recs × Code recs ops r × (4 * (length bounds / 2) * width r ≤ length front)
+  rows_ask {r} front er ea el =
+      let z = rows_asked k.P (length work32) work64 k.accepted k.bounds_are k.recs_are k.ops_are (er ∙ k.regs_are) in
+      (z.0, z.1, omega (arith, rows_wide er ea, el))
+
+  -- the words behind
+  pub rest_room : {a : ℕ} (rest : List ℕ) → a ≡ regs_at s → length rest + a ≡ length work64 → lent ≤ length rest
+  rest_room rest ea el = omega (arith, regs_room ea, el)
+
+  -- all positions of all blocks are those of all records
+  all_of : concat (map (places (drawn bounds recs ops [] [])) (upto (length bounds / 2))) ≡ upto insts
+  all_of =
+      ap (λ (l : List ℕ). concat (map (places (drawn l recs ops [] [])) (upto (length l / 2)))) k.bounds_are ∙ all_places k.P good.laid ∙ ap upto (sym k.insts_are)
+
+  -- `find_facts`, by what `all_rows` noted in words that were all 0
+  pub facts_ask : (n : ℕ) {zeros noted : List ℕ} → zeros ≡ replicate n 0 → noted ≡ notes recs zeros (concat (map (places (drawn bounds recs ops [] [])) (upto (length bounds / 2))))
+      → (insts ≤ 32768) × (16 * insts ≤ length recs) × (noted ≡ notes recs (replicate (length noted) 0) (upto insts))
+  facts_ask n {zeros} {noted} ez en =
+      let long : n ≡ length noted = sym (length-replicate {A = ℕ} n 0) ∙ ap length (sym ez) ∙ sym (length_notes recs zeros _) ∙ ap length (sym en) in
+      let recs_long : length recs ≡ 16 * length k.P.locs = ap length k.recs_are ∙ S.recs_length k.P good in
+      (rooms.few_insts, omega (arith, recs_long, k.insts_are), en ∙ ap₂ (notes recs) (ez ∙ ap (λ (m : ℕ). replicate m 0) long) all_of)
 
   pub preds_ask : (p : ℕ) → p ≡ 8000 + lent → 2 * (length bounds / 2) ≤ length (take (p + 2 * (length bounds / 2) - p) (drop p work32))
   preds_ask p e = let r = rooms.room32 in let z = mid_len p (p + 2 * (length bounds / 2)) work32 (omega arith) in omega arith
 
-  -- with the rows made, as mid
-  module _ (mid : List ℕ) (same : length mid ≡ length work64) where
-    part_long : (a : ℕ) → a ≡ 4 * (length bounds / 2) * width lent → length (take (a + lent - a) (drop a mid)) ≡ lent
-    part_long a e = let r = rooms.room64 in mid_len a (a + lent) mid (omega arith) ∙ omega arith
-
-    pub facts_ask : (a : ℕ) → a ≡ 4 * (length bounds / 2) * width lent → (insts ≤ 32768) × ((p : ℕ) → p < insts → Fits recs (length (take (a + lent - a) (drop a mid))) p)
-    facts_ask a e = (
-      rooms.few_insts,
-      λ p h.
-          subst (λ (n : ℕ). Fits recs n p) (sym (part_long a e ∙ k.lent_are))
-          (subst (λ (l : List ℕ). Fits l (length k.P.types) p) (sym k.recs_are) (fits_given k.P good p (omega (arith, k.insts_are)))),
-    )
-
-    pub began : (a p r : ℕ) (ys zs : List ℕ) → a ≡ 4 * (length bounds / 2) * width lent → p ≡ 8000 + lent → r ≡ regs
-        → ((b : ℕ) → b < length bounds / 2 → Rows (drawn bounds recs ops [] []) (width r) b mid) → Found recs insts (length (take (a + lent - a) (drop a mid))) ys
-        → length zs ≡ length (take (p + 2 * (length bounds / 2) - p) (drop p work32)) → F.Preds (drawn bounds recs [] pairs targets) zs
-        → Began bounds recs ops pairs targets work64 work32 s (put_mid a (a + lent - a) mid ys) (put_mid p (p + 2 * (length bounds / 2) - p) work32 zs)
-    began a p r ys zs e f er each found long told = record {
-      size64 = same_len_mid a (a + lent - a) mid ys found.size ∙ same;
-      size32 = same_len_mid p (p + 2 * (length bounds / 2) - p) work32 zs long;
-      begun = λ P z eb ec eo ep et el ei eg.
-          let ok = accepted P (length work64) (length work32) records z in
-          let n64 = rooms.room64 in
-          let n32 = rooms.room32 in
-          let size : length ys ≡ length P.types = found.size ∙ part_long a e ∙ sym el in
-          let blocks : nblocks P ≡ length bounds / 2 = ap (λ (l : List ℕ). length l / 2) eb in
-          let at : 4 * nblocks P * width (length P.types) ≡ a = ap₂ (λ (b n : ℕ). 4 * b * width n) blocks el ∙ sym e in
-          let y : take (length P.types) (drop (4 * nblocks P * width (length P.types)) (put_mid a (a + lent - a) mid ys)) ≡ ys =
-          ap (λ (m : ℕ). take (length P.types) (drop m (put_mid a (a + lent - a) mid ys))) at ∙ put_part a (a + lent - a) mid ys (length P.types) (omega arith) size in
-          let size2 : length zs ≡ 2 * nblocks P = long ∙ mid_len p (p + 2 * (length bounds / 2)) work32 (omega arith) ∙ omega arith in
-          let at2 : 8000 + length P.types ≡ p = omega arith in
-          let x : take (2 * nblocks P) (drop (8000 + length P.types) (put_mid p (p + 2 * (length bounds / 2) - p) work32 zs)) ≡ zs =
-          ap (λ (m : ℕ). take (2 * nblocks P) (drop m (put_mid p (p + 2 * (length bounds / 2) - p) work32 zs))) at2
-          ∙ put_part p (p + 2 * (length bounds / 2) - p) work32 zs (2 * nblocks P) (omega arith) size2 in
-          let found2 : Found P.recs (length P.locs) (length P.types) ys =
-          subst (λ (l : List ℕ). Found l (length P.locs) (length P.types) ys) (sym ec)
-          (subst (λ (n : ℕ). Found recs n (length P.types) ys) (sym ei) (subst (λ (n : ℕ). Found recs insts n ys) (part_long a e ∙ sym el) found)) in
-          let before : take (at_regs P) (put_mid a (a + lent - a) mid ys) ≡ take (at_regs P) mid =
-          subst (λ (m : ℕ). take m (put_mid a (a + lent - a) mid ys) ≡ take m mid) (sym at) (take_put a (a + lent - a) mid ys (omega arith)) in
-          record {
-            known = facts_few P;
-            seen = subst (λ (ws : List ℕ). Seen (facts P) (length P.types) ws) (sym y) (seen_given P ok found2 (S.regs_lent P ok) (le_refl (length P.types)));
-            preds = subst (λ (ws : List ℕ). C.Preds P ws (nblocks P)) (sym x) (preds_from P (preds_at P eb ec ep et told));
-            rows = λ b h.
-                rows_stay P ok mid (put_mid a (a + lent - a) mid ys) before b h
-                (rows_of P (sym eb) (sym ec) (sym eo) (ap width (er ∙ sym eg)) mid (each b (subst (λ (n : ℕ). b < n) blocks h)));
-          };
-    }
+  -- the rows, the words of the registers, and what is behind them
+  pub began : {a p r n : ℕ} {front ys : List ℕ} (rest : List ℕ) {zs : List ℕ} → a ≡ regs_at s → p ≡ 8000 + lent → r ≡ regs → length front ≡ a → length rest + a ≡ length work64 → n ≡ lent
+      → ((b : ℕ) → b < length bounds / 2 → Rows (drawn bounds recs ops [] []) (width r) b front) → Found recs insts n ys
+      → length zs ≡ length (take (p + 2 * (length bounds / 2) - p) (drop p work32)) → F.Preds (drawn bounds recs [] pairs targets) zs
+      → Began bounds recs ops pairs targets work64 work32 s (front ++ (ys ++ drop lent rest)) (put_mid p (p + 2 * (length bounds / 2) - p) work32 zs)
+  began {a} {p} {r} {n} {front} {ys} rest {zs} ea ep er el eb en each found long told =
+      let k64 : List ℕ = front ++ (ys ++ drop lent rest) in
+      let room64 = regs_room ea in
+      let room32 = rooms.room32 in
+      let behind : length (drop lent rest) ≡ length rest - lent = length-drop lent rest in
+      record {
+        size64 = length-append front (ys ++ drop lent rest) ∙ ap (λ (m : ℕ). length front + m) (length-append ys (drop lent rest)) ∙ omega (arith, found.size, el, eb, en, behind, room64);
+        size32 = same_len_mid p (p + 2 * (length bounds / 2) - p) work32 zs long;
+        begun = λ P z fb fr fo fp ft fl fi fg.
+            let ok = accepted P (length work64) (length work32) records z in
+            let size : length ys ≡ length P.types = found.size ∙ en ∙ sym fl in
+            let blocks : nblocks P ≡ length bounds / 2 = ap (λ (l : List ℕ). length l / 2) fb in
+            let at : at_regs P ≡ length front = ap₂ (λ (b v : ℕ). 4 * b * width v) blocks fl ∙ sym (start_at ea) ∙ sym el in
+            let words : take (length P.types) (drop (at_regs P) k64) ≡ ys =
+            ap (λ (m : ℕ). take (length P.types) (drop m k64)) at ∙ ap (take (length P.types)) (drop-append_seam front (ys ++ drop lent rest))
+            ∙ ap (λ (m : ℕ). take m (ys ++ drop lent rest)) (sym size) ∙ take-append_seam ys (drop lent rest) in
+            let size2 : length zs ≡ 2 * nblocks P = long ∙ mid_len p (p + 2 * (length bounds / 2)) work32 (omega arith) ∙ omega arith in
+            let at2 : 8000 + length P.types ≡ p = omega arith in
+            let pairs2 : take (2 * nblocks P) (drop (8000 + length P.types) (put_mid p (p + 2 * (length bounds / 2) - p) work32 zs)) ≡ zs =
+            ap (λ (m : ℕ). take (2 * nblocks P) (drop m (put_mid p (p + 2 * (length bounds / 2) - p) work32 zs))) at2
+            ∙ put_part p (p + 2 * (length bounds / 2) - p) work32 zs (2 * nblocks P) (omega arith) size2 in
+            let found2 : Found P.recs (length P.locs) (length P.types) ys =
+            subst (λ (l : List ℕ). Found l (length P.locs) (length P.types) ys) (sym fr)
+            (subst (λ (m : ℕ). Found recs m (length P.types) ys) (sym fi) (subst (λ (m : ℕ). Found recs insts m ys) (en ∙ sym fl) found)) in
+            let before : take (at_regs P) k64 ≡ take (at_regs P) front = take-append-le (at_regs P) front (ys ++ drop lent rest) (le_of_eq at) in
+            record {
+              known = facts_few P;
+              seen = subst (λ (ws : List ℕ). Seen (facts P) (length P.types) ws) (sym words) (seen_given P ok found2 (S.regs_lent P ok) (le_refl (length P.types)));
+              preds = subst (λ (ws : List ℕ). C.Preds P ws (nblocks P)) (sym pairs2) (preds_from P (preds_at P fb fr fp ft told));
+              rows = λ b h.
+                  rows_stay P ok front k64 before b h
+                  (rows_of P (sym fb) (sym fr) (sym fo) (ap width (er ∙ sym fg)) front (each b (subst (λ (m : ℕ). b < m) blocks h)));
+            };
+      }
