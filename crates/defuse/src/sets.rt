@@ -97,20 +97,21 @@ fn add_front(code: &Code<'_>, bits: &mut [u64], writers: &mut [u64], p: usize, a
     read_list(bits, code.list(p), at);
 }
 
-// The rows of the records from lo up to hi, and their writers, noted in as many words as there are.
+// The rows of the records from lo up to hi, and their writers, noted in as many words as there are. (`code` is taken by value: behind a
+// reference its fields are loaded anew after each store.)
 pub fn block_sets(
-    code: &Code<'_>,
+    code: Code<'_>,
     bits: &mut [u64],
     writers: &mut [u64],
     lo: usize,
     hi: usize,
     at: Pair,
 )
-    requires { InRow at.u at.regs bits.old × InRow at.d at.regs bits.old × (lo ≤ hi) × (hi ≤ 32768) × (16 * hi ≤ length code.now.recs.now) × Coded code.now at.regs }
-    ensures bits { bits.new ≡ run code.now.ops.now at.u at.d bits.old (map (inst code.now.recs.now) (range lo (hi - lo))) }
-    ensures writers { writers.new ≡ notes code.now.recs.now writers.old (range lo (hi - lo)) }
+    requires { InRow at.u at.regs bits.old × InRow at.d at.regs bits.old × (lo ≤ hi) × (hi ≤ 32768) × (16 * hi ≤ length code.recs.now) × Coded code at.regs }
+    ensures bits { bits.new ≡ run code.entry.ops.now at.u at.d bits.old (map (inst code.entry.recs.now) (range lo (hi - lo))) }
+    ensures writers { writers.new ≡ notes code.entry.recs.now writers.old (range lo (hi - lo)) }
 {
     for p in (lo..hi).rev() {
-        add_front(code, bits, writers, p, at);
+        add_front(&code, bits, writers, p, at);
     }
 }

@@ -53,7 +53,7 @@ pub fn block_rows(
     };
     clear_at(bits, at.u, grid.width);
     clear_at(bits, at.d, grid.width);
-    block_sets(code, bits, writers, b.start(bounds), b.past(bounds), at);
+    block_sets(*code, bits, writers, b.start(bounds), b.past(bounds), at);
 }
 
 // The rows of every block, the last one first. What lies behind all rows is left as it was.

@@ -8,7 +8,7 @@ use Rattle.defuse.proofs.sets.block_sets.Goals as goal
 pub loop-p-init : goal.loop-p-init
 loop-p-init c =
     let a = c.args in
-    let f = a.code.now in
+    let f = a.code in
     record { from = c.requires.2; made = run_none f.recs.now f.ops.now a.at.u a.at.d a.bits.now a.hi; noted = notes_none f.recs.now a.writers.now a.hi }
 
 pub add_front-requires : goal.add_front-requires
@@ -29,7 +29,7 @@ add_front-requires c =
 pub loop-p-preserved : goal.loop-p-preserved
 loop-p-preserved c =
     let a = c.args in
-    let f = a.code.now in
+    let f = a.code in
     let l = c.loop-p in
     let e = c.add_front.ensures in
     record {
@@ -41,7 +41,7 @@ loop-p-preserved c =
 pub returns : goal.returns
 returns c =
     let a = c.args in
-    let f = a.code.now in
+    let f = a.code in
     let on = c.loop-p.invariant in
     record {
       bits = run_all f.recs.now f.ops.now a.at.u a.at.d a.bits.now _ _ _ on.from c.loop-p-test.false on.made;
