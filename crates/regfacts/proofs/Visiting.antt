@@ -3,8 +3,7 @@ use mathlib.Core.Path.{◌≡◌, refl, sym, subst}
 use mathlib.Core.Logic.{inl, inr, ⊎_elim}
 use mathlib.Core.Bool.{Bool, true, false, cond}
 use mathlib.Core.List.{List, [], ◌∷◌, ◌++◌, map}
-use Prim.Native.Nat.{ℕ, ◌+◌, ◌<◌}
-use native.Mathlib.Omega.{arith}
+use Prim.Native.Nat.{ℕ, ◌<◌}
 use borrow.Author.Tests.{eqb-false}
 use lib.Dec.{eqb}
 use Rattle.words.specs.Lists.{In, upto}
@@ -24,8 +23,8 @@ in_present r x i = go (eqb x absent) refl i
     go false e (inl q) = (q, eqb-false x absent e)
     go false e (inr i) = absurd i
 
-pub writes_low : {recs : List ℕ} {R g : ℕ} → Fits recs R g → Low R (writes (inst recs g))
-writes_low {recs} {R} {g} h = record { few = h.room; each = below }
+pub written_low : {recs : List ℕ} {R g : ℕ} → Fits recs R g → Low R (writes (inst recs g))
+written_low {recs} {R} {g} h = record { few = h.room; each = below }
   where
     below : (q : ℕ) → In q (writes (inst recs g)) → q < R
     below q i =
@@ -34,8 +33,8 @@ writes_low {recs} {R} {g} h = record { few = h.room; each = below }
         let at = in_present q (write_at (inst recs g) y.0) (subst (In q) y.2 z.1) in
         ⊎_elim (λ e. absurd (at.1 e)) (λ (l : write_at (inst recs g) y.0 < R). subst (λ (x : ℕ). x < R) (sym at.0) l) (h.slot y.0 (range_in y.0 0 5 y.1).1)
 
-pub reads_low : {recs ops : List ℕ} {R g : ℕ} → Good recs ops R g → Low R (reads ops (inst recs g))
-reads_low {recs} {ops} {R} {g} h = record {
+pub read_low : {recs ops : List ℕ} {R g : ℕ} → Good recs ops R g → Low R (reads ops (inst recs g))
+read_low {recs} {ops} {R} {g} h = record {
   few = h.fits.room;
   each = λ q i. let z = in_index absent q (reads ops (inst recs g)) i in subst (λ (x : ℕ). x < R) z.2 (h.each z.0 z.1);
 }

@@ -9,7 +9,7 @@ use native.Mathlib.Omega.{arith}
 use borrow.Author.Tests.{eq-eqb, ne_eqb, le-leb, lt-leb}
 use lib.Dec.{eqb, leb}
 use lib.ListN.{get_or, length, set, replicate}
-use Rattle.words.specs.Lists.{all, mem, hit}
+use Rattle.words.specs.Lists.{In, all, mem, hit}
 use Rattle.words.proofs.Bools.{bool?, true_T, hit_le}
 use Rattle.words.proofs.Members.{all_on}
 use Rattle.model.specs.Picture.{inst, absent, reads, writes}
@@ -24,7 +24,8 @@ use Rattle.legalset.proofs.Dropping.{passed_none, passed_down}
 use Rattle.legalset.proofs.Easier.{behind, backward_mono}
 use Rattle.legalset.proofs.Pending.{pending_ext}
 use Rattle.summary.specs.Passes.{over, stamp, since, writer_word, kept_word, Stamped, Stamps, Awaits, Awaited, Notes, Noted, noting, kept_in, blank, Backed, Summed, Shows}
-use Rattle.regfacts.proofs.Visiting.{writes_low}
+use Rattle.regfacts.specs.Written.{Fits}
+use Rattle.regfacts.proofs.Visiting.{written_low}
 use Rattle.summary.specs.declared.notes.Lasts.{Lasts}
 use Rattle.summary.proofs.Summing.{zero_at, since_low, since_ext, since_all, since_kept, notes_none, notes_more, noted_member, noted_kept}
 use Rattle.summary.proofs.Forwarding.{sifted_other, now_in, is_sifted, is_lost}
@@ -100,6 +101,9 @@ gone_back {recs} {ops} {w} {f} {n} {R} {q} {st} {ls} {st'} {ls'} {keep} S s l si
 
 -- ---- the pass
 
+pub writes_low : (recs : List ℕ) (R g : ℕ) → Fits recs R g → (r : ℕ) → In r (writes (inst recs g)) → r < R
+writes_low recs R g h = (written_low h).each
+
 -- a write: awaited no longer, and noted if it is the last kept one
 write_step : (s : ℕ) (L md p : Bool) (q : ℕ) → s ≤ 800 → q < 800 → stamp 1024 (kept_word L q) 0 md (s + 1024 * hit p) ≡ max s (cond (not L && md) (q + 1) 0) + 1024 * hit (not md && p)
 unfolding stamp over kept_word
@@ -118,7 +122,7 @@ module _ (marks : List ℕ) {recs ops : List ℕ} {w : List Fact} {n R q : ℕ} 
   pub back_is : all (λ x. leb (get_or st x 0) 1023) (defs_of recs w q) ≡ backward_ok (defs_of recs w) (reads_of recs ops w) n (in_set marks) q
   unfolding backward_ok
   back_is = all_on (λ x. leb (get_or st x 0) 1023) (λ r. not (pending (defs_of recs w) (reads_of recs ops w) (in_set marks) r (q + 1) (n - (q + 1)))) (defs_of recs w q)
-      (λ r j. ap (λ (y : ℕ). leb y 1023) (i.each r (subst (λ (m : ℕ). r < m) (sym size) ((writes_low (s.good q h).fits).each r j)))
+      (λ r j. ap (λ (y : ℕ). leb y 1023) (i.each r (subst (λ (m : ℕ). r < m) (sym size) (writes_low recs R (fact_in w q).rec (s.good q h).fits r j)))
       ∙ none (since (λ z. not (in_set marks z) && mem r (defs_of recs w z)) (q + 1) (n - (q + 1))) (pending (defs_of recs w) (reads_of recs ops w) (in_set marks) r (q + 1) (n - (q + 1)))
       (since_low (λ z. not (in_set marks z) && mem r (defs_of recs w z)) (q + 1) (n - (q + 1))))
     where

@@ -21,7 +21,7 @@ use Rattle.facts.specs.declared.Fact.{Fact}
 use Rattle.legalset.specs.Chain.{Safe, Brief}
 use Rattle.summary.specs.declared.notes.Lasts.{Lasts}
 use Rattle.summary.specs.Passes.{put_in, kept_word, noting, Stamped, Awaited, Backed, Beside, Written, Readable, Small, Shows, own_def, own_uses}
-use Rattle.regfacts.proofs.Visiting.{reads_low, writes_low}
+use Rattle.regfacts.proofs.Visiting.{read_low, written_low}
 use Rattle.summary.proofs.Listed.{all_append}
 use Rattle.summary.proofs.Stamping.{stamped_present, stamped_both}
 use Rattle.summary.proofs.Backing.{backed}
@@ -116,13 +116,13 @@ pub def_all : (f : Fact) {recs : List ℕ} {R : ℕ} → Written recs R f.rec f.
 unfolding own_def
 def_all f {recs} {R} a e =
     let is = a.brief e in
-    ap present (own_word R f.def (λ r i. (writes_low a.fits).each r (subst (In r) (sym is) i))) ∙ sym is
+    ap present (own_word R f.def (λ r i. (written_low a.fits).each r (subst (In r) (sym is) i))) ∙ sym is
 
 pub uses_all : (f : Fact) {recs ops : List ℕ} {R : ℕ} → Readable recs ops R f → f.more ≡ false → own_uses R f ≡ reads ops (inst recs f.rec)
 unfolding own_uses
 uses_all f {recs} {ops} {R} a e =
     let is = a.brief e in
-    let low : (r : ℕ) → In r (present f.use0 ++ present f.use1) → r < R = λ r i. (reads_low a.good).each r (subst (In r) (sym is) i) in
+    let low : (r : ℕ) → In r (present f.use0 ++ present f.use1) → r < R = λ r i. (read_low a.good).each r (subst (In r) (sym is) i) in
     ap₂ (λ (x y : ℕ). present x ++ present y)
     (own_word R f.use0 (λ r i. low r (in_left r (present f.use0) (present f.use1) i)))
     (own_word R f.use1 (λ r i. low r (in_right r (present f.use0) (present f.use1) i)))

@@ -1,21 +1,21 @@
 -- `summary::stamps::put_places` meets its contract. Assumes nothing.
-use Rattle.regfacts.proofs.Visiting.{reads_low, writes_low, slots_below, list_below}
+use Rattle.regfacts.proofs.Visiting.{read_low, written_low, slots_below, list_below}
 use Rattle.summary.proofs.Stamping.{stamped_both}
 use Rattle.summary.proofs.Wording.{stamped_is}
 use Rattle.summary.proofs.stamps.put_places.Goals as goal
 
 pub visit-v-requires-clause-read : goal.visit-v-requires-clause-read
-visit-v-requires-clause-read c = reads_low c.requires
+visit-v-requires-clause-read c = read_low c.requires
 
 pub visit-v-requires-clause-written : goal.visit-v-requires-clause-written
-visit-v-requires-clause-written c = writes_low c.requires.fits
+visit-v-requires-clause-written c = written_low c.requires.fits
 
 pub put_regs-requires : goal.put_regs-requires
-put_regs-requires c = rw c.as_slice.ensures (slots_below _ _ c.visit-v.ensures.reads (reads_low c.requires))
+put_regs-requires c = rw c.as_slice.ensures (slots_below _ _ c.visit-v.ensures.reads (read_low c.requires))
 
 pub put_list-requires : goal.put_list-requires
 put_list-requires c =
-    rw (c.list.ensures, c.put_regs.ensures.size) (list_below _ _ c.visit-v.ensures.reads (reads_low c.requires))
+    rw (c.list.ensures, c.put_regs.ensures.size) (list_below _ _ c.visit-v.ensures.reads (read_low c.requires))
 
 pub returns : goal.returns
 returns c =
