@@ -8,14 +8,13 @@ use native.Mathlib.Numerals.{add-one}
 use native.Mathlib.Omega.{arith}
 use borrow.Author.Tests.{eq-eqb, ne_eqb}
 use lib.Dec.{eqb}
-use lib.ListN.{get_or, length, set, take, replicate, length-set}
-use lib.Seq.{take-length, get_or-set_same, get_or-set_other}
-use Rattle.std.proofs.lemmas.List.{take_more}
+use lib.ListN.{get_or, length, set, replicate, length-set}
+use lib.Seq.{get_or-set_same, get_or-set_other}
 use Rattle.words.specs.Lists.{In, any, mem}
 use Rattle.words.specs.Last.{last_below}
 use Rattle.words.proofs.Bools.{eq?}
 use Rattle.words.proofs.Lasts.{last_ext, last_step}
-use Rattle.words.proofs.Members.{in_get_or, any_on}
+use Rattle.words.proofs.Members.{any_on}
 use Rattle.words.proofs.Alls.{any_append}
 use Rattle.model.specs.Picture.{absent}
 use Rattle.inst.specs.Index.{Low}
@@ -98,16 +97,13 @@ module _ {st : List ℕ} {q : ℕ} where
         ∙ ap (λ (b : Bool). cond b q (get_or now p 0)) (ap (λ (b : Bool). not b && eqb (get_or st x 0) (p + 1)) (ne_eqb x absent n) ∙ sym (or-false (eqb (get_or st x 0) (p + 1))));
   }
 
-  -- element k of a list after those before it
-  pub noticed_next : (xs : List ℕ) (k : ℕ) {R x : ℕ} {before now after : List ℕ} → Low R xs → k < length xs → x ≡ get_or xs k 0 → after ≡ note_in st x q now
-      → Noticed st (take k xs) q before now → Noticed st (take (k + 1) xs) q before after
-  noticed_next xs k {R} {x} {before} {now} {after} low h e f i =
-      let below = low.each (get_or xs k 0) (in_get_or 0 xs k h) in
-      let one = noticed_one i.size (λ z. absurd (omega (arith, low.few, below, e, z))) f in
-      subst (λ (l : List ℕ). Noticed st l q before after) (ap (λ (y : ℕ). take k xs ++ y ∷ []) e ∙ sym (take_more xs k 0 h)) (noticed_both i one)
-
-  pub noticed_end : (xs : List ℕ) (k : ℕ) {before now : List ℕ} → k ≡ length xs → Noticed st (take k xs) q before now → Noticed st xs q before now
-  noticed_end xs k {before} {now} e i = subst (λ (l : List ℕ). Noticed st l q before now) (ap (λ (n : ℕ). take n xs) e ∙ take-length xs) i
+  -- y, one of R registers, after those of l
+  pub noticed_more : {l more xs : List ℕ} {R x y : ℕ} {before now after : List ℕ} → l ++ (y ∷ []) ≡ more → Low R xs → In y xs → x ≡ y → after ≡ note_in st x q now
+      → Noticed st l q before now → Noticed st more q before after
+  noticed_more {l} {y = y} {before = before} {after = after} e low there same f i =
+      let below = low.each y there in
+      let one = noticed_one i.size (λ z. absurd (omega (arith, low.few, below, same, z))) f in
+      subst (λ (m : List ℕ). Noticed st m q before after) (ap (λ (n : ℕ). l ++ n ∷ []) same ∙ e) (noticed_both i one)
 
 -- ---- the chain
 

@@ -1,13 +1,11 @@
--- A list, one element after the other: a test of all of them. Assumes nothing.
+-- A list, one element after the other, and a test of all of them. Assumes nothing.
 use mathlib.Core.Path.{◌≡◌, refl, sym, ap, ◌∙◌}
 use mathlib.Core.Bool.{Bool, true, false, ◌&&◌}
 use mathlib.Core.List.{List, [], ◌∷◌, ◌++◌, map}
 use Prim.Native.Nat.{ℕ, ◌+◌, ◌≤◌, ◌<◌}
 use native.Mathlib.Numerals.{add-one}
-use native.Mathlib.Omega.{arith}
-use Rattle.std.proofs.lemmas.List.{length-map}
-use Rattle.words.proofs.Lists.{get_d_map}
-use lib.ListN.{get_or, length, drop, drop_of_length-le}
+use Rattle.std.proofs.lemmas.List.{take_more, map-append}
+use lib.ListN.{get_or, length, take, drop, drop_of_length-le}
 use lib.Seq.{drop-cons}
 use Rattle.words.specs.Lists.{all}
 
@@ -29,13 +27,9 @@ pub all_map : {A B : Type 0} (f : B → Bool) (g : A → B) (xs : List A) → al
 all_map f g [] = refl
 all_map f g (x ∷ xs) = ap (λ (b : Bool). f (g x) && b) (all_map f g xs)
 
--- what stands where its image does
-module _ {A : Type 0} (f : A → ℕ) (xs : List A) (k : ℕ) (h : k < length xs) where
-  pub map_at : (d : A) → f (get_or xs k d) ≡ get_or (map f xs) k 0
-  map_at d = sym (get_d_map f d 0 xs k h)
-
-  pub map_below : k < length (map f xs)
-  map_below = omega (arith, h, length-map xs f)
+-- element k after those before it
+pub map_more : {A B : Type 0} (f : A → B) (xs : List A) (k : ℕ) (d : A) → k < length xs → map f (take k xs) ++ (f (get_or xs k d) ∷ []) ≡ map f (take (k + 1) xs)
+map_more f xs k d h = sym (ap (map f) (take_more xs k d h) ∙ map-append f (take k xs) (get_or xs k d ∷ []))
 
 -- a test of what the slots and the list give
 module _ {A : Type 0} (t : ℕ → Bool) (f : A → ℕ) (xs : List A) (ys : List ℕ) {zs : List ℕ} (e : map f xs ++ ys ≡ zs) {b : Bool} (q : b ≡ all (λ x. t (f x)) xs) where

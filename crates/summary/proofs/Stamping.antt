@@ -3,16 +3,14 @@ use mathlib.Core.Path.{◌≡◌, refl, sym, ap, ◌∙◌, subst}
 use mathlib.Core.Logic.{◌⊎◌, ⊎_elim}
 use mathlib.Core.Bool.{Bool, true, false, ◌||◌, cond}
 use mathlib.Core.List.{List, [], ◌∷◌, ◌++◌, append-nil}
-use Prim.Native.Nat.{ℕ, ◌+◌, ◌*◌, ◌≤◌, ◌<◌}
+use Prim.Native.Nat.{ℕ, ◌*◌, ◌≤◌, ◌<◌}
 use native.Mathlib.Omega.{arith}
 use borrow.Author.Tests.{eq-eqb, ne_eqb}
-use lib.ListN.{get_or, length, set, take, length-set}
-use lib.Seq.{take-length, get_or-set_same, get_or-set_other}
-use Rattle.std.proofs.lemmas.List.{take_more}
-use Rattle.words.specs.Lists.{mem}
+use lib.ListN.{get_or, length, set, length-set}
+use lib.Seq.{get_or-set_same, get_or-set_other}
+use Rattle.words.specs.Lists.{In, mem}
 use Rattle.words.proofs.Bools.{eq?}
 use Rattle.words.proofs.Alls.{mem_append}
-use Rattle.words.proofs.Members.{in_get_or}
 use Rattle.model.specs.Picture.{Inst, absent, writes}
 use Rattle.inst.specs.Index.{Low}
 use Rattle.inst.specs.Record.{present}
@@ -105,14 +103,11 @@ module _ {keep lo v : ℕ} where
           ∙ ap (λ (y : Bool). stamp keep lo v y (get_or before r 0)) (sym (mem_append r l m));
     }
 
-    -- element k of a list after those before it
-    pub stamped_next : (xs : List ℕ) (k : ℕ) {x : ℕ} {before now after : List ℕ} → Low (length before) xs → k < length xs → x ≡ get_or xs k 0 → after ≡ put_in keep lo v x now
-        → Stamped (take k xs) keep lo v before now → Stamped (take (k + 1) xs) keep lo v before after
-    stamped_next xs k {x} {before} {now} {after} low h e f i =
+    -- y, one of R registers, after those of l
+    pub stamped_more : {l more xs : List ℕ} {x y : ℕ} {before now after : List ℕ} → l ++ (y ∷ []) ≡ more → Low (length before) xs → In y xs → x ≡ y → after ≡ put_in keep lo v x now
+        → Stamped l keep lo v before now → Stamped more keep lo v before after
+    stamped_more {l} {y = y} {before = before} {after = after} e low there same f i =
         let s = i.size in
-        let below : x < length before = subst (λ (y : ℕ). y < length before) (sym e) (low.each (get_or xs k 0) (in_get_or 0 xs k h)) in
-        let one = stamped_one keep lo v (omega (arith, below, s)) (λ z. absurd (omega (arith, low.few, below, z))) f in
-        subst (λ (l : List ℕ). Stamped l keep lo v before after) (ap (λ (y : ℕ). take k xs ++ y ∷ []) e ∙ sym (take_more xs k 0 h)) (stamped_both i one)
-
-  pub stamped_end : (xs : List ℕ) (k : ℕ) {before now : List ℕ} → k ≡ length xs → Stamped (take k xs) keep lo v before now → Stamped xs keep lo v before now
-  stamped_end xs k {before} {now} e i = subst (λ (l : List ℕ). Stamped l keep lo v before now) (ap (λ (n : ℕ). take n xs) e ∙ take-length xs) i
+        let below = low.each y there in
+        let one = stamped_one keep lo v (omega (arith, below, s, same)) (λ z. absurd (omega (arith, low.few, below, same, z))) f in
+        subst (λ (m : List ℕ). Stamped m keep lo v before after) (ap (λ (n : ℕ). l ++ n ∷ []) same ∙ e) (stamped_both i one)

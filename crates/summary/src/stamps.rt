@@ -73,7 +73,7 @@ fn put(st: &mut [u64], r: Option<Reg>, d: Stamp)
 }
 
 // Stamps what a record writes.
-pub fn put_slots(slots: &Slots, st: &mut [u64], d: Stamp)
+fn put_slots(slots: &Slots, st: &mut [u64], d: Stamp)
     requires { Fits slots.now.recs.now (length st.old) slots.now.p }
     ensures { Stamped (writes (inst slots.now.recs.now slots.now.p)) d.keep d.lo d.v st.old st.new }
 {

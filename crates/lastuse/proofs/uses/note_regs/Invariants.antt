@@ -6,4 +6,4 @@ use Rattle.lastuse.specs.Uses.{Noticed}
 use Rattle.lastuse.proofs.uses.note_regs.Given as goal
 
 abbrev pub invariant-loop-r : goal.invariant-loop-r
-invariant-loop-r l = Noticed l.st (take l.r-index (map (λ (r : Reg). r.0) l.regs)) l.q l.initial.lasts l.lasts
+invariant-loop-r l = Noticed l.st (map (λ (r : Reg). r.0) (take l.r-index l.regs)) l.q l.initial.lasts l.lasts

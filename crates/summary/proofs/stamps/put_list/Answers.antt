@@ -1,8 +1,9 @@
 -- `summary::stamps::put_list` meets its contract. Assumes nothing.
-use native.Mathlib.Omega.{arith}
+use mathlib.Core.Path.{sym}
+use Rattle.std.proofs.lemmas.List.{take_more, take_all}
 use Rattle.words.proofs.Members.{in_get_or}
 use Rattle.summary.proofs.Places.{in_made}
-use Rattle.summary.proofs.Stamping.{stamped_none, stamped_next, stamped_end}
+use Rattle.summary.proofs.Stamping.{stamped_none, stamped_more}
 use Rattle.summary.proofs.stamps.put_list.Goals as goal
 
 pub loop-r-init : goal.loop-r-init
@@ -18,8 +19,9 @@ loop-r-preserved c =
     let l = c.loop-r in
     let xs = c.args.list.now in
     let h = c.loop-r-test.true in
-    let made = in_made c.requires (in_get_or 0 xs l.r-index h) l.invariant.size c.new.ensures in
-    stamped_next c.args.d.beside xs l.r-index c.requires h made.word c.put.ensures l.invariant
+    let there = in_get_or 0 xs l.r-index h in
+    let made = in_made c.requires there l.invariant.size c.new.ensures in
+    stamped_more c.args.d.beside (sym (take_more xs l.r-index 0 h)) c.requires there made.word c.put.ensures l.invariant
 
 pub returns : goal.returns
-returns c = stamped_end c.args.list.now c.loop-r.r-index (omega (arith, c.loop-r.auto.r-index-end, c.loop-r-test.false)) c.loop-r.invariant
+returns c = rw (take_all c.loop-r.r-index c.args.list.now c.loop-r-test.false) at c.loop-r.invariant

@@ -1,12 +1,11 @@
 -- `summary::stamps::put_regs` meets its contract. Assumes nothing.
-use native.Mathlib.Omega.{arith}
-use mathlib.Core.List.{map}
-use Rattle.std.proofs.lemmas.List.{length-map}
-use Rattle.words.proofs.Members.{in_get_or}
+use mathlib.Core.Path.{refl}
+use Rattle.std.proofs.lemmas.List.{take_all}
+use Rattle.words.proofs.Members.{in_get_or, map_in}
 use Rattle.inst.specs.declared.index.Reg.{Reg}
 use Rattle.summary.proofs.Places.{held}
-use Rattle.summary.proofs.Listed.{map_at, map_below}
-use Rattle.summary.proofs.Stamping.{stamped_none, stamped_next, stamped_end}
+use Rattle.summary.proofs.Listed.{map_more}
+use Rattle.summary.proofs.Stamping.{stamped_none, stamped_more}
 use Rattle.summary.proofs.stamps.put_regs.Goals as goal
 
 pub loop-r-init : goal.loop-r-init
@@ -20,12 +19,10 @@ put-requires c =
 pub loop-r-preserved : goal.loop-r-preserved
 loop-r-preserved c =
     let regs = c.args.regs.now in
-    let k = c.loop-r.r-index in
+    let l = c.loop-r in
     let h = c.loop-r-test.true in
-    stamped_next c.args.d.beside (map (λ (r : Reg). r.0) regs) k c.requires (map_below (λ (r : Reg). r.0) regs k h) (map_at (λ (r : Reg). r.0) regs k h _) c.put.ensures c.loop-r.invariant
+    let there = map_in (λ (r : Reg). r.0) _ regs (in_get_or _ regs l.r-index h) in
+    stamped_more c.args.d.beside (map_more (λ (r : Reg). r.0) regs l.r-index _ h) c.requires there refl c.put.ensures l.invariant
 
 pub returns : goal.returns
-returns c =
-    let regs = c.args.regs.now in
-    let n = length-map regs (λ (r : Reg). r.0) in
-    stamped_end (map (λ (r : Reg). r.0) regs) c.loop-r.r-index (omega (arith, c.loop-r.auto.r-index-end, c.loop-r-test.false, n)) c.loop-r.invariant
+returns c = rw (take_all c.loop-r.r-index c.args.regs.now c.loop-r-test.false) at c.loop-r.invariant

@@ -6,4 +6,4 @@ use Rattle.summary.specs.Passes.{Stamped}
 use Rattle.summary.proofs.stamps.put_regs.Given as goal
 
 abbrev pub invariant-loop-r : goal.invariant-loop-r
-invariant-loop-r l = Stamped (take l.r-index (map (λ (r : Reg). r.0) l.regs)) l.d.keep l.d.lo l.d.v l.initial.st l.st
+invariant-loop-r l = Stamped (map (λ (r : Reg). r.0) (take l.r-index l.regs)) l.d.keep l.d.lo l.d.v l.initial.st l.st
