@@ -1,5 +1,5 @@
 pub mod First
 pub mod Turned
+pub mod Visiting
 pub mod Writers
 pub mod Writing
-pub mod Visiting

@@ -1,7 +1,7 @@
 pub mod Backing
 pub mod Forwarding
+pub mod Listed
 pub mod Places
 pub mod Stamping
 pub mod Summing
 pub mod Wording
-pub mod Listed

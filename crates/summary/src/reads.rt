@@ -53,7 +53,7 @@ fn all_listed<F: Fn(Option<Reg>) -> bool>(list: &[u32], count: usize, test: F) -
     true
 }
 
-// So for all that record g reads.
+// Does all that record g reads pass it: in its slots, then in its list?
 pub fn all_read<F: Fn(Option<Reg>) -> bool>(code: &Code, g: usize, count: usize, test: F) -> bool
     requires good { Good code.now.recs.now code.now.ops.now count g }
     requires can { (m : Option RegAt) → Among count m → F.pre test m }
