@@ -12,7 +12,7 @@ use Rattle.chains.specs.Chain.{blocks_of}
 use Rattle.chains.specs.Positions.{bounded}
 use Rattle.regfacts.specs.Written.{Good}
 use Rattle.lastuse.specs.Uses.{ReadOn, Readers, defs_at, reads_at, Legible, ReadersAlong}
-use Rattle.summary.proofs.Places.{reads_low}
+use Rattle.regfacts.proofs.Visiting.{read_low}
 use Rattle.lastuse.proofs.Using.{Reading, reading_none, reading_low, reading_more}
 
 pub cleared : (st : List ℕ) {st' : List ℕ} → st' ≡ replicate (length st) 0 → (length st' ≡ length st) × (st' ≡ replicate (length st') 0)
@@ -80,7 +80,7 @@ module _ {recs ops bounds : List ℕ} {c : Chain} (st₀ : List ℕ) (y : Legibl
         places = h.places ++ (g ∷ []);
         at = let a = length-append h.places (g ∷ []) in omega (arith, a, h.at);
         all = λ P u. append_assoc h.places (g ∷ []) next ∙ there P u;
-        reading = λ P u. reading_more (λ r i. reads_low recs ops (length st₀) (get_or (chain_places P bs) q 0) (y.good P u q (inside P u)) r i) (h.reading P u)
+        reading = λ P u. reading_more (λ r i. (read_low (y.good P u q (inside P u))).each r i) (h.reading P u)
             (subst (λ (g : ℕ). ReadOn (writes (inst recs g)) (reads ops (inst recs g)) q st ls st' ls') (sym (here P u)) k);
       }
 

@@ -1,27 +1,27 @@
 -- Each position's last reader, one position after the other. Assumes nothing.
 use mathlib.Core.Path.{◌≡◌, refl, sym, ap, ap₂, ◌∙◌, subst}
-use mathlib.Core.Logic.{◌⊎◌, inl, inr, ⊎_elim}
-use mathlib.Core.Bool.{Bool, true, false, not, ◌&&◌, ◌||◌, cond}
-use mathlib.Core.List.{List}
+use mathlib.Core.Logic.{◌⊎◌, inl, inr}
+use mathlib.Core.Bool.{Bool, true, false, not, ◌&&◌, ◌||◌, cond, or-false}
+use mathlib.Core.List.{List, [], ◌∷◌, ◌++◌}
 use Prim.Native.Nat.{ℕ, zero, suc, ◌+◌, ◌-◌, ◌%◌, ◌≤◌, ◌<◌, max}
 use native.Mathlib.Numerals.{add-one}
 use native.Mathlib.Omega.{arith}
-use borrow.Author.Tests.{eq-eqb, ne_eqb, eqb-false}
-use lib.Dec.{T, eqb}
+use borrow.Author.Tests.{eq-eqb, ne_eqb}
+use lib.Dec.{eqb}
 use lib.ListN.{get_or, length, set, replicate, length-set}
 use lib.Seq.{get_or-set_same, get_or-set_other}
-use Rattle.words.specs.Lists.{In, upto, any, mem}
+use Rattle.words.specs.Lists.{In, any, mem}
 use Rattle.words.specs.Last.{last_below}
-use Rattle.words.proofs.Bools.{bool_ext, both, left, right, false_T, T_false, eq?}
+use Rattle.words.proofs.Bools.{eq?}
 use Rattle.words.proofs.Lasts.{last_ext, last_step}
-use Rattle.words.proofs.Members.{any_in, any_of, in_range, range_in, any_on}
-use Rattle.words.proofs.Alls.{any_more}
+use Rattle.words.proofs.Members.{any_on}
+use Rattle.words.proofs.Alls.{any_append}
 use Rattle.model.specs.Picture.{absent}
+use Rattle.inst.specs.Index.{Low}
 use Rattle.legalset.specs.Chain.{writer}
 use Rattle.legalset.proofs.Lasting.{writer_low}
 use Rattle.summary.specs.Passes.{over, stamp}
 use Rattle.lastuse.specs.Uses.{note_in, Noticed, ReadOn, reads_value, or_own, last_reader, Readers}
-use Rattle.summary.proofs.Places.{Placed}
 use Rattle.summary.proofs.Summing.{zero_at}
 
 -- ---- one register
@@ -70,44 +70,40 @@ module _ (st : List ℕ) (r q : ℕ) (ls : List ℕ) where
 pub note_low : (st : List ℕ) {k : ℕ} → k < length st → ((x : ℕ) → x < length st → get_or st x 0 ≤ 800) → (get_or st k 0 ≡ 0 → ⊥) → get_or st k 0 - 1 < 800
 note_low st {k} l b z = let h = b k l in omega arith
 
--- ---- a record's reads
+-- ---- one register after the other
 
-any_placed : {l : List ℕ} {g : ℕ → ℕ} {K : ℕ} → Placed l g K → (f : ℕ → Bool) → any f l ≡ any (λ k. not (eqb (g k) absent) && f (g k)) (upto K)
-any_placed {l} {g} {K} a f = bool_ext (any f l) (any (λ k. not (eqb (g k) absent) && f (g k)) (upto K))
-    (λ t. let z = any_of f l t in let y = a.to z.0 z.1 in let h = y.1 in
-    any_in (λ k. not (eqb (g k) absent) && f (g k)) y.0 (upto K) (in_range y.0 0 K (omega arith) (omega arith))
-    (both (not (eqb (g y.0) absent)) (f (g y.0)) (false_T (eqb (g y.0) absent) (ne_eqb (g y.0) absent (λ u. a.real z.0 z.1 (sym y.2 ∙ u)))) (subst (λ (x : ℕ). T (f x)) (sym y.2) z.2)))
-    (λ t. let z = any_of (λ k. not (eqb (g k) absent) && f (g k)) (upto K) t in let y = range_in z.0 0 K z.1 in let h = y.1 in
-    ⊎_elim (λ (u : g z.0 ≡ absent). absurd (eqb-false (g z.0) absent (T_false (eqb (g z.0) absent) (left (not (eqb (g z.0) absent)) (f (g z.0)) z.2)) u))
-    (λ (u : In (g z.0) l). any_in f (g z.0) l u (right (not (eqb (g z.0) absent)) (f (g z.0)) z.2)) (a.from z.0 (omega arith)))
+two : (q : ℕ) (a b : Bool) (y : ℕ) → cond b q (cond a q y) ≡ cond (a || b) q y
+two q true true y = refl
+two q true false y = refl
+two q false b y = refl
 
-pub record Noticing (g : ℕ → ℕ) (st : List ℕ) (q k : ℕ) (before now : List ℕ) : Type 0 where
-  pub size : length now ≡ 800
-  pub each : (p : ℕ) → p < 800 → get_or now p 0 ≡ cond (any (λ j. not (eqb (g j) absent) && eqb (get_or st (g j) 0) (p + 1)) (upto k)) q (get_or before p 0)
+module _ {st : List ℕ} {q : ℕ} where
+  pub noticed_none : (ls : List ℕ) → length ls ≡ 800 → Noticed st [] q ls ls
+  noticed_none ls e = record { size = e; each = λ p h. refl }
 
-pub noticing_none : (g : ℕ → ℕ) (st : List ℕ) (q : ℕ) (ls : List ℕ) → length ls ≡ 800 → Noticing g st q 0 ls ls
-noticing_none g st q ls e = record { size = e; each = λ p h. refl }
+  -- those of l, then those of m
+  pub noticed_both : {l m before now after : List ℕ} → Noticed st l q before now → Noticed st m q now after → Noticed st (l ++ m) q before after
+  noticed_both {l} {m} {before} i j = record {
+    size = j.size;
+    each = λ p h. j.each p h ∙ ap (cond (any (λ r. eqb (get_or st r 0) (p + 1)) m) q) (i.each p h)
+        ∙ two q (any (λ r. eqb (get_or st r 0) (p + 1)) l) (any (λ r. eqb (get_or st r 0) (p + 1)) m) (get_or before p 0)
+        ∙ ap (λ (b : Bool). cond b q (get_or before p 0)) (sym (any_append (λ r. eqb (get_or st r 0) (p + 1)) l m));
+  }
 
-pub noticing_more : {g : ℕ → ℕ} {st : List ℕ} {q k x : ℕ} {before now after : List ℕ} → Noticing g st q k before now → x ≡ g k → after ≡ note_in st x q now → Noticing g st q (k + 1) before after
-noticing_more {g} {st} {q} {k} {x} {before} {now} i e f = record {
-  size = ap length f ∙ note_size st x q now ∙ i.size;
-  each = λ p h. ap (λ (l : List ℕ). get_or l p 0) f ∙ note_at st x q now i.size p h ∙ ap (λ (y : ℕ). cond (not (eqb y absent) && eqb (get_or st y 0) (p + 1)) q (get_or now p 0)) e
-      ∙ ap (cond (not (eqb (g k) absent) && eqb (get_or st (g k) 0) (p + 1)) q) (i.each p h)
-      ∙ two (any (λ j. not (eqb (g j) absent) && eqb (get_or st (g j) 0) (p + 1)) (upto k)) (not (eqb (g k) absent) && eqb (get_or st (g k) 0) (p + 1)) (get_or before p 0)
-      ∙ ap (λ (b : Bool). cond b q (get_or before p 0)) (sym (any_more (λ j. not (eqb (g j) absent) && eqb (get_or st (g j) 0) (p + 1)) k));
-}
-  where
-    two : (a b : Bool) (y : ℕ) → cond b q (cond a q y) ≡ cond (a || b) q y
-    two true true y = refl
-    two true false y = refl
-    two false b y = refl
+  noticed_one : {x : ℕ} {now after : List ℕ} → length now ≡ 800 → (x ≡ absent → ⊥) → after ≡ note_in st x q now → Noticed st (x ∷ []) q now after
+  noticed_one {x} {now} s n f = record {
+    size = ap length f ∙ note_size st x q now ∙ s;
+    each = λ p h. ap (λ (l : List ℕ). get_or l p 0) f ∙ note_at st x q now s p h
+        ∙ ap (λ (b : Bool). cond b q (get_or now p 0)) (ap (λ (b : Bool). not b && eqb (get_or st x 0) (p + 1)) (ne_eqb x absent n) ∙ sym (or-false (eqb (get_or st x 0) (p + 1))));
+  }
 
-pub noticing_end : {g : ℕ → ℕ} {st : List ℕ} {q k K : ℕ} {l before now : List ℕ} → Noticing g st q k before now → Placed l g K → k ≤ K → K ≤ k → Noticed st l q before now
-noticing_end {g} {st} {q} {k} {K} {l} {before} i a u v = record {
-  size = i.size;
-  each = λ p h. let e : k ≡ K = omega arith in i.each p h ∙ ap (λ (b : Bool). cond b q (get_or before p 0))
-      (ap (λ (m : ℕ). any (λ j. not (eqb (g j) absent) && eqb (get_or st (g j) 0) (p + 1)) (upto m)) e ∙ sym (any_placed a (λ r. eqb (get_or st r 0) (p + 1))));
-}
+  -- y, one of R registers, after those of l
+  pub noticed_more : {l more xs : List ℕ} {R x y : ℕ} {before now after : List ℕ} → l ++ (y ∷ []) ≡ more → Low R xs → In y xs → x ≡ y → after ≡ note_in st x q now
+      → Noticed st l q before now → Noticed st more q before after
+  noticed_more {l} {y = y} {before = before} {after = after} e low there same f i =
+      let below = low.each y there in
+      let one = noticed_one i.size (λ z. absurd (omega (arith, low.few, below, same, z))) f in
+      subst (λ (m : List ℕ). Noticed st m q before after) (ap (λ (n : ℕ). l ++ n ∷ []) same ∙ e) (noticed_both i one)
 
 -- ---- the chain
 

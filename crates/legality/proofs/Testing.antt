@@ -8,16 +8,18 @@ use native.Mathlib.Omega.{arith}
 use borrow.Author.Tests.{eq-eqb, ne_eqb, le-leb, lt-leb, not-true, not-false}
 use lib.Dec.{eqb, leb}
 use lib.ListN.{get_or, length}
-use Rattle.words.specs.Lists.{all, conj}
+use Rattle.words.specs.Lists.{In, all, conj}
 use Rattle.words.proofs.Alls.{and_yes, and_nay}
-use Rattle.words.proofs.Lists.{get_d_any}
+use Rattle.words.proofs.Members.{in_get_or}
 use Rattle.model.specs.Picture.{Inst, inst, absent, reads, list_of}
 use Rattle.facts.specs.declared.Fact.{Fact}
+use Rattle.inst.proofs.Gathered.{list_low as in_list}
 use Rattle.regfacts.specs.Written.{Good}
+use Rattle.regfacts.proofs.Visiting.{read_low}
 use Rattle.legalset.specs.Chain.{reg_org, picked}
 use Rattle.legalset.specs.Rules.{org_fine, still_fine}
 use Rattle.summary.specs.Passes.{read_test, place_test, word_org, org_test, piece_test, froms, from_test, memory_test, own_test, stay_test, Near}
-use Rattle.summary.proofs.Places.{list_at_low}
+use Rattle.summary.proofs.Listed.{all_map}
 
 -- ---- rule 3
 
@@ -128,10 +130,6 @@ pick_end f xs sc i h = go xs h ∙ i
     go (a ∷ []) l = refl
     go (a ∷ b ∷ ys) l = absurd (omega (arith, l))
 
-all_map : {A B : Type 0} (f : B → Bool) (g : A → B) (xs : List A) → all f (map g xs) ≡ all (λ x. f (g x)) xs
-all_map f g [] = refl
-all_map f g (x ∷ xs) = ap (λ (b : Bool). f (g x) && b) (all_map f g xs)
-
 one_origin : (regs ops : List ℕ) (i : Inst) (st : List ℕ) (o : ℕ) → (suc o ≡ 4294967295 → ⊥) → froms regs ops i st (suc o) ≡ o ∷ []
 unfolding froms
 one_origin regs ops i st o n = ap (λ (b : Bool). cond b (map (λ r. word_org regs r (get_or st r 0)) (picked (get_or i 9 0) (list_of ops i))) (o ∷ [])) (ne_eqb (suc o) 4294967295 n)
@@ -201,9 +199,7 @@ from_small (inl h) n = omega arith
 from_small (inr h) n = absurd (n h)
 
 pub list_low : {recs ops : List ℕ} {R g : ℕ} {xs : List ℕ} → Good recs ops R g → xs ≡ list_of ops (inst recs g) → (k : ℕ) → k < length xs → get_or xs k 0 < R
-list_low {recs} {ops} {R} {g} {xs} h e k l =
-    let m : k < length (list_of ops (inst recs g)) = subst (λ (y : List ℕ). k < length y) e l in
-    subst (λ (x : ℕ). x < R) (sym (ap (λ (y : List ℕ). get_or y k 0) e ∙ get_d_any (list_of ops (inst recs g)) k 0 absent m)) (list_at_low recs ops R g h k m)
+list_low {recs} {ops} {R} {g} {xs} h e k l = (in_list ops (inst recs g) (read_low h)).each (get_or xs k 0) (subst (In (get_or xs k 0)) e (in_get_or 0 xs k l))
 
 -- ---- rules 4, 6, 5 and 3, in this order
 

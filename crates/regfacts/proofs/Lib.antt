@@ -1,4 +1,5 @@
 pub mod First
 pub mod Turned
+pub mod Visiting
 pub mod Writers
 pub mod Writing

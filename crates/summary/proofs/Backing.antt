@@ -17,7 +17,6 @@ use Rattle.words.specs.Last.{last_below}
 use Rattle.effects.specs.Origin.{num}
 use Rattle.facts.specs.declared.Fact.{Fact}
 use Rattle.facts.specs.Marks.{fact_in}
-use Rattle.regfacts.specs.Written.{Fits}
 use Rattle.legalset.specs.Chain.{view, defs_of, reads_of, writer, Safe}
 use Rattle.legalset.specs.Marks.{in_set, sifted, lost, Inside, Passed}
 use Rattle.legalset.specs.Rules.{last_kept, pending, backward_ok}
@@ -25,7 +24,8 @@ use Rattle.legalset.proofs.Dropping.{passed_none, passed_down}
 use Rattle.legalset.proofs.Easier.{behind, backward_mono}
 use Rattle.legalset.proofs.Pending.{pending_ext}
 use Rattle.summary.specs.Passes.{over, stamp, since, writer_word, kept_word, Stamped, Stamps, Awaits, Awaited, Notes, Noted, noting, kept_in, blank, Backed, Summed, Shows}
-use Rattle.summary.proofs.Places.{writes_placed}
+use Rattle.regfacts.specs.Written.{Fits}
+use Rattle.regfacts.proofs.Visiting.{written_low}
 use Rattle.summary.specs.declared.notes.Lasts.{Lasts}
 use Rattle.summary.proofs.Summing.{zero_at, since_low, since_ext, since_all, since_kept, notes_none, notes_more, noted_member, noted_kept}
 use Rattle.summary.proofs.Forwarding.{sifted_other, now_in, is_sifted, is_lost}
@@ -102,10 +102,7 @@ gone_back {recs} {ops} {w} {f} {n} {R} {q} {st} {ls} {st'} {ls'} {keep} S s l si
 -- ---- the pass
 
 pub writes_low : (recs : List ℕ) (R g : ℕ) → Fits recs R g → (r : ℕ) → In r (writes (inst recs g)) → r < R
-writes_low recs R g h r i =
-    let a = writes_placed recs g h.whole.within in
-    let z = a.to r i in
-    ⊎_elim (λ e. absurd (a.real r i (sym z.2 ∙ e))) (λ l. subst (λ (x : ℕ). x < R) z.2 l) (h.slot z.0 z.1)
+writes_low recs R g h = (written_low h).each
 
 -- a write: awaited no longer, and noted if it is the last kept one
 write_step : (s : ℕ) (L md p : Bool) (q : ℕ) → s ≤ 800 → q < 800 → stamp 1024 (kept_word L q) 0 md (s + 1024 * hit p) ≡ max s (cond (not L && md) (q + 1) 0) + 1024 * hit (not md && p)

@@ -28,7 +28,8 @@ use Rattle.legalset.proofs.Easier.{forward_mono}
 use Rattle.summary.specs.Passes.{over, stamp, writer_word, Stamped, Stamps, Writes, read_test, word_org, org_test, froms, from_test, memory_test, member_at, own_test, stay_test, fact_word, forgot, forgotten, with_writes, Forwarded, Summed, Going, Shows}
 use Rattle.summary.specs.declared.notes.Lasts.{Lasts}
 use Rattle.summary.proofs.Summing.{at_parts, same_at}
-use Rattle.summary.proofs.Places.{reads_low, list_in_low}
+use Rattle.inst.proofs.Gathered.{list_low}
+use Rattle.regfacts.proofs.Visiting.{read_low}
 
 in_picked : (sc : ℕ) (xs : List ℕ) (r : ℕ) → In r (picked sc xs) → In r xs
 unfolding picked
@@ -110,14 +111,14 @@ module _ (regs marks : List ℕ) {recs ops : List ℕ} {w : List Fact} {n R p : 
   pub reads_are : all (read_test st p) (reads ops (inst recs (fact_in w p).rec)) ≡ reads_ok (view recs ops w regs) n L₀ (in_set marks) p
   unfolding read_test reads_ok read_fine
   reads_are = all_on (read_test st p) (λ r. read_fine (in_set marks) p (writer (defs_of recs w) r p) (last_kept L₀ (λ q. mem r (defs_of recs w q)) n)) (reads ops (inst recs (fact_in w p).rec))
-      (λ r i. let l = reads_low recs ops R (fact_in w p).rec (s.good p h) r i in
+      (λ r i. let l = (read_low (s.good p h)).each r i in
       ap₂ (λ (a : Bool) (k : ℕ). a || leb k (p + 1)) (word_in w (in_set marks) (writer (defs_of recs w) r p) (get_or st r 0) (writer_at r l)) (kept_at r l))
 
   froms_are : from_test regs ops (inst recs (fact_in w p).rec) st lasts bar (fact_in w p).from p ≡ origins_ok (view recs ops w regs) n L₀ p
   unfolding from_test org_test origins_ok
   froms_are =
       ap (all (org_test lasts bar p)) (froms_origins w regs ops (inst recs (fact_in w p).rec) st (λ r. writer (defs_of recs w) r p)
-      (λ r i. word_points w regs (in_set marks) r (writer (defs_of recs w) r p) (get_or st r 0) (writer_at r (list_in_low recs ops R (fact_in w p).rec (s.good p h) r i))) (fact_in w p).from)
+      (λ r i. word_points w regs (in_set marks) r (writer (defs_of recs w) r p) (get_or st r 0) (writer_at r ((list_low ops (inst recs (fact_in w p).rec) (read_low (s.good p h))).each r i))) (fact_in w p).from)
       ∙ all_on (org_test lasts bar p) (λ o. org_fine p (last_kept L₀ (λ z. (fact_in w z).barrier) n) (last_kept L₀ (λ q. eqb (fact_in w q).wrote 1) n) (last_kept L₀ (λ q. eqb (fact_in w q).wrote (o + 1)) n) o)
       (origins w regs ops (inst recs (fact_in w p).rec) (λ r. writer (defs_of recs w) r p) (fact_in w p).from) one
     where

@@ -1,9 +1,7 @@
-pub mod Along
-pub mod Asking
 pub mod Backing
 pub mod Forwarding
+pub mod Listed
 pub mod Places
-pub mod Reading
 pub mod Stamping
 pub mod Summing
 pub mod Wording

@@ -1,21 +1,22 @@
--- Stamping the registers of a list, place by place. Assumes nothing.
-use mathlib.Core.Path.{◌≡◌, refl, sym, ap, ◌∙◌}
-use mathlib.Core.Logic.{◌⊎◌, inl, inr, ⊎_elim}
-use mathlib.Core.Bool.{Bool, true, false, ◌||◌, cond, or-false}
-use mathlib.Core.List.{List}
-use Prim.Native.Nat.{ℕ, ◌+◌, ◌*◌, ◌≤◌, ◌<◌}
+-- Stamping the registers of a list, one after the other. Assumes nothing.
+use mathlib.Core.Path.{◌≡◌, refl, sym, ap, ◌∙◌, subst}
+use mathlib.Core.Logic.{◌⊎◌, ⊎_elim}
+use mathlib.Core.Bool.{Bool, true, false, ◌||◌, cond}
+use mathlib.Core.List.{List, [], ◌∷◌, ◌++◌, append-nil}
+use Prim.Native.Nat.{ℕ, ◌*◌, ◌≤◌, ◌<◌}
 use native.Mathlib.Omega.{arith}
 use borrow.Author.Tests.{eq-eqb, ne_eqb}
-use lib.Dec.{eqb}
 use lib.ListN.{get_or, length, set, length-set}
 use lib.Seq.{get_or-set_same, get_or-set_other}
-use Rattle.words.specs.Lists.{upto, any}
+use Rattle.words.specs.Lists.{In, mem}
 use Rattle.words.proofs.Bools.{eq?}
-use Rattle.words.proofs.Alls.{any_more}
+use Rattle.words.proofs.Alls.{mem_append}
 use Rattle.model.specs.Picture.{Inst, absent, writes}
+use Rattle.inst.specs.Index.{Low}
+use Rattle.inst.specs.Record.{present}
 use Rattle.inst.specs.Written.{put_in as change_in, settle, Written as Changed}
+use Rattle.inst.proofs.Firsts.{present_none, present_some}
 use Rattle.summary.specs.Passes.{over, stamp, put_in, Stamped, Beside}
-use Rattle.summary.proofs.Places.{Placed, mem_placed}
 
 -- ---- the stamps in use
 
@@ -49,52 +50,64 @@ pub stamped_written : (keep lo v : ℕ) {i : Inst} {st st' : List ℕ} → Chang
 unfolding settle stamp
 stamped_written keep lo v w = record { size = w.size; each = λ r h. w.each r h }
 
--- ---- place by place
+-- ---- one register after the other
 
--- the first k places are stamped
-pub record Stamping (g : ℕ → ℕ) (keep lo v k : ℕ) (before now : List ℕ) : Type 0 where
-  pub size : length now ≡ length before
-  pub each : (r : ℕ) → r < length before → get_or now r 0 ≡ stamp keep lo v (any (λ j. eqb r (g j)) (upto k)) (get_or before r 0)
+module _ (keep lo v : ℕ) where
+  again : Beside keep lo v → (b c : Bool) (x : ℕ) → stamp keep lo v c (stamp keep lo v b x) ≡ stamp keep lo v (b || c) x
+  unfolding stamp
+  again h true true x = h.twice x
+  again h true false x = refl
+  again h false c x = refl
 
-pub stamping_none : (g : ℕ → ℕ) (keep lo v : ℕ) (st : List ℕ) → Stamping g keep lo v 0 st st
-unfolding stamp
-stamping_none g keep lo v st = record { size = refl; each = λ r h. refl }
+  put_absent : (r : ℕ) (st : List ℕ) → r ≡ absent → put_in keep lo v r st ≡ st
+  unfolding put_in
+  put_absent r st e = ap (λ (b : Bool). cond b st (set st r (over keep lo v (get_or st r 0)))) (eq-eqb r absent e)
 
-pub put_absent : (keep lo v r : ℕ) (st : List ℕ) → r ≡ absent → put_in keep lo v r st ≡ st
-unfolding put_in
-put_absent keep lo v r st e = ap (λ (b : Bool). cond b st (set st r (over keep lo v (get_or st r 0)))) (eq-eqb r absent e)
+  put_there : (r : ℕ) (st : List ℕ) → (r ≡ absent → ⊥) → put_in keep lo v r st ≡ set st r (over keep lo v (get_or st r 0))
+  unfolding put_in
+  put_there r st e = ap (λ (b : Bool). cond b st (set st r (over keep lo v (get_or st r 0)))) (ne_eqb r absent e)
 
-pub put_there : (keep lo v r : ℕ) (st : List ℕ) → (r ≡ absent → ⊥) → put_in keep lo v r st ≡ set st r (over keep lo v (get_or st r 0))
-unfolding put_in
-put_there keep lo v r st e = ap (λ (b : Bool). cond b st (set st r (over keep lo v (get_or st r 0)))) (ne_eqb r absent e)
+  set_at : (x : ℕ) (st : List ℕ) → x < length st → (r : ℕ) → get_or (set st x (over keep lo v (get_or st x 0))) r 0 ≡ stamp keep lo v (mem r (x ∷ [])) (get_or st r 0)
+  unfolding stamp
+  set_at x st h r = ⊎_elim
+      (λ (e : r ≡ x). ap (λ (y : ℕ). get_or (set st x (over keep lo v (get_or st x 0))) y 0) e ∙ get_or-set_same st x (over keep lo v (get_or st x 0)) 0 h ∙ ap (λ (y : ℕ). over keep lo v (get_or st y 0)) (sym e)
+      ∙ sym (ap (λ (b : Bool). stamp keep lo v (b || false) (get_or st r 0)) (eq-eqb r x e)))
+      (λ (e : r ≡ x → ⊥). get_or-set_other st x r (over keep lo v (get_or st x 0)) 0 e ∙ sym (ap (λ (b : Bool). stamp keep lo v (b || false) (get_or st r 0)) (ne_eqb r x e))) (eq? r x)
 
-stamp_again : (keep lo v : ℕ) → Beside keep lo v → (b : Bool) (x : ℕ) → over keep lo v (stamp keep lo v b x) ≡ stamp keep lo v (b || true) x
-unfolding stamp
-stamp_again keep lo v h true x = h.twice x
-stamp_again keep lo v h false x = refl
+  pub stamped_none : (st : List ℕ) → Stamped [] keep lo v st st
+  unfolding stamp
+  stamped_none st = record { size = refl; each = λ r h. refl }
 
-module _ {g : ℕ → ℕ} {keep lo v k : ℕ} {before now : List ℕ} (i : Stamping g keep lo v k before now) (b : Beside keep lo v) (few : length before ≤ 65536) where
-  pub stamping_more : {x : ℕ} {after : List ℕ} → x ≡ g k → (x ≡ absent) ⊎ (x < length now) → after ≡ put_in keep lo v x now → Stamping g keep lo v (k + 1) before after
-  stamping_more {x} {after} e w f = record { size = size; each = λ r h. ap (λ (l : List ℕ). get_or l r 0) f ∙ one r h (eq? r x) w ∙ sym (ap (λ (y : Bool). stamp keep lo v y (get_or before r 0)) (any_more (λ j. eqb r (g j)) k)) }
-    where
-      size : length after ≡ length before
-      size = ap length f ∙ ⊎_elim (λ (z : x ≡ absent). ap length (put_absent keep lo v x now z)) (λ (z : x < length now). let s = i.size in ap length (put_there keep lo v x now (λ y. omega arith)) ∙ length-set now x _) w ∙ i.size
+  -- a register below the length of the words
+  stamped_one : {x : ℕ} {st after : List ℕ} → x < length st → (x ≡ absent → ⊥) → after ≡ put_in keep lo v x st → Stamped (x ∷ []) keep lo v st after
+  stamped_one {x} {st} h n e =
+      let there = e ∙ put_there x st n in
+      record { size = ap length there ∙ length-set st x _; each = λ r l. ap (λ (y : List ℕ). get_or y r 0) there ∙ set_at x st h r }
 
-      one : (r : ℕ) → r < length before → (r ≡ x) ⊎ (r ≡ x → ⊥) → (x ≡ absent) ⊎ (x < length now)
-          → get_or (put_in keep lo v x now) r 0 ≡ stamp keep lo v (any (λ j. eqb r (g j)) (upto k) || eqb r (g k)) (get_or before r 0)
-      one r h (inl q) (inl z) = absurd (omega arith)
-      one r h (inl q) (inr z) =
-          let s = i.size in
-          ap (λ (l : List ℕ). get_or l r 0) (put_there keep lo v x now (λ y. omega arith)) ∙ ap (λ (y : ℕ). get_or (set now x (over keep lo v (get_or now x 0))) y 0) q ∙ get_or-set_same now x (over keep lo v (get_or now x 0)) 0 z
-          ∙ ap (λ (y : ℕ). over keep lo v (get_or now y 0)) (sym q) ∙ ap (over keep lo v) (i.each r h) ∙ stamp_again keep lo v b (any (λ j. eqb r (g j)) (upto k)) (get_or before r 0)
-          ∙ ap (λ (y : Bool). stamp keep lo v (any (λ j. eqb r (g j)) (upto k) || y) (get_or before r 0)) (sym (eq-eqb r (g k) (q ∙ e)))
-      one r h (inr q) z =
-          ⊎_elim (λ (y : x ≡ absent). ap (λ (l : List ℕ). get_or l r 0) (put_absent keep lo v x now y))
-          (λ (y : x < length now). let s = i.size in ap (λ (l : List ℕ). get_or l r 0) (put_there keep lo v x now (λ u. omega arith)) ∙ get_or-set_other now x r (over keep lo v (get_or now x 0)) 0 q) z
-          ∙ i.each r h ∙ ap (λ (y : Bool). stamp keep lo v y (get_or before r 0)) (sym (ap (λ (y : Bool). any (λ j. eqb r (g j)) (upto k) || y) (ne_eqb r (g k) (λ u. q (u ∙ sym e))) ∙ or-false (any (λ j. eqb r (g j)) (upto k))))
+module _ {keep lo v : ℕ} where
+  -- or none
+  pub stamped_present : (x : ℕ) {st after : List ℕ} → length st ≤ 65536 → (x ≡ absent) ⊎ (x < length st) → after ≡ put_in keep lo v x st → Stamped (present x) keep lo v st after
+  stamped_present x {st} {after} few h e = ⊎_elim
+      (λ (z : x ≡ absent). subst (λ (l : List ℕ). Stamped l keep lo v st after) (sym (sym (append-nil (present x)) ∙ present_none [] z))
+      (subst (Stamped [] keep lo v st) (sym (e ∙ put_absent keep lo v x st z)) (stamped_none keep lo v st)))
+      (λ (z : x < length st). let n : (x ≡ absent → ⊥) = λ y. absurd (omega (arith, few, y, z)) in
+      subst (λ (l : List ℕ). Stamped l keep lo v st after) (sym (sym (append-nil (present x)) ∙ present_some [] n)) (stamped_one keep lo v z n e)) h
 
-  pub stamping_end : {l : List ℕ} {K : ℕ} → Placed l g K → k ≤ K → K ≤ k → Stamped l keep lo v before now
-  stamping_end {l} {K} a p q = record {
-    size = i.size;
-    each = λ r h. let e : k ≡ K = omega arith in i.each r h ∙ ap (λ (y : Bool). stamp keep lo v y (get_or before r 0)) (ap (λ (n : ℕ). any (λ j. eqb r (g j)) (upto n)) e ∙ sym (mem_placed a r (λ u. omega arith)));
-  }
+  module _ (b : Beside keep lo v) where
+    -- those of l, then those of m
+    pub stamped_both : {l m before now after : List ℕ} → Stamped l keep lo v before now → Stamped m keep lo v now after → Stamped (l ++ m) keep lo v before after
+    stamped_both {l} {m} {before} i j = record {
+      size = j.size ∙ i.size;
+      each = λ r h.
+          j.each r (subst (λ (n : ℕ). r < n) (sym i.size) h) ∙ ap (stamp keep lo v (mem r m)) (i.each r h) ∙ again keep lo v b (mem r l) (mem r m) (get_or before r 0)
+          ∙ ap (λ (y : Bool). stamp keep lo v y (get_or before r 0)) (sym (mem_append r l m));
+    }
+
+    -- y, one of R registers, after those of l
+    pub stamped_more : {l more xs : List ℕ} {x y : ℕ} {before now after : List ℕ} → l ++ (y ∷ []) ≡ more → Low (length before) xs → In y xs → x ≡ y → after ≡ put_in keep lo v x now
+        → Stamped l keep lo v before now → Stamped more keep lo v before after
+    stamped_more {l} {y = y} {before = before} {after = after} e low there same f i =
+        let s = i.size in
+        let below = low.each y there in
+        let one = stamped_one keep lo v (omega (arith, below, s, same)) (λ z. absurd (omega (arith, low.few, below, same, z))) f in
+        subst (λ (m : List ℕ). Stamped m keep lo v before after) (ap (λ (n : ℕ). l ++ n ∷ []) same ∙ e) (stamped_both i one)

@@ -2,10 +2,11 @@
 use Rattle.std.specs.Prelude.{Option, Some, None}
 use mathlib.Core.Path.{◌≡◌, refl, sym, ap, ap₂, ◌∙◌, subst}
 use mathlib.Core.Logic.{◌⊎◌, inl, inr, ⊎_elim}
-use mathlib.Core.Bool.{Bool, false, ◌&&◌, ◌||◌, cond, and-true}
-use mathlib.Core.List.{List, ◌++◌, append-nil}
+use mathlib.Core.Bool.{Bool, true, false, ◌&&◌, ◌||◌, cond, and-true}
+use mathlib.Core.List.{List, [], ◌∷◌, ◌++◌}
 use Prim.Native.Nat.{ℕ, ◌≤◌, ◌<◌}
 use native.Mathlib.Omega.{arith}
+use borrow.Author.Tests.{ne_eqb}
 use lib.Dec.{eqb, leb}
 use lib.ListN.{get_or, length}
 use Rattle.words.specs.Lists.{In, all}
@@ -20,9 +21,10 @@ use Rattle.facts.specs.declared.Fact.{Fact}
 use Rattle.legalset.specs.Chain.{Safe, Brief}
 use Rattle.summary.specs.declared.notes.Lasts.{Lasts}
 use Rattle.summary.specs.Passes.{put_in, kept_word, noting, Stamped, Awaited, Backed, Beside, Written, Readable, Small, Shows, own_def, own_uses}
-use Rattle.summary.proofs.Places.{Placed, all_placed, made, present_in, reads_low}
-use Rattle.summary.proofs.Stamping.{Stamping, stamping_none, stamping_more, stamping_end}
-use Rattle.summary.proofs.Backing.{writes_low, backed}
+use Rattle.regfacts.proofs.Visiting.{read_low, written_low}
+use Rattle.summary.proofs.Listed.{all_append}
+use Rattle.summary.proofs.Stamping.{stamped_present, stamped_both}
+use Rattle.summary.proofs.Backing.{backed}
 
 -- ---- each position of a chain is such
 
@@ -55,40 +57,41 @@ module _ (x : ℕ) {R : ℕ} (few : R ≤ 65536) {m : Option Reg} (q : m ≡ reg
   own_low : (word_of m ≡ absent) ⊎ (word_of m < R)
   own_low = among_low m own_among
 
-module _ (f : Fact) (R : ℕ) where
-  abbrev one : ℕ → ℕ
-  one k = word_of (reg_of f.def R)
+module _ (f : Fact) (R : ℕ) (h : ℕ → Bool) where
+  present_tested : (x : ℕ) → all h (present x) ≡ (eqb x absent || h x)
+  unfolding present
+  present_tested x = go (eqb x absent)
+    where
+      go : (b : Bool) → all h (cond b [] (x ∷ [])) ≡ (b || h x)
+      go true = refl
+      go false = and-true (h x)
 
-  abbrev two : ℕ → ℕ
-  two k = word_of (reg_of (cond (eqb k 0) f.use0 f.use1) R)
-
-  def_placed : Placed (own_def R f) one 1
+  pub def_tested : {m : Option Reg} → m ≡ reg_of f.def R → {b : Bool} → b ≡ (eqb (word_of m) absent || h (word_of m)) → b ≡ all h (own_def R f)
   unfolding own_def
-  def_placed = subst (λ (l : List ℕ). Placed l one 1) (append-nil (present (one 0))) (made one 1)
+  def_tested q k = k ∙ ap (λ (r : Option Reg). eqb (word_of r) absent || h (word_of r)) q ∙ sym (present_tested (word_of (reg_of f.def R)))
 
-  uses_placed : Placed (own_uses R f) two 2
+  pub uses_tested : {x y : Option Reg} → x ≡ reg_of f.use0 R → y ≡ reg_of f.use1 R → {b c : Bool}
+      → b ≡ (eqb (word_of x) absent || h (word_of x)) → c ≡ (eqb (word_of y) absent || h (word_of y)) → (b && c) ≡ all h (own_uses R f)
   unfolding own_uses
-  uses_placed = subst (λ (l : List ℕ). Placed l two 2) (ap (λ (l : List ℕ). present (two 0) ++ l) (append-nil (present (two 1)))) (made two 2)
-
-  module _ (h : ℕ → Bool) where
-    pub def_tested : {m : Option Reg} → m ≡ reg_of f.def R → {b : Bool} → b ≡ (eqb (word_of m) absent || h (word_of m)) → b ≡ all h (own_def R f)
-    def_tested q k = k ∙ ap (λ (r : Option Reg). eqb (word_of r) absent || h (word_of r)) q ∙ sym (and-true (eqb (one 0) absent || h (one 0))) ∙ sym (all_placed def_placed h)
-
-    pub uses_tested : {x y : Option Reg} → x ≡ reg_of f.use0 R → y ≡ reg_of f.use1 R → {b c : Bool}
-        → b ≡ (eqb (word_of x) absent || h (word_of x)) → c ≡ (eqb (word_of y) absent || h (word_of y)) → (b && c) ≡ all h (own_uses R f)
-    uses_tested q r k l =
-        ap₂ (λ (i j : Bool). i && j) (k ∙ ap (λ (z : Option Reg). eqb (word_of z) absent || h (word_of z)) q)
-        (l ∙ ap (λ (z : Option Reg). eqb (word_of z) absent || h (word_of z)) r ∙ sym (and-true (eqb (two 1) absent || h (two 1))))
-        ∙ sym (all_placed uses_placed h)
+  uses_tested q r k l =
+      ap₂ (λ (i j : Bool). i && j) (k ∙ ap (λ (z : Option Reg). eqb (word_of z) absent || h (word_of z)) q ∙ sym (present_tested (word_of (reg_of f.use0 R))))
+      (l ∙ ap (λ (z : Option Reg). eqb (word_of z) absent || h (word_of z)) r ∙ sym (present_tested (word_of (reg_of f.use1 R))))
+      ∙ sym (all_append h (present (word_of (reg_of f.use0 R))) (present (word_of (reg_of f.use1 R))))
 
 module _ (f : Fact) (st : List ℕ) (few : length st ≤ 65536) {keep lo v : ℕ} (b : Beside keep lo v) where
+  -- what is made of the word x, by as many registers as there are words
+  one_stamped : (x : ℕ) {R : ℕ} {m : Option Reg} {now after : List ℕ} → R ≡ length now → R ≤ 65536 → m ≡ reg_of x (length now) → after ≡ put_in keep lo v (word_of m) now → Stamped (present (word_of (reg_of x R))) keep lo v now after
+  one_stamped x {m = m} {now = now} {after = after} e few q k =
+      subst (λ (n : ℕ). Stamped (present n) keep lo v now after) (ap word_of q ∙ ap (λ (n : ℕ). word_of (reg_of x n)) (sym e))
+      (stamped_present (word_of m) (omega (arith, few, e)) (own_low x (omega (arith, few, e)) q) k)
+
   pub def_stamped : {m : Option Reg} → m ≡ reg_of f.def (length st) → {st' : List ℕ} → st' ≡ put_in keep lo v (word_of m) st → Stamped (own_def (length st) f) keep lo v st st'
-  def_stamped q k =
-      stamping_end (stamping_more (stamping_none (one f (length st)) keep lo v st) b few (ap word_of q) (own_low f.def few q) k) b few (def_placed f (length st)) (omega arith) (omega arith)
+  unfolding own_def
+  def_stamped q k = one_stamped f.def refl few q k
 
   module _ {x : Option Reg} (q : x ≡ reg_of f.use0 (length st)) {mid : List ℕ} (k : mid ≡ put_in keep lo v (word_of x) st) where
-    one_put : Stamping (two f (length st)) keep lo v 1 st mid
-    one_put = stamping_more (stamping_none (two f (length st)) keep lo v st) b few (ap word_of q) (own_low f.use0 few q) k
+    one_put : Stamped (present (word_of (reg_of f.use0 (length st)))) keep lo v st mid
+    one_put = one_stamped f.use0 refl few q k
 
     few_on : length mid ≤ 65536
     few_on = omega (arith, few, one_put.size)
@@ -97,9 +100,12 @@ module _ (f : Fact) (st : List ℕ) (few : length st ≤ 65536) {keep lo v : ℕ
     own_among_on r = own_among f.use1 few_on r
 
     pub uses_stamped : {m : Option Reg} → m ≡ reg_of f.use1 (length mid) → {st' : List ℕ} → st' ≡ put_in keep lo v (word_of m) mid → Stamped (own_uses (length st) f) keep lo v st st'
-    uses_stamped r l =
-        stamping_end (stamping_more one_put b few (ap word_of r ∙ ap (λ (n : ℕ). word_of (reg_of f.use1 n)) one_put.size) (own_low f.use1 few_on r) l) b few
-        (uses_placed f (length st)) (omega arith) (omega arith)
+    unfolding own_uses
+    uses_stamped r l = stamped_both b one_put (one_stamped f.use1 (sym one_put.size) few r l)
+
+present_in : (x : ℕ) → (x ≡ absent → ⊥) → In x (present x)
+unfolding present
+present_in x n = subst (λ (b : Bool). In x (cond b [] (x ∷ []))) (sym (ne_eqb x absent n)) (inl refl)
 
 -- a word that is a register below R, or none, is what is made of it
 own_word : (R x : ℕ) → ((r : ℕ) → In r (present x) → r < R) → word_of (reg_of x R) ≡ x
@@ -110,13 +116,13 @@ pub def_all : (f : Fact) {recs : List ℕ} {R : ℕ} → Written recs R f.rec f.
 unfolding own_def
 def_all f {recs} {R} a e =
     let is = a.brief e in
-    ap present (own_word R f.def (λ r i. writes_low recs R f.rec a.fits r (subst (In r) (sym is) i))) ∙ sym is
+    ap present (own_word R f.def (λ r i. (written_low a.fits).each r (subst (In r) (sym is) i))) ∙ sym is
 
 pub uses_all : (f : Fact) {recs ops : List ℕ} {R : ℕ} → Readable recs ops R f → f.more ≡ false → own_uses R f ≡ reads ops (inst recs f.rec)
 unfolding own_uses
 uses_all f {recs} {ops} {R} a e =
     let is = a.brief e in
-    let low : (r : ℕ) → In r (present f.use0 ++ present f.use1) → r < R = λ r i. reads_low recs ops R f.rec a.good r (subst (In r) (sym is) i) in
+    let low : (r : ℕ) → In r (present f.use0 ++ present f.use1) → r < R = λ r i. (read_low a.good).each r (subst (In r) (sym is) i) in
     ap₂ (λ (x y : ℕ). present x ++ present y)
     (own_word R f.use0 (λ r i. low r (in_left r (present f.use0) (present f.use1) i)))
     (own_word R f.use1 (λ r i. low r (in_right r (present f.use0) (present f.use1) i)))

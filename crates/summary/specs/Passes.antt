@@ -1,5 +1,5 @@
 -- What the parts of a pass require and ensure. Assumes nothing.
-use Rattle.std.specs.Prelude.{◌≡◌, ◌⊎◌, Option, Bool, false, not, ◌&&◌, ◌||◌, cond, List, [], ◌∷◌, ◌++◌, map, replicate, ℕ, zero, suc, ◌+◌, ◌*◌, ◌-◌, ◌/◌, ◌%◌, ◌≤◌, ◌<◌, max, eqb, leb, ltb, get_or, length, set, take, drop}
+use Rattle.std.specs.Prelude.{◌≡◌, ◌⊎◌, Option, Bool, false, not, ◌&&◌, ◌||◌, cond, List, [], ◌∷◌, ◌++◌, map, replicate, ℕ, zero, suc, ◌+◌, ◌*◌, ◌-◌, ◌/◌, ◌%◌, ◌≤◌, ◌<◌, max, eqb, leb, get_or, length, set, take, drop}
 use Rattle.words.specs.Lists.{mem, hit, all, conj, member, count}
 use Rattle.words.specs.Bits.{is_in}
 use Rattle.model.specs.Picture.{Inst, inst, absent, reads, writes, list_of}
@@ -7,7 +7,7 @@ use Rattle.model.specs.Analyse.{Fact}
 use Rattle.model.specs.Legal.{greatest}
 use Rattle.inst.specs.Index.{reg_of, word_of, Among}
 use Rattle.inst.specs.declared.index.Reg.{Reg}
-use Rattle.inst.specs.Record.{Known, present, read_at}
+use Rattle.inst.specs.Record.{Known, present}
 use Rattle.facts.specs.declared.Fact as F
 use Rattle.facts.specs.Marks.{fact_in, marked}
 use Rattle.regfacts.specs.Written.{Fits, Good}
@@ -15,10 +15,6 @@ use Rattle.summary.specs.declared.notes.Lasts.{Lasts}
 use Rattle.legalset.specs.Chain.{view, writer, defs_of, reg_org, picked, Told}
 use Rattle.legalset.specs.Marks.{in_set, own, Passed}
 use Rattle.legalset.specs.Rules.{last_kept, org_fine, still_fine, forward_ok, pending}
-
--- read k: slots 0 to 4, then the list; absent where there is none
-unfoldable pub read_place : List ℕ → Inst → ℕ → ℕ
-read_place ops i k = cond (ltb k 5) (read_at i k) (get_or (list_of ops i) (k - 5) absent)
 
 -- what `post` says of a register of `count`, or none, is t of its number
 pub record Tests (count : ℕ) (post : Option Reg → Bool → Type 0) (t : ℕ → Bool) : Type 0 where

@@ -1,12 +1,12 @@
 // A word a register, in a lent slice: the registers that a position writes, or reads, are stamped. Its fact says which they are where
 // it has all, else its record does. (The slice is the caller's work, so what is stamped of a register stays packed in its word.)
-ghost use Rattle.std.specs.Prelude.{◌≡◌, ◌≤◌, length};
+ghost use Rattle.std.specs.Prelude.{◌≡◌, ◌≤◌, length, map};
 ghost use Rattle.model.specs.Picture.{inst, reads, writes};
-ghost use Rattle.inst.specs.Index.{word_of, Among};
+ghost use Rattle.inst.specs.Index.{word_of, Among, Low};
+ghost use Rattle.inst.specs.declared.index.Reg.{Reg as RegAt};
 ghost use Rattle.regfacts.specs.Written.{Fits, Good};
 ghost use Rattle.summary.specs.Passes.{over, put_in, Stamped, Beside, Written, Readable, own_def, own_uses};
 
-use crate::reads::Reads;
 use facts::Fact;
 use inst::code::{Code, Slots};
 use inst::index::Reg;
@@ -73,7 +73,7 @@ fn put(st: &mut [u64], r: Option<Reg>, d: Stamp)
 }
 
 // Stamps what a record writes.
-pub fn put_slots(slots: &Slots, st: &mut [u64], d: Stamp)
+fn put_slots(slots: &Slots, st: &mut [u64], d: Stamp)
     requires { Fits slots.now.recs.now (length st.old) slots.now.p }
     ensures { Stamped (writes (inst slots.now.recs.now slots.now.p)) d.keep d.lo d.v st.old st.new }
 {
@@ -100,14 +100,34 @@ pub fn put_writes(code: &Code, f: Fact, st: &mut [u64], d: Stamp)
     put_slots(&code.slots(f.rec as usize), st, d);
 }
 
-// Stamps what record g reads, place by place.
+// Stamps these registers.
+pub fn put_regs(regs: &[Reg], st: &mut [u64], d: Stamp)
+    requires { Low (length st.old) (map (λ (r : RegAt). r.0) regs.now) }
+    ensures { Stamped (map (λ (r : RegAt). r.0) regs.now) d.keep d.lo d.v st.old st.new }
+{
+    for r in regs {
+        put(st, Some(*r), d);
+    }
+}
+
+// Stamps those of a list.
+fn put_list(list: &[u32], st: &mut [u64], d: Stamp)
+    requires { Low (length st.old) list.now }
+    ensures { Stamped list.now d.keep d.lo d.v st.old st.new }
+{
+    for r in list {
+        put(st, Reg::new(*r, st.len()), d);
+    }
+}
+
+// Stamps what record g reads: in its slots, then in its list.
 fn put_places(code: &Code, g: usize, st: &mut [u64], d: Stamp)
     requires { Good code.now.recs.now code.now.ops.now (length st.old) g }
     ensures { Stamped (reads code.now.ops.now (inst code.now.recs.now g)) d.keep d.lo d.v st.old st.new }
 {
-    for r in Reads::new(code, g, st.len()) {
-        put(st, r, d);
-    }
+    let v = code.visit(g, st.len());
+    put_regs(v.reads.as_slice(), st, d);
+    put_list(v.list(code.ops), st, d);
 }
 
 // Stamps the registers that fact f has as read.

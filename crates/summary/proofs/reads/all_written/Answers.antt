@@ -1,7 +1,7 @@
 -- `summary::reads::all_written` meets its contract. Assumes nothing.
 use native.Mathlib.Omega.{arith}
 use mathlib.Core.Bool.{true, false, ◌||◌}
-use mathlib.Core.Path.{◌≡◌, refl, sym, ap, ◌∙◌}
+use mathlib.Core.Path.{◌≡◌, sym, ap, ◌∙◌}
 use Prim.Native.Nat.{ℕ, ◌<◌}
 use lib.Dec.{eqb}
 use Rattle.words.specs.Lists.{all}
@@ -18,19 +18,19 @@ loop-s-init g c = λ t h. ap (all t) (sym (writes_all _))
 pub test-requires : goal.test-requires
 test-requires g c =
     let low : c.loop-s.s < 5 = omega (arith, c.loop-s-test.true, c.writers-n.ensures, writers_few c.args.slots.now.does) in
-    c.requires.can _ (slot_made c.requires.fits refl low c.write.ensures).among
+    c.requires.can _ (slot_made c.requires.fits low c.write.ensures).among
 
 pub returns-then-not-test : goal.returns-then-not-test
 returns-then-not-test g c = λ t h.
     let low : c.loop-s.s < 5 = omega (arith, c.loop-s-test.true, c.writers-n.ensures, writers_few c.args.slots.now.does) in
-    let made = slot_made c.requires.fits refl low c.write.ensures in
+    let made = slot_made c.requires.fits low c.write.ensures in
     let test = h.each _ _ made.among c.test.ensures ∙ ap (λ (r : ℕ). eqb r absent || t r) made.word in
     sym (c.loop-s.invariant t h ∙ slot_tested t c.requires.fits c.loop-s.s low false test c.if-not-test.true)
 
 pub loop-s-preserved : goal.loop-s-preserved
 loop-s-preserved g c = λ t h.
     let low : c.loop-s.s < 5 = omega (arith, c.loop-s-test.true, c.writers-n.ensures, writers_few c.args.slots.now.does) in
-    let made = slot_made c.requires.fits refl low c.write.ensures in
+    let made = slot_made c.requires.fits low c.write.ensures in
     let test = h.each _ _ made.among c.test.ensures ∙ ap (λ (r : ℕ). eqb r absent || t r) made.word in
     c.loop-s.invariant t h ∙ slot_tested t c.requires.fits c.loop-s.s low true test c.if-not-test.false
 
