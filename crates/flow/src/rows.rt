@@ -57,13 +57,7 @@ pub fn block_rows(
 }
 
 // The rows of every block, the last one first. What lies behind all rows is left as it was.
-pub fn all_rows(
-    bits: &mut [u64],
-    writers: &mut [u64],
-    code: &Code<'_>,
-    bounds: &[u32],
-    regs: usize,
-)
+pub fn all_rows(bits: &mut [u64], writers: &mut [u64], code: &Code<'_>, bounds: &[u32], regs: usize)
     requires { Blocks bounds.now code.now.recs.now × Coded code.now regs × (4 * (length bounds.now / 2) * width regs ≤ length bits.old) }
     ensures by_index { (b : ℕ) → b < length bounds.now / 2 → Rows (drawn bounds.now code.now.recs.now code.now.ops.now [] []) (width regs) b bits.new }
     ensures bits_len_unchanged { length bits.new ≡ length bits.old }

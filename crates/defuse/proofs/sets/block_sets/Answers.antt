@@ -15,8 +15,7 @@ pub add_front-requires : goal.add_front-requires
 add_front-requires c =
     let g = c.requires in
     let l = c.loop-p in
-    let p = l.p - 1 in
-    (
+    let p = l.p - 1 in (
       record { fits = omega (arith, g.0.fits, l.auto.bits) },
       record { fits = omega (arith, g.1.fits, l.auto.bits) },
       omega (arith, g.3, l.auto.p),

@@ -21,8 +21,7 @@ write-requires-clause-few c = omega (arith, c.requires.2.few)
 
 pub write_one-requires : goal.write_one-requires
 write_one-requires c =
-    let g = c.requires in
-    (
+    let g = c.requires in (
       record { fits = omega (arith, g.0.fits, c.loop-s.auto.bits) },
       record { fits = omega (arith, g.1.fits, c.loop-s.auto.bits) },
       among_made _ _ c.write.ensures refl _ (omega (arith, g.2.few)) (omega arith),
@@ -34,8 +33,7 @@ loop-s-preserved c =
     let a = c.args in
     let e = c.write_one.ensures in
     let on = c.loop-s.invariant in
-    let low : c.loop-s.s < 5 = omega (arith, c.loop-s-test.true, c.writers-n.ensures, writers_few a.slots.now.does) in
-    (
+    let low : c.loop-s.s < 5 = omega (arith, c.loop-s-test.true, c.writers-n.ensures, writers_few a.slots.now.does) in (
       write_on (wrote a.at.u a.at.d) a.slots.now.used.within c.requires.2 low _ _ _ c.write.ensures e.bits on.0,
       write_on (note a.slots.now.p) a.slots.now.used.within c.requires.2 low _ _ _ c.write.ensures e.writers on.1,
     )

@@ -17,8 +17,7 @@ block_sets-requires c =
     let d = wrote_fits room c.requires.3 in
     let inside = ok.inside a.b.0 c.requires.3 in
     let long = c.clear_at.auto.bits in
-    let long_2 = c.clear_at-2.auto.bits in
-    (
+    let long_2 = c.clear_at-2.auto.bits in (
       record { fits = omega (arith, u, long, long_2, c.width.ensures, c.first.ensures) },
       record { fits = omega (arith, d, long, long_2, c.width.ensures, c.writes.ensures) },
       rw (c.start.ensures, c.past.ensures) (ok.order a.b.0 c.requires.3),
