@@ -1,7 +1,8 @@
 // What a run of instructions reads before it writes it, and what it writes (01, "A round": "read before written"; in the Rust
 // the first part of `liveness`), in two rows of bits. The instructions are taken from the last to the first: what one writes
 // goes out of the row of reads, and what it reads goes in. On the way each writer is noted, so that rows and facts on registers take
-// one pass over the records (request 2026-04).
+// one pass over the records (request 2026-04). It goes slot by slot: with what each record reads and writes gathered first, by inst's
+// `visit`, a call on a large function takes 1.46 times as many instructions (docs/SPEED.md).
 ghost use Rattle.std.specs.Prelude.{◌≡◌, map, ◌-◌, ◌*◌, ◌≤◌, ◌<◌, length};
 ghost use Rattle.words.specs.Lists.{range};
 ghost use Rattle.model.specs.Picture.{inst, reads, writes};

@@ -1,4 +1,5 @@
-// The first registers that a record reads and writes, in one struct: what `code::Slots::scan` gathers.
+// The first registers that a record reads and writes, in one struct: what `code::Slots::scan` gathers. (Beside visit.rt, which has all of
+// them: a fact along a chain has room for the first alone, and so they are found in fewer instructions; docs/SPEED.md.)
 ghost use Rattle.std.specs.Prelude.{◌≡◌, List, [], ◌++◌, get_or, ℕ};
 ghost use Rattle.model.specs.Picture.{absent};
 ghost use Rattle.inst.specs.Record.{present};

@@ -1,4 +1,5 @@
-// What a record reads and writes, gathered in one visit: the registers of its slots in order, and where its list lies.
+// What a record reads and writes, gathered in one visit (request 2026-04): what it reads in order of slots, then where its list begins and
+// how long it is, and what it writes in order of slots.
 ghost use Rattle.std.specs.Prelude.{◌≡◌, ◌++◌, ◌+◌, ◌≤◌, length, take, drop};
 ghost use Rattle.model.specs.Picture.{inst, reads, writes};
 ghost use Rattle.inst.specs.Index.{Low};
