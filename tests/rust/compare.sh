@@ -7,6 +7,7 @@
 #   compare.sh --if-there   for .ci/run: without the Rust the comparison is left out, except that it fails where CI=true
 #   compare.sh --listing    only shows document 01's listing and what the Rust makes of it
 #   compare.sh --bench      only prints docs/BENCH.md
+#   compare.sh --live       only prints the times of liveness, as in docs/SPEED.md
 #
 # YAVS_SRC names the folder that holds crates/yavs-ir/src; else shared/docs/src beside the repository is taken.
 # PICTURES and SEED say how many pictures are drawn, and which (4000 and 1); for the port's layers a quarter or an eighth as many.
@@ -52,10 +53,12 @@ built lib.sh
 VIRDZEBA_LIB_DIR=$(cd ../../target/lib && pwd)
 export VIRDZEBA_LIB_DIR
 cargo build --release --offline --locked --quiet --features port,host
-if [ "${1:-}" = --bench ]; then
-    $compare bench "${SEED:-1}"
+case ${1:-} in
+--bench | --live)
+    $compare "${1#--}" "${SEED:-1}"
     exit
-fi
+    ;;
+esac
 
 # The comparisons themselves: a slip that is put in is found.
 cargo test --release --offline --locked --quiet --features port,host
