@@ -61,13 +61,21 @@ module _ (recs : List ℕ) (p : ℕ) {c s : ℕ} (w : Within recs p) (h : s < 5)
   pub write_next : Low c (writes (inst recs p)) → r ≡ reg_of (write_at (inst recs p) s) c → rest_writes (inst recs p) s ≡ one r ++ rest_writes (inst recs p) (s + 1)
   write_next l e = writes_step recs p w s h ∙ ap (λ (xs : List ℕ). xs ++ rest_writes (inst recs p) (s + 1)) (sym (slot_written l e))
 
+-- two parts of such registers
+module _ {c : ℕ} (xs ys : List ℕ) {zs : List ℕ} (e : xs ++ ys ≡ zs) (l : Low c zs) where
+  pub slots_below : Low c xs
+  slots_below = record { few = l.few; each = λ q i. l.each q (subst (In q) e (in_left q xs ys i)) }
+
+  pub list_below : Low c ys
+  list_below = record { few = l.few; each = λ q i. l.each q (subst (In q) e (in_right q xs ys i)) }
+
 -- what it reads in its slots, and in its list
 module _ (ops : List ℕ) (i : Inst) {c : ℕ} (l : Low c (reads ops i)) where
   pub slots_low : Low c (rest_reads i 0)
-  slots_low = record { few = l.few; each = λ q h. l.each q (subst (In q) (reads_all ops i) (in_left q (rest_reads i 0) (list_of ops i) h)) }
+  slots_low = slots_below (rest_reads i 0) (list_of ops i) (reads_all ops i) l
 
   pub list_low : Low c (list_of ops i)
-  list_low = record { few = l.few; each = λ q h. l.each q (subst (In q) (reads_all ops i) (in_right q (rest_reads i 0) (list_of ops i) h)) }
+  list_low = list_below (rest_reads i 0) (list_of ops i) (reads_all ops i) l
 
 -- ---- the loops that gather them
 

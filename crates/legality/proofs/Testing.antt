@@ -9,7 +9,7 @@ use borrow.Author.Tests.{eq-eqb, ne_eqb, le-leb, lt-leb, not-true, not-false}
 use lib.Dec.{eqb, leb}
 use lib.ListN.{get_or, length}
 use Rattle.words.specs.Lists.{In, all, conj}
-use Rattle.words.proofs.Alls.{and_yes, and_nay}
+use Rattle.words.proofs.Alls.{all_map, and_yes, and_nay}
 use Rattle.words.proofs.Members.{in_get_or}
 use Rattle.model.specs.Picture.{Inst, inst, absent, reads, list_of}
 use Rattle.facts.specs.declared.Fact.{Fact}
@@ -19,7 +19,6 @@ use Rattle.regfacts.proofs.Visiting.{read_low}
 use Rattle.legalset.specs.Chain.{reg_org, picked}
 use Rattle.legalset.specs.Rules.{org_fine, still_fine}
 use Rattle.summary.specs.Passes.{read_test, place_test, word_org, org_test, piece_test, froms, from_test, memory_test, own_test, stay_test, Near}
-use Rattle.summary.proofs.Listed.{all_map}
 
 -- ---- rule 3
 

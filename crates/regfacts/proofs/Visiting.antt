@@ -2,12 +2,12 @@
 use mathlib.Core.Path.{◌≡◌, refl, sym, subst}
 use mathlib.Core.Logic.{inl, inr, ⊎_elim}
 use mathlib.Core.Bool.{Bool, true, false, cond}
-use mathlib.Core.List.{List, [], ◌∷◌, ◌++◌, map}
+use mathlib.Core.List.{List, [], ◌∷◌, map}
 use Prim.Native.Nat.{ℕ, ◌<◌}
 use borrow.Author.Tests.{eqb-false}
 use lib.Dec.{eqb}
 use Rattle.words.specs.Lists.{In, upto}
-use Rattle.words.proofs.Members.{in_left, in_right, concat_in, in_map, range_in, in_index}
+use Rattle.words.proofs.Members.{concat_in, in_map, range_in, in_index}
 use Rattle.model.specs.Picture.{inst, absent, reads, writes}
 use Rattle.inst.specs.Index.{Low}
 use Rattle.inst.specs.Record.{write_at, present}
@@ -38,11 +38,3 @@ read_low {recs} {ops} {R} {g} h = record {
   few = h.fits.room;
   each = λ q i. let z = in_index absent q (reads ops (inst recs g)) i in subst (λ (x : ℕ). x < R) z.2 (h.each z.0 z.1);
 }
-
--- what it reads in its slots, and in its list
-module _ {R : ℕ} (xs ys : List ℕ) {zs : List ℕ} (e : xs ++ ys ≡ zs) (l : Low R zs) where
-  pub slots_below : Low R xs
-  slots_below = record { few = l.few; each = λ q i. l.each q (subst (In q) e (in_left q xs ys i)) }
-
-  pub list_below : Low R ys
-  list_below = record { few = l.few; each = λ q i. l.each q (subst (In q) e (in_right q xs ys i)) }

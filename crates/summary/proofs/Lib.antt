@@ -1,6 +1,5 @@
 pub mod Backing
 pub mod Forwarding
-pub mod Listed
 pub mod Places
 pub mod Stamping
 pub mod Summing

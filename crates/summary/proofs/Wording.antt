@@ -22,7 +22,7 @@ use Rattle.legalset.specs.Chain.{Safe, Brief}
 use Rattle.summary.specs.declared.notes.Lasts.{Lasts}
 use Rattle.summary.specs.Passes.{put_in, kept_word, noting, Stamped, Awaited, Backed, Beside, Written, Readable, Small, Shows, own_def, own_uses}
 use Rattle.regfacts.proofs.Visiting.{read_low, written_low}
-use Rattle.summary.proofs.Listed.{all_append}
+use Rattle.words.proofs.Alls.{all_append}
 use Rattle.summary.proofs.Stamping.{stamped_present, stamped_both}
 use Rattle.summary.proofs.Backing.{backed}
 

@@ -8,7 +8,8 @@ use native.Mathlib.Nat.{zero-add}
 use native.Mathlib.Numerals.{add-one}
 use native.Mathlib.Omega.{arith}
 use lib.Dec.{T, eqb}
-use lib.ListN.{length, get_or}
+use lib.ListN.{length, get_or, drop, drop_of_length-le}
+use lib.Seq.{drop-cons}
 use borrow.Author.Count.{below_more}
 use borrow.Author.Tests.{not-true}
 use Rattle.words.specs.Lists.{range, upto, all, any, mem}
@@ -38,6 +39,19 @@ module _ {A : Type 0} (f : A → Bool) where
   any_append [] ys = refl
   any_append (x ∷ xs) ys = ap (λ (b : Bool). f x || b) (any_append xs ys) ∙ sym (mathlib.Core.Bool.or_assoc (f x) (any f xs) (any f ys))
 
+  pub all_append : (xs ys : List A) → all f (xs ++ ys) ≡ (all f xs && all f ys)
+  all_append [] ys = refl
+  all_append (x ∷ xs) ys = ap (λ (b : Bool). f x && b) (all_append xs ys) ∙ sym (mathlib.Core.Bool.and_assoc (f x) (all f xs) (all f ys))
+
+  -- element k, and then those after it: a loop over a slice that ends early
+  pub all_step : (d : A) (xs : List A) (k : ℕ) → k < length xs → (c : Bool) {b : Bool} → b ≡ f (get_or xs k d) → b ≡ c → all f (drop k xs) ≡ (c && all f (drop (k + 1) xs))
+  all_step d xs k h c e q =
+      ap (all f) (drop-cons xs k d h) ∙ ap (λ (n : ℕ). f (get_or xs k d) && all f (drop n xs)) (sym (add-one k))
+      ∙ ap (λ (y : Bool). y && all f (drop (k + 1) xs)) (sym e ∙ q)
+
+  pub all_past : (xs : List A) (k : ℕ) → length xs ≤ k → all f (drop k xs) ≡ true
+  all_past xs k h = ap (all f) (drop_of_length-le xs h)
+
   -- a test over the elements, by their places: what a loop over a slice decides
   pub all_places : (d : A) (xs : List A) → all f xs ≡ all (λ i. f (get_or xs i d)) (upto (length xs))
   all_places d xs = bool_ext (all f xs) (all (λ i. f (get_or xs i d)) (upto (length xs)))
@@ -56,6 +70,21 @@ mem_append r = any_append (λ x. eqb r x)
 pub any_map : {A B : Type 0} (f : B → Bool) (g : A → B) (xs : List A) → any f (map g xs) ≡ any (λ x. f (g x)) xs
 any_map f g [] = refl
 any_map f g (x ∷ xs) = ap (λ (b : Bool). f (g x) || b) (any_map f g xs)
+
+pub all_map : {A B : Type 0} (f : B → Bool) (g : A → B) (xs : List A) → all f (map g xs) ≡ all (λ x. f (g x)) xs
+all_map f g [] = refl
+all_map f g (x ∷ xs) = ap (λ (b : Bool). f (g x) && b) (all_map f g xs)
+
+-- a test of a list in two parts, the first of which was made by f
+module _ {A : Type 0} (t : ℕ → Bool) (f : A → ℕ) (xs : List A) (ys : List ℕ) {zs : List ℕ} (e : map f xs ++ ys ≡ zs) {b : Bool} (q : b ≡ all (λ x. t (f x)) xs) where
+  both_parts : (b && all t ys) ≡ all t zs
+  both_parts = ap (λ (x : Bool). x && all t ys) (q ∙ sym (all_map t f xs)) ∙ sym (all_append t (map f xs) ys) ∙ ap (all t) e
+
+  pub parts_no : b ≡ false → false ≡ all t zs
+  parts_no n = ap (λ (x : Bool). x && all t ys) (sym n) ∙ both_parts
+
+  pub parts_on : b ≡ true → {r : Bool} → r ≡ all t ys → r ≡ all t zs
+  parts_on y k = k ∙ ap (λ (x : Bool). x && all t ys) (sym y) ∙ both_parts
 
 -- ---- a table: the test f passes at each entry and its place, counted from i. antt computes it, one entry after the other.
 

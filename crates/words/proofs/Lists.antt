@@ -2,7 +2,7 @@
 -- the library's, by the names that the other pages cite
 pub use mathlib.Core.List.{map-append as map_append, map-id as map_self, map-map as map_map}
 pub use Rattle.std.proofs.lemmas.List.{get_or_default as get_d_any}
-use Rattle.std.proofs.lemmas.List.{get_or-map}
+use Rattle.std.proofs.lemmas.List.{get_or-map, take_more}
 use mathlib.Core.Path.{◌≡◌, refl, sym, ap, ap₂, ◌∙◌, subst}
 use mathlib.Core.Bool.{Bool, true, false, cond}
 use mathlib.Core.List.{List, [], ◌∷◌, ◌++◌, map, append_assoc, nil≢cons, head-eq_of_cons-eq, tail-eq_of_cons-eq}
@@ -24,6 +24,10 @@ module _ {A B : Type 0} where
 
   pub get_d_map : (f : A → B) (d : A) (e : B) (xs : List A) (k : ℕ) → k < length xs → get_or (map f xs) k e ≡ f (get_or xs k d)
   get_d_map f d e xs k h = get_or-map f xs k d e h
+
+  -- element k after those before it
+  pub map_more : (f : A → B) (xs : List A) (k : ℕ) (d : A) → k < length xs → map f (take k xs) ++ (f (get_or xs k d) ∷ []) ≡ map f (take (k + 1) xs)
+  map_more f xs k d h = sym (ap (map f) (take_more xs k d h) ∙ map_append f (take k xs) (get_or xs k d ∷ []))
 
 -- ---- range
 

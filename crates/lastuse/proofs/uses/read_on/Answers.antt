@@ -1,6 +1,7 @@
 -- `lastuse::uses::read_on` meets its contract. Assumes nothing.
 use native.Mathlib.Omega.{arith}
-use Rattle.regfacts.proofs.Visiting.{read_low, written_low, slots_below, list_below}
+use Rattle.inst.proofs.Gathered.{slots_below, list_below}
+use Rattle.regfacts.proofs.Visiting.{read_low, written_low}
 use Rattle.summary.proofs.Stamping.{whole_stamp}
 use Rattle.lastuse.proofs.Using.{noticed_both}
 use Rattle.lastuse.proofs.uses.read_on.Goals as goal

@@ -3,7 +3,7 @@ use mathlib.Core.Bool.{true, false}
 use mathlib.Core.Path.{refl, sym, ◌∙◌}
 use Rattle.words.proofs.Members.{in_get_or}
 use Rattle.summary.proofs.Places.{in_made, in_tested}
-use Rattle.summary.proofs.Listed.{all_step, all_past}
+use Rattle.words.proofs.Alls.{all_step, all_past}
 use Rattle.summary.proofs.reads.all_listed.Goals as goal
 
 pub test-requires : goal.test-requires

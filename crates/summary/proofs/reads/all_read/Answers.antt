@@ -3,9 +3,10 @@ use borrow.Author.Rules.{rules}
 use mathlib.Core.Path.{refl}
 use Rattle.std.specs.Prelude.{Some}
 use Rattle.inst.specs.declared.index.Reg.{Reg}
-use Rattle.regfacts.proofs.Visiting.{read_low, written_low, slots_below, list_below}
+use Rattle.inst.proofs.Gathered.{slots_below, list_below}
+use Rattle.regfacts.proofs.Visiting.{read_low, written_low}
 use Rattle.summary.proofs.Places.{held, held_tested}
-use Rattle.summary.proofs.Listed.{parts_no, parts_on}
+use Rattle.words.proofs.Alls.{parts_no, parts_on}
 use Rattle.summary.proofs.reads.all_read.Goals as goal
 
 pub visit-v-requires-clause-read : goal.visit-v-requires-clause-read

@@ -1,5 +1,6 @@
 -- `summary::stamps::put_places` meets its contract. Assumes nothing.
-use Rattle.regfacts.proofs.Visiting.{read_low, written_low, slots_below, list_below}
+use Rattle.inst.proofs.Gathered.{slots_below, list_below}
+use Rattle.regfacts.proofs.Visiting.{read_low, written_low}
 use Rattle.summary.proofs.Stamping.{stamped_both}
 use Rattle.summary.proofs.Wording.{stamped_is}
 use Rattle.summary.proofs.stamps.put_places.Goals as goal

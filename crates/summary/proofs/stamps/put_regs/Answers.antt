@@ -4,7 +4,7 @@ use Rattle.std.proofs.lemmas.List.{take_all}
 use Rattle.words.proofs.Members.{in_get_or, map_in}
 use Rattle.inst.specs.declared.index.Reg.{Reg}
 use Rattle.summary.proofs.Places.{held}
-use Rattle.summary.proofs.Listed.{map_more}
+use Rattle.words.proofs.Lists.{map_more}
 use Rattle.summary.proofs.Stamping.{stamped_none, stamped_more}
 use Rattle.summary.proofs.stamps.put_regs.Goals as goal
 
