@@ -32,7 +32,8 @@ as_reg {R} {n} few l q = let made = reg_made n R (omega (arith, few)) l q in rec
 pub slot_made : {recs : List ℕ} {R g s : ℕ} → Fits recs R g → s < 5 → {m : Option Reg} → m ≡ reg_of (write_at (inst recs g) s) R → AsReg R (write_at (inst recs g) s) m
 slot_made {s = s} f h q = as_reg f.room (f.slot s h) q
 
-present_tested : (f : ℕ → Bool) (w : ℕ) (ys : List ℕ) → all f (present w ++ ys) ≡ ((eqb w absent || f w) && all f ys)
+-- a word that is a register, or none, and then more
+pub present_tested : (f : ℕ → Bool) (w : ℕ) (ys : List ℕ) → all f (present w ++ ys) ≡ ((eqb w absent || f w) && all f ys)
 unfolding present
 present_tested f w ys = go (eqb w absent)
   where
@@ -59,7 +60,7 @@ module _ {R n : ℕ} {xs : List ℕ} (low : Low R xs) (i : In n xs) where
       let h = low.each n i in
       k.each m b a.among p ∙ ap (λ (r : ℕ). eqb r absent || t r) a.word ∙ ap (λ (y : Bool). y || t n) (ne_eqb n absent (λ e. absurd (omega (arith, e, h, low.few))))
 
--- held by name, and by its place
+-- it is one of those held
 module _ {R : ℕ} (regs : List Reg) (low : Low R (map (λ (r : Reg). r.0) regs)) where
   pub held : (r : Reg) → In r regs → {count : ℕ} → count ≡ R → AsReg count r.0 (Some r)
   held r i {count} e =

@@ -88,10 +88,10 @@ module _ {keep lo v : ℕ} where
   -- or none
   pub stamped_present : (x : ℕ) {st after : List ℕ} → length st ≤ 65536 → (x ≡ absent) ⊎ (x < length st) → after ≡ put_in keep lo v x st → Stamped (present x) keep lo v st after
   stamped_present x {st} {after} few h e = ⊎_elim
-      (λ (z : x ≡ absent). subst (λ (l : List ℕ). Stamped l keep lo v st after) (sym (sym (append-nil (present x)) ∙ present_none [] z))
+      (λ (z : x ≡ absent). subst (λ (l : List ℕ). Stamped l keep lo v st after) (sym (present_none [] z) ∙ append-nil (present x))
       (subst (Stamped [] keep lo v st) (sym (e ∙ put_absent keep lo v x st z)) (stamped_none keep lo v st)))
       (λ (z : x < length st). let n : (x ≡ absent → ⊥) = λ y. absurd (omega (arith, few, y, z)) in
-      subst (λ (l : List ℕ). Stamped l keep lo v st after) (sym (sym (append-nil (present x)) ∙ present_some [] n)) (stamped_one keep lo v z n e)) h
+      subst (λ (l : List ℕ). Stamped l keep lo v st after) (sym (present_some [] n) ∙ append-nil (present x)) (stamped_one keep lo v z n e)) h
 
   module _ (b : Beside keep lo v) where
     -- those of l, then those of m

@@ -2,8 +2,8 @@
 use Rattle.std.specs.Prelude.{Option, Some, None}
 use mathlib.Core.Path.{◌≡◌, refl, sym, ap, ap₂, ◌∙◌, subst}
 use mathlib.Core.Logic.{◌⊎◌, inl, inr, ⊎_elim}
-use mathlib.Core.Bool.{Bool, true, false, ◌&&◌, ◌||◌, cond, and-true}
-use mathlib.Core.List.{List, [], ◌∷◌, ◌++◌}
+use mathlib.Core.Bool.{Bool, false, ◌&&◌, ◌||◌, cond, and-true}
+use mathlib.Core.List.{List, [], ◌∷◌, ◌++◌, append-nil}
 use Prim.Native.Nat.{ℕ, ◌≤◌, ◌<◌}
 use native.Mathlib.Omega.{arith}
 use borrow.Author.Tests.{ne_eqb}
@@ -22,7 +22,7 @@ use Rattle.legalset.specs.Chain.{Safe, Brief}
 use Rattle.summary.specs.declared.notes.Lasts.{Lasts}
 use Rattle.summary.specs.Passes.{put_in, kept_word, noting, Stamped, Awaited, Backed, Beside, Written, Readable, Small, Shows, own_def, own_uses}
 use Rattle.regfacts.proofs.Visiting.{read_low, written_low}
-use Rattle.words.proofs.Alls.{all_append}
+use Rattle.summary.proofs.Places.{present_tested}
 use Rattle.summary.proofs.Stamping.{stamped_present, stamped_both}
 use Rattle.summary.proofs.Backing.{backed}
 
@@ -57,41 +57,36 @@ module _ (x : ℕ) {R : ℕ} (few : R ≤ 65536) {m : Option Reg} (q : m ≡ reg
   own_low : (word_of m ≡ absent) ⊎ (word_of m < R)
   own_low = among_low m own_among
 
+  -- its word is stamped in as many words
+  own_stamped : {keep lo v : ℕ} {now after : List ℕ} → R ≡ length now → after ≡ put_in keep lo v (word_of m) now → Stamped (present (word_of (reg_of x R))) keep lo v now after
+  own_stamped {keep} {lo} {v} {now} {after} e k =
+      subst (λ (n : ℕ). Stamped (present n) keep lo v now after) (ap word_of q)
+      (stamped_present (word_of m) (omega (arith, few, e)) (subst (λ (n : ℕ). (word_of m ≡ absent) ⊎ (word_of m < n)) e own_low) k)
+
 module _ (f : Fact) (R : ℕ) (h : ℕ → Bool) where
-  present_tested : (x : ℕ) → all h (present x) ≡ (eqb x absent || h x)
-  unfolding present
-  present_tested x = go (eqb x absent)
-    where
-      go : (b : Bool) → all h (cond b [] (x ∷ [])) ≡ (b || h x)
-      go true = refl
-      go false = and-true (h x)
+  alone : (x : ℕ) → all h (present x) ≡ (eqb x absent || h x)
+  alone x = ap (all h) (sym (append-nil (present x))) ∙ present_tested h x [] ∙ and-true (eqb x absent || h x)
 
   pub def_tested : {m : Option Reg} → m ≡ reg_of f.def R → {b : Bool} → b ≡ (eqb (word_of m) absent || h (word_of m)) → b ≡ all h (own_def R f)
   unfolding own_def
-  def_tested q k = k ∙ ap (λ (r : Option Reg). eqb (word_of r) absent || h (word_of r)) q ∙ sym (present_tested (word_of (reg_of f.def R)))
+  def_tested q k = k ∙ ap (λ (r : Option Reg). eqb (word_of r) absent || h (word_of r)) q ∙ sym (alone (word_of (reg_of f.def R)))
 
   pub uses_tested : {x y : Option Reg} → x ≡ reg_of f.use0 R → y ≡ reg_of f.use1 R → {b c : Bool}
       → b ≡ (eqb (word_of x) absent || h (word_of x)) → c ≡ (eqb (word_of y) absent || h (word_of y)) → (b && c) ≡ all h (own_uses R f)
   unfolding own_uses
   uses_tested q r k l =
-      ap₂ (λ (i j : Bool). i && j) (k ∙ ap (λ (z : Option Reg). eqb (word_of z) absent || h (word_of z)) q ∙ sym (present_tested (word_of (reg_of f.use0 R))))
-      (l ∙ ap (λ (z : Option Reg). eqb (word_of z) absent || h (word_of z)) r ∙ sym (present_tested (word_of (reg_of f.use1 R))))
-      ∙ sym (all_append h (present (word_of (reg_of f.use0 R))) (present (word_of (reg_of f.use1 R))))
+      ap₂ (λ (i j : Bool). i && j) (k ∙ ap (λ (z : Option Reg). eqb (word_of z) absent || h (word_of z)) q)
+      (l ∙ ap (λ (z : Option Reg). eqb (word_of z) absent || h (word_of z)) r ∙ sym (alone (word_of (reg_of f.use1 R))))
+      ∙ sym (present_tested h (word_of (reg_of f.use0 R)) (present (word_of (reg_of f.use1 R))))
 
 module _ (f : Fact) (st : List ℕ) (few : length st ≤ 65536) {keep lo v : ℕ} (b : Beside keep lo v) where
-  -- what is made of the word x, by as many registers as there are words
-  one_stamped : (x : ℕ) {R : ℕ} {m : Option Reg} {now after : List ℕ} → R ≡ length now → R ≤ 65536 → m ≡ reg_of x (length now) → after ≡ put_in keep lo v (word_of m) now → Stamped (present (word_of (reg_of x R))) keep lo v now after
-  one_stamped x {m = m} {now = now} {after = after} e few q k =
-      subst (λ (n : ℕ). Stamped (present n) keep lo v now after) (ap word_of q ∙ ap (λ (n : ℕ). word_of (reg_of x n)) (sym e))
-      (stamped_present (word_of m) (omega (arith, few, e)) (own_low x (omega (arith, few, e)) q) k)
-
   pub def_stamped : {m : Option Reg} → m ≡ reg_of f.def (length st) → {st' : List ℕ} → st' ≡ put_in keep lo v (word_of m) st → Stamped (own_def (length st) f) keep lo v st st'
   unfolding own_def
-  def_stamped q k = one_stamped f.def refl few q k
+  def_stamped q k = own_stamped f.def few q refl k
 
   module _ {x : Option Reg} (q : x ≡ reg_of f.use0 (length st)) {mid : List ℕ} (k : mid ≡ put_in keep lo v (word_of x) st) where
     one_put : Stamped (present (word_of (reg_of f.use0 (length st)))) keep lo v st mid
-    one_put = one_stamped f.use0 refl few q k
+    one_put = own_stamped f.use0 few q refl k
 
     few_on : length mid ≤ 65536
     few_on = omega (arith, few, one_put.size)
@@ -101,7 +96,7 @@ module _ (f : Fact) (st : List ℕ) (few : length st ≤ 65536) {keep lo v : ℕ
 
     pub uses_stamped : {m : Option Reg} → m ≡ reg_of f.use1 (length mid) → {st' : List ℕ} → st' ≡ put_in keep lo v (word_of m) mid → Stamped (own_uses (length st) f) keep lo v st st'
     unfolding own_uses
-    uses_stamped r l = stamped_both b one_put (one_stamped f.use1 (sym one_put.size) few r l)
+    uses_stamped r l = stamped_both b one_put (own_stamped f.use1 few (r ∙ ap (reg_of f.use1) one_put.size) (sym one_put.size) l)
 
 present_in : (x : ℕ) → (x ≡ absent → ⊥) → In x (present x)
 unfolding present
