@@ -12,7 +12,6 @@ use lib.Seq.{sets, sets-eq, drop-drop, length-sets, length-take-le, get_or-set_o
 use Rattle.words.specs.Bits.{is_in, set_bit, unset_bit}
 use Rattle.words.specs.Lists.{In, range, concat}
 use Rattle.words.proofs.Copying.{get_d_sets_before, get_or-sets_in, get_or-sets_after}
-use Rattle.words.proofs.Parts.{row_fits}
 use Rattle.words.proofs.Rows.{in_clear}
 use Rattle.model.specs.Picture.{Picture, Inst, inst, reads, writes, places, code}
 use Rattle.cfg.specs.Drawn.{drawn}
@@ -160,12 +159,6 @@ module _ (bounds recs ops : List ℕ) (w b : ℕ) (l : List ℕ) {R : ℕ} (ok :
 
 -- ---- all blocks
 
--- room for four rows a block is room for all rows, if there is a block
-pub room_of : {n w : ℕ} (b : ℕ) {l : List ℕ} → b < n → 4 * n * w ≤ length l → RowRoom n w l
-room_of {n} {w} b h e =
-    let some : 0 < n = omega arith in
-    record { fits = omega (arith, row_fits w some) }
-
 -- the rows of blocks b to n - 1 were made, and who writes what in them was noted
 pub record Made (bounds recs ops : List ℕ) (w b : ℕ) (l vs m ws : List ℕ) : Type 0 where
   pub size : length m ≡ length l
@@ -198,6 +191,3 @@ module _ {bounds recs ops : List ℕ} {w : ℕ} {l vs : List ℕ} where
         ∙ sym (notes_append recs vs (places (drawn bounds recs ops [] []) c) (concat (map (places (drawn bounds recs ops [] [])) (range (suc c) ((length bounds / 2) - b)))))
         ∙ ap (λ (n : ℕ). notes recs vs (concat (map (places (drawn bounds recs ops [] [])) (range c n)))) (sym z);
   }
-
-  pub made_room : {b : ℕ} {k xs : List ℕ} → 0 < b → b ≤ (length bounds / 2) → 4 * (length bounds / 2) * w ≤ length l → Made bounds recs ops w b l vs k xs → RowRoom (length bounds / 2) w k
-  made_room {b} h j e s = room_of (b - 1) (omega arith) (rw s.size e)
