@@ -4,7 +4,7 @@ use crate::accept;
 use crate::boundary;
 use crate::callgrind::counted;
 use crate::copies::{copies, filled};
-use crate::driver::{Facts, Pass};
+use crate::driver::Pass;
 use crate::fact::Fact;
 use crate::generate::{Size, bare};
 use crate::kinds::{ALLOC, CAT, CMP, COND_BR, CONST, LOAD, RET, STMT, STORE};
@@ -89,7 +89,7 @@ impl Row {
 
 /// A picture with the room that its rounds need.
 fn roomy(mut p: Picture) -> Picture {
-    let trace = Lent::new(&p).expect("no more types than the Rust has").rounds(Facts::Lengthened);
+    let trace = Lent::new(&p).expect("no more types than the Rust has").wanted();
     if let Some(last) = trace.rounds.last() {
         p.types.resize(last.after.reg_ty.len(), 0);
         p.ops.resize(last.after.operands.len(), 0);
@@ -100,7 +100,7 @@ fn roomy(mut p: Picture) -> Picture {
 /// Blocks, instructions and the longest chain, in instructions.
 fn sizes(p: &Picture) -> [usize; 3] {
     let lent = Lent::new(p).expect("no more types than the Rust has");
-    let all = Pass::overview(&lent.program, &lent.function, &lent.replay);
+    let all = lent.overview(lent.entry);
     let chain = all.looks.iter().flatten().map(|l| l.positions.len()).max().unwrap_or(0);
     [p.nblocks(), p.locs.len(), chain]
 }
@@ -116,7 +116,7 @@ struct Design {
 fn designs(seed: u64) -> Vec<Design> {
     let of = |seed: u64| {
         let p = bare(seed, Size::Large);
-        let rounds = if accept::gated(&p) { 0 } else { Lent::new(&p).expect("few types").rounds(Facts::Lengthened).rounds.len() };
+        let rounds = if accept::gated(&p) { 0 } else { Lent::new(&p).expect("few types").wanted().rounds.len() };
         Design { seed, rounds, sizes: sizes(&p) }
     };
     (seed..seed + SEEDS).map(of).collect()

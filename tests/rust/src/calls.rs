@@ -3,7 +3,7 @@
 
 use super::*;
 
-use crate::driver::{Facts, Flow, Look, Overview, Pass, Position, Register, Round, Search, State, Told, Trace, caught};
+use crate::driver::{Entry, Facts, Flow, Look, Overview, Pass, Position, Register, Round, Search, State, Told, Trace, caught};
 use crate::time::{best, once};
 
 /// Registers that eight rounds can make at most: a Sig takes two.
@@ -174,7 +174,7 @@ fn position(r: &Run, p: usize) -> Position {
 }
 
 /// A `Sink` over `f` with the facts on registers as `run` finds them, and the predecessors.
-fn begin<'a>(prog: &'a Program, f: &crate::Func, replay: &[usize]) -> Sink<'a> {
+fn begin<'a>(prog: &'a Program, f: &crate::Func, replay: &[usize], entry: Entry) -> Sink<'a> {
     let mut s = Sink {
         prog,
         code: Vec::new(),
@@ -215,6 +215,9 @@ fn begin<'a>(prog: &'a Program, f: &crate::Func, replay: &[usize]) -> Sink<'a> {
         }
     }
     s.find_preds();
+    if let (Entry::Start, [first, ..]) = (entry, &mut s.preds[..]) {
+        first.insert(0, s.code.len() as u32);
+    }
     s
 }
 
@@ -235,8 +238,8 @@ fn the_liveness(mut s: Sink) -> Sink {
 
 impl Pass {
     /// `sink_all`, one `try_block` after the other in its order, with what each round leaves.
-    pub fn rounds(prog: &Program, f: &crate::Func, replay: &[usize], facts: Facts) -> Trace {
-        let mut s = begin(prog, f, replay);
+    pub fn rounds(prog: &Program, f: &crate::Func, replay: &[usize], facts: Facts, entry: Entry) -> Trace {
+        let mut s = begin(prog, f, replay, entry);
         let mut trace = Trace { rounds: Vec::new(), stopped: false };
         for _ in 0..8 {
             s.live_in.clear();
@@ -265,8 +268,8 @@ impl Pass {
     }
 
     /// `sink_all` itself; `None` where it stopped by itself.
-    pub fn sink_all(prog: &Program, f: &crate::Func, replay: &[usize], facts: Facts) -> Option<(bool, State)> {
-        let mut s = begin(prog, f, replay);
+    pub fn sink_all(prog: &Program, f: &crate::Func, replay: &[usize], facts: Facts, entry: Entry) -> Option<(bool, State)> {
+        let mut s = begin(prog, f, replay, entry);
         if facts == Facts::Lengthened {
             s.lengthen(s.reg_ty.len() + ROOM);
         }
@@ -282,37 +285,37 @@ impl Pass {
     }
 
     /// Predecessors and live-in rows, before round 1.
-    pub fn flow(prog: &Program, f: &crate::Func) -> Flow {
-        let mut s = begin(prog, f, &[]);
+    pub fn flow(prog: &Program, f: &crate::Func, entry: Entry) -> Flow {
+        let mut s = begin(prog, f, &[], entry);
         s.liveness();
         Flow { preds: s.preds, live_in: s.live_in }
     }
 
     /// How long liveness takes at best, in milliseconds, of so many runs.
     pub fn live_time(prog: &Program, f: &crate::Func, runs: usize) -> f64 {
-        best(runs, || begin(prog, f, &[]), the_liveness)
+        best(runs, || begin(prog, f, &[], Entry::Blocks), the_liveness)
     }
 
     /// How long `find_preds` and `sink_all` take, in milliseconds, facts lengthened. All else is made before the time begins, and
     /// dropped after its end.
     pub fn sink_time(prog: &Program, f: &crate::Func, replay: &[usize]) -> f64 {
-        let mut s = begin(prog, f, replay);
+        let mut s = begin(prog, f, replay, Entry::Blocks);
         s.preds = Vec::new();
         s.lengthen(s.reg_ty.len() + ROOM);
         once(s, the_pass)
     }
 
     /// Predecessors, live-in rows, and each block as the start of a chain, before round 1.
-    pub fn overview(prog: &Program, f: &crate::Func, replay: &[usize]) -> Overview {
-        let mut s = begin(prog, f, replay);
+    pub fn overview(prog: &Program, f: &crate::Func, replay: &[usize], entry: Entry) -> Overview {
+        let mut s = begin(prog, f, replay, entry);
         s.liveness();
         let looks = (0..s.code.len()).map(|x| s.look(x)).collect();
         Overview { preds: s.preds.clone(), live_in: s.live_in.clone(), looks }
     }
 
     /// The search from each block, before round 1.
-    pub fn searches(prog: &Program, f: &crate::Func, replay: &[usize]) -> Vec<Option<Search>> {
-        let mut s = begin(prog, f, replay);
+    pub fn searches(prog: &Program, f: &crate::Func, replay: &[usize], entry: Entry) -> Vec<Option<Search>> {
+        let mut s = begin(prog, f, replay, entry);
         s.liveness();
         (0..s.code.len()).map(|x| s.search(x)).collect()
     }

@@ -18,6 +18,14 @@ pub enum Facts {
     Lengthened,
 }
 
+/// Who leads to block 0: blocks alone, as `find_preds` has it (document 01), or the start of the function too, which is no block
+/// (request 2026-02).
+#[derive(Clone, Copy, PartialEq, Eq, Debug)]
+pub enum Entry {
+    Blocks,
+    Start,
+}
+
 /// The code of a function as the pass holds it.
 #[derive(Clone, Debug)]
 pub struct State {

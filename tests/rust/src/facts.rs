@@ -8,7 +8,7 @@ use std::collections::BTreeMap;
 
 use crate::accept;
 use crate::damage::DAMAGES;
-use crate::driver::{Pass, Search, Told};
+use crate::driver::{Search, Told};
 use crate::fact::Fact;
 use crate::generate::picture;
 use crate::kinds::{self, KINDS, Slot};
@@ -158,7 +158,7 @@ impl Stats {
         if refused == 0 {
             // A damaged picture may use more types than the Rust has.
             let Some(lent) = Lent::new(p) else { return };
-            searches = Pass::searches(&lent.program, &lent.function, &lent.replay);
+            searches = lent.searches(lent.entry);
         }
         self.pictures += usize::from(refused == 0);
         self.refused += usize::from(refused != 0);
@@ -442,7 +442,7 @@ mod tests {
                 let p = single(k as u32, form, 5, 1);
                 assert_eq!(accept::refusal(&p, p.work()), 0, "{} at form {form}", kind.name);
                 let lent = Lent::new(&p).expect("one type");
-                let searches = Pass::searches(&lent.program, &lent.function, &lent.replay);
+                let searches = lent.searches(lent.entry);
                 assert!(searches[0].is_some(), "{} at form {form}", kind.name);
             }
         }

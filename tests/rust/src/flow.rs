@@ -6,7 +6,7 @@ use std::collections::BTreeMap;
 use crate::accept;
 use crate::copies::copies;
 use crate::damage::DAMAGES;
-use crate::driver::{Flow, Pass};
+use crate::driver::{Entry, Flow, Pass};
 use crate::generate::{Size, picture};
 use crate::kinds::{BR, RET, STMT};
 use crate::oracle::Lent;
@@ -75,7 +75,7 @@ impl Stats {
             return;
         }
         let Some(lent) = Lent::new(&copy) else { return };
-        let rust = Pass::flow(&lent.program, &lent.function);
+        let rust = Pass::flow(&lent.program, &lent.function, Entry::Start);
         self.pictures += 1;
         self.same_preds(p, &rust, &words, name);
         self.same_rows(p, &rust, &bits, name);

@@ -8,7 +8,7 @@ use crate::accept;
 use crate::boundary;
 use crate::copies::{copies, spread};
 use crate::damage::DAMAGES;
-use crate::driver::{Facts, Trace};
+use crate::driver::Trace;
 use crate::fact::Fact;
 use crate::generate::{Size, bare};
 use crate::oracle::{Answer, Lent, Outcome, oracle, oracle_with_work};
@@ -113,7 +113,7 @@ impl Stats {
 
     /// An accepted picture, with every room that says something.
     fn accepted(&mut self, p: &Picture, name: &str, rnd: &mut Random, pass: &mut impl Slices) -> Trace {
-        let trace = Lent::new(p).expect("no more types than the Rust has").rounds(Facts::Lengthened);
+        let trace = Lent::new(p).expect("no more types than the Rust has").wanted();
         let longest = trace.rounds.last().map_or(0, |r| r.after.operands.len());
         let most = (p.types.len() + 500, (p.ops.len() + 3000).max(longest + 1));
         for room in rooms(p, &trace, most, rnd) {

@@ -7,7 +7,7 @@ use std::ops::{Div, Sub};
 use crate::accept;
 use crate::callgrind::counted;
 use crate::copies::{copies, filled};
-use crate::driver::Pass;
+use crate::driver::{Entry, Pass};
 use crate::generate::{Size, bare};
 use crate::kinds::{BIN, BR, CALL, CALL_NATIVE, CASE, CAT, COND_BR, CONST, RET, UNREACHABLE};
 use crate::oracle::Lent;
@@ -211,7 +211,7 @@ impl<'a> Given<'a> {
         let (n, w) = (p.nblocks(), (p.regs as usize).div_ceil(64));
         let (mut live, mut rows) = (vec![!0; work.w64], vec![!0; work.w64]);
         assert_eq!([port::live(&mut live, p, work), port::rows(&mut rows, p, work)], [0; 2], "the port accepts it too");
-        let wanted = |lent: &Lent| Pass::flow(&lent.program, &lent.function).live_in.concat();
+        let wanted = |lent: &Lent| Pass::flow(&lent.program, &lent.function, Entry::Blocks).live_in.concat();
         assert!(live[..n * w] == wanted(&self.whole), "the port's live-in is the Rust's");
         // Where no block goes to another, live-in is what a block reads first.
         assert!(rows[(2 * n + 1) * w..][..n * w] == wanted(&self.cut), "what a block reads first is the same");

@@ -2,7 +2,7 @@
 
 use crate::accept;
 use crate::convert::{self, Types};
-use crate::driver::{Facts, Pass, State, Trace};
+use crate::driver::{Entry, Facts, Overview, Pass, Search, State, Trace};
 use crate::picture::{Picture, Work};
 
 #[derive(Clone, Copy, Debug, PartialEq, Eq)]
@@ -40,6 +40,8 @@ pub struct Lent<'a> {
     pub program: crate::Program,
     pub function: crate::Func,
     pub replay: Vec<usize>,
+    /// `Start` where a block leads to block 0
+    pub entry: Entry,
 }
 
 impl<'a> Lent<'a> {
@@ -51,16 +53,30 @@ impl<'a> Lent<'a> {
             program: convert::program(picture),
             function: convert::function(picture, &types),
             replay: picture.replay.iter().map(|&b| b as usize).collect(),
+            entry: if picture.leads_to_entry() { Entry::Start } else { Entry::Blocks },
             types,
         })
     }
 
-    pub fn rounds(&self, facts: Facts) -> Trace {
-        Pass::rounds(&self.program, &self.function, &self.replay, facts)
+    pub fn rounds(&self, facts: Facts, entry: Entry) -> Trace {
+        Pass::rounds(&self.program, &self.function, &self.replay, facts, entry)
     }
 
-    pub fn sink_all(&self, facts: Facts) -> Option<(bool, State)> {
-        Pass::sink_all(&self.program, &self.function, &self.replay, facts)
+    pub fn sink_all(&self, facts: Facts, entry: Entry) -> Option<(bool, State)> {
+        Pass::sink_all(&self.program, &self.function, &self.replay, facts, entry)
+    }
+
+    pub fn overview(&self, entry: Entry) -> Overview {
+        Pass::overview(&self.program, &self.function, &self.replay, entry)
+    }
+
+    pub fn searches(&self, entry: Entry) -> Vec<Option<Search>> {
+        Pass::searches(&self.program, &self.function, &self.replay, entry)
+    }
+
+    /// The rounds that the port is held to.
+    pub fn wanted(&self) -> Trace {
+        self.rounds(Facts::Lengthened, self.entry)
     }
 
     pub fn picture_of(&self, state: &State) -> Picture {
@@ -95,7 +111,7 @@ pub fn oracle(picture: &Picture, work: Work) -> Option<Outcome> {
         0 if accept::gated(picture) => ends(Answer::Done(0)),
         0 => {
             let lent = Lent::new(picture)?;
-            Some(lent.outcome(&lent.rounds(Facts::Lengthened)))
+            Some(lent.outcome(&lent.wanted()))
         }
         n => ends(Answer::Refused(n)),
     }

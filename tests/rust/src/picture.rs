@@ -1,5 +1,7 @@
 //! The picture of document 01, "The call": flat lists of 32-bit words, the counts in use and the room lent.
 
+use crate::kinds::{BR, CASE, COND_BR};
+
 /// "Absent": a slot that is not visited.
 pub const ABSENT: u32 = u32::MAX;
 /// Words of one record.
@@ -112,6 +114,23 @@ impl Picture {
     pub fn list_of(&self, r: &Record) -> &[u32] {
         let (start, len) = r.list();
         &self.ops[start as usize..(start + len) as usize]
+    }
+
+    /// Where block `b` goes to: what its last instruction says (document 01, "The walk").
+    pub fn successors(&self, b: usize) -> Vec<usize> {
+        let Some(r) = self.places(b).next_back().map(|p| self.record(p)) else { return Vec::new() };
+        let words = match r.kind() {
+            BR => vec![r.0[9]],
+            COND_BR => vec![r.0[9], r.0[10]],
+            CASE => self.pairs.chunks(2).nth(r.0[9] as usize).map_or(Vec::new(), |t| self.targets[t[0] as usize..][..t[1] as usize].to_vec()),
+            _ => Vec::new(),
+        };
+        words.into_iter().map(|w| w as usize).collect()
+    }
+
+    /// Does a block lead to block 0: itself, by a Case, or one that nothing reaches (request 2026-02)?
+    pub fn leads_to_entry(&self) -> bool {
+        (0..self.nblocks()).any(|b| self.successors(b).contains(&0))
     }
 
     /// What the pass needs to work in, and no more (document 01, "Port order and sizes" and "What changes shape").

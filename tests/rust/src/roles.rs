@@ -3,7 +3,7 @@
 //! every way to leave slots absent.
 
 use crate::convert::decode;
-use crate::driver::{Pass, Position};
+use crate::driver::{Entry, Pass, Position};
 use crate::kinds::{self, KINDS, Slot};
 use crate::oracle::Lent;
 use crate::picture::{ABSENT, Picture, Record};
@@ -279,7 +279,7 @@ fn analysed(r: &Record, given: Record) -> (u32, Position, Option<(u32, bool)>) {
     p.ops = vec![1, 2];
     p.opers = 2;
     let lent = Lent::new(&p).expect("one type");
-    let overview = Pass::overview(&lent.program, &lent.function, &[]);
+    let overview = Pass::overview(&lent.program, &lent.function, &[], Entry::Blocks);
     let positions = &overview.looks[0].as_ref().expect("a chain").positions;
     let told = (positions[at + 1].reads[0], positions[at + 2].creates);
     (at as u32, positions[at].clone(), result.map(|_| told))

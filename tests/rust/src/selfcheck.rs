@@ -6,7 +6,7 @@ use std::collections::BTreeMap;
 use crate::accept;
 use crate::bytes;
 use crate::damage::DAMAGES;
-use crate::driver::{Facts, Pass, Trace};
+use crate::driver::{Entry, Facts, Pass, Trace};
 use crate::generate::{Size, picture};
 use crate::oracle::{Answer, Lent, oracle, oracle_with_work};
 use crate::picture::{Picture, Work};
@@ -79,26 +79,20 @@ fn same_rounds(a: &Trace, b: &Trace, lent: &Lent) -> bool {
     })
 }
 
-fn check(stats: &mut Stats, p: &Picture, name: &str) {
-    let mut fault = |what: &str| stats.faults.push(format!("{name}: {what}"));
-    let work = p.work();
-    if accept::refusal(p, work) != 0 {
-        fault("is refused");
-        return;
-    }
-    let lent = Lent::new(p).expect("no more types than the Rust has");
-    let long = lent.rounds(Facts::Lengthened);
-    let short = lent.rounds(Facts::AsRun);
+/// The rounds with facts lengthened and as they are, one by one and by `sink_all`; `None` where the former stop.
+fn rounds_agree(p: &Picture, lent: &Lent, entry: Entry, fault: &mut impl FnMut(&str)) -> Option<[Trace; 2]> {
+    let long = lent.rounds(Facts::Lengthened, entry);
+    let short = lent.rounds(Facts::AsRun, entry);
     if long.stopped {
         fault("the Rust stops though the facts are lengthened");
-        return;
+        return None;
     }
-    if !same_rounds(&long, &short, &lent) || (!short.stopped && long.rounds.len() != short.rounds.len()) {
+    if !same_rounds(&long, &short, lent) || (!short.stopped && long.rounds.len() != short.rounds.len()) {
         fault("lengthened facts change the rounds");
     }
     for (trace, facts) in [(&long, Facts::Lengthened), (&short, Facts::AsRun)] {
         let end = trace.rounds.last().map_or(p.clone(), |r| lent.picture_of(&r.after));
-        match lent.sink_all(facts) {
+        match lent.sink_all(facts, entry) {
             None if !trace.stopped => fault("sink_all stops by itself"),
             Some(_) if trace.stopped => fault("sink_all does not stop"),
             Some((changed, state)) if changed == trace.rounds.is_empty() || lent.picture_of(&state) != end => {
@@ -107,6 +101,20 @@ fn check(stats: &mut Stats, p: &Picture, name: &str) {
             _ => {}
         }
     }
+    Some([long, short])
+}
+
+fn check(stats: &mut Stats, p: &Picture, name: &str) {
+    let mut fault = |what: &str| stats.faults.push(format!("{name}: {what}"));
+    let work = p.work();
+    if accept::refusal(p, work) != 0 {
+        fault("is refused");
+        return;
+    }
+    let lent = Lent::new(p).expect("no more types than the Rust has");
+    // Document 01's rounds, and where a block leads to block 0 those of request 2026-02 too.
+    let Some([long, short]) = rounds_agree(p, &lent, Entry::Blocks, &mut fault) else { return };
+    let wanted = if lent.entry == Entry::Blocks { None } else { rounds_agree(p, &lent, lent.entry, &mut fault) };
     if p.replay.is_empty() && !short.stopped {
         stats.run_compared += 1;
         match Pass::run(&lent.program, &lent.function) {
@@ -136,7 +144,7 @@ fn check(stats: &mut Stats, p: &Picture, name: &str) {
     }
     // What the overview tells is what the first round does, and the six rules give the set that `plan` found.
     if let Some(first) = long.rounds.first() {
-        let overview = Pass::overview(&lent.program, &lent.function, &lent.replay);
+        let overview = lent.overview(Entry::Blocks);
         if let Some(look) = &overview.looks[first.from] {
             let other = if first.into == look.t { look.f } else { look.t };
             if Chain::new(p, &overview, first.from, look, first.into, other).greatest(None) != look.set {
@@ -164,7 +172,7 @@ fn check(stats: &mut Stats, p: &Picture, name: &str) {
         fault("what is left is refused");
     }
     stats.stopped += usize::from(short.stopped);
-    stats.tally.add(p, &long, outcome.answer);
+    stats.tally.add(p, &wanted.map_or(long, |[w, _]| w), outcome.answer);
 }
 
 impl Stats {

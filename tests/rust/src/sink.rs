@@ -8,7 +8,6 @@ use crate::boundary::boundaries;
 use crate::bytes::{self, Hosted, OPERANDS, REGISTERS, RESULT, fits, loose_bytes};
 use crate::copies::spread;
 use crate::damage::{DAMAGES, alter, any_words, damage_again};
-use crate::driver::Facts;
 use crate::generate::bare;
 use crate::oracle::{Answer, Lent, Outcome, oracle_with_work};
 use crate::picture::Picture;
@@ -141,7 +140,7 @@ impl Stats {
     fn count(&mut self, p: &Picture) -> u32 {
         let outcome = oracle_with_work(p).expect("no more types than the Rust has");
         if !matches!(outcome.answer, Answer::Refused(_)) {
-            let trace = Lent::new(p).expect("no more types than the Rust has").rounds(Facts::Lengthened);
+            let trace = Lent::new(p).expect("no more types than the Rust has").wanted();
             self.tally.add(p, &trace, outcome.answer);
         }
         outcome.lines.iter().map(|l| l[3]).sum()
@@ -154,7 +153,7 @@ impl Stats {
             let lending = Lending { bytes, registers: REGISTERS as u32, operands: OPERANDS as u32, result: RESULT };
             return self.run(Source::Generated, name, lending, (300, None), entry);
         }
-        let trace = Lent::new(p).expect("no more types than the Rust has").rounds(Facts::Lengthened);
+        let trace = Lent::new(p).expect("no more types than the Rust has").wanted();
         for (registers, operands) in rooms(p, &trace, (REGISTERS, OPERANDS), rnd) {
             let q = bytes::from_bytes(&bytes, registers, operands).expect("a picture within the program's sizes");
             let outcome = match accept::refusal(&q, q.work()) {

@@ -121,9 +121,9 @@ fn unread() -> Vec<Vector> {
 fn features_of(p: &Picture) -> Vec<String> {
     let lent = Lent::new(p).expect("no more types than the Rust has");
     let out = oracle_with_work(p).expect("no more types than the Rust has");
-    let mut shows = features(p, &lent.rounds(Facts::Lengthened), &out);
+    let mut shows = features(p, &lent.wanted(), &out);
     shows.extend(decided(p, &lent));
-    if lent.rounds(Facts::AsRun).stopped {
+    if lent.rounds(Facts::AsRun, lent.entry).stopped {
         shows.insert("the Rust as it is stops".into());
     }
     shows.into_iter().collect()
@@ -140,7 +140,7 @@ fn generated(mut many: usize, mut left: usize, shown_so_far: &mut BTreeSet<Strin
                 continue;
             }
             let mut rnd = Random::new(seed);
-            let trace = Lent::new(&p).expect("no more types than the Rust has").rounds(Facts::Lengthened);
+            let trace = Lent::new(&p).expect("no more types than the Rust has").wanted();
             for (registers, operands) in rooms(&p, &trace, ROOM, &mut rnd) {
                 if registers < p.regs as usize || operands < p.opers as usize {
                     continue;

@@ -51,12 +51,12 @@ pub fn picked(many: usize) -> Vec<Row> {
                 continue;
             }
             let lent = Lent::new(&p).expect("few types");
-            let trace = lent.rounds(Facts::Lengthened);
+            let trace = lent.wanted();
             let work = p.work();
             let out = oracle(&p, work).expect("few types");
             let mut shows = features(&p, &trace, &out);
             shows.extend(decided(&p, &lent));
-            if lent.rounds(Facts::AsRun).stopped {
+            if lent.rounds(Facts::AsRun, lent.entry).stopped {
                 shows.insert("the Rust as it is stops".into());
             }
             let enough = |s: &str| if pass == 0 { 1 } else { wanted(s) };

@@ -3,7 +3,7 @@
 use std::collections::BTreeSet;
 
 use crate::accept;
-use crate::driver::{Pass, Trace};
+use crate::driver::Trace;
 use crate::kinds::{self, KINDS};
 use crate::oracle::{Answer, Lent, Outcome, oracle_with_work};
 use crate::picture::{Picture, Record};
@@ -85,7 +85,7 @@ pub fn decided(p: &Picture, lent: &Lent) -> BTreeSet<String> {
     if accept::gated(p) {
         return f;
     }
-    let all = Pass::overview(&lent.program, &lent.function, &lent.replay);
+    let all = lent.overview(lent.entry);
     'blocks: for (x, look) in all.looks.iter().enumerate() {
         let Some(look) = look else { continue };
         let code: Vec<Record> = p.places(x).map(|k| p.record(k)).collect();

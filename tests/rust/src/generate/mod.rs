@@ -7,7 +7,7 @@ mod shapes;
 
 pub use draft::{Draft, Size};
 
-use crate::driver::Facts;
+use crate::driver::{Entry, Facts};
 use crate::oracle::Lent;
 use crate::picture::Picture;
 use crate::random::Random;
@@ -24,7 +24,7 @@ pub fn bare(seed: u64, size: Size) -> Picture {
 
 /// Lends room: some past what the pass needs, just enough, or one register or operand too few for one of the rounds.
 fn with_room(mut p: Picture, rnd: &mut Random) -> Picture {
-    let trace = Lent::new(&p).expect("no more types than the Rust has").rounds(Facts::Lengthened);
+    let trace = Lent::new(&p).expect("no more types than the Rust has").rounds(Facts::Lengthened, Entry::Blocks);
     let mut used = vec![(p.regs as usize, p.opers as usize)];
     used.extend(trace.rounds.iter().map(|r| (r.after.reg_ty.len(), r.after.operands.len())));
     let (mut regs, mut opers) = *used.last().expect("the counts of before");
