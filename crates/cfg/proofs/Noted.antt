@@ -1,21 +1,21 @@
 -- The two words of a block after every block has told where it goes are those of `model`'s predecessors. Assumes nothing.
 use mathlib.Core.Path.{◌≡◌, refl, sym, ap, ap₂, ◌∙◌, subst}
-use mathlib.Core.Logic.{inl, ⊎_elim}
+use mathlib.Core.Logic.{inl, inr, ⊎_elim}
 use mathlib.Core.Bool.{Bool, true, false, not, cond, ◌&&◌, ◌||◌, or-false}
-use mathlib.Core.List.{List, [], ◌∷◌, ◌++◌, append-nil}
+use mathlib.Core.List.{List, [], ◌∷◌, ◌++◌, append_assoc, append-nil}
 use Prim.Native.Nat.{ℕ, zero, suc, ◌+◌, ◌*◌, ◌≤◌, ◌<◌}
-use native.Mathlib.Nat.{zero-add, le_antisymm}
+use native.Mathlib.Nat.{zero-add, le_antisymm, le_refl}
 use native.Mathlib.Numerals.{add-one}
 use native.Mathlib.Omega.{arith}
 use lib.Dec.{eqb}
-use lib.ListN.{length, get_or, set, replicate, length-set}
+use lib.ListN.{length, get_or, set, length-set}
 use lib.Seq.{get_or-set_same, get_or-set_other}
 use borrow.Author.Tests.{eq-eqb, ne_eqb}
 use Rattle.words.specs.Lists.{In, upto, mem, filter}
 use Rattle.words.proofs.Bools.{eqb_self, eq?}
-use Rattle.words.proofs.Lists.{range_snoc, filter_append, get_or_zeros}
-use Rattle.words.proofs.Members.{filter_in, range_in}
-use Rattle.model.specs.Picture.{Picture, nblocks, succs, preds}
+use Rattle.words.proofs.Lists.{range_snoc, filter_append}
+use Rattle.words.proofs.Members.{filter_in, range_in, in_split}
+use Rattle.model.specs.Picture.{Picture, nblocks, succs, from_start, callers}
 use Rattle.words.specs.Steps.{steps}
 use Rattle.cfg.specs.Preds.{many, first, Told, Preds, count_after, which_after, noted, all_noted}
 
@@ -108,9 +108,10 @@ module _ (c b : ℕ) (ps : List ℕ) (new : (x : ℕ) → In x ps → x ≡ c �
 
 -- ---- all blocks, one after the other
 
-module _ (succ : ℕ → List ℕ) (ws : List ℕ) (b : ℕ) (h : 2 * b + 1 < length ws) where
+-- where n blocks tell it, and front leads to block b already, none of which is a block
+module _ (succ : ℕ → List ℕ) (ws : List ℕ) (b n : ℕ) (front : List ℕ) (h : 2 * b + 1 < length ws) (none : (x : ℕ) → In x front → n ≤ x) where
   abbrev so_far : ℕ → List ℕ
-  so_far c = filter (λ x. mem b (succ x)) (upto c)
+  so_far c = front ++ filter (λ x. mem b (succ x)) (upto c)
 
   length-noted_all : (c : ℕ) → length (all_noted succ ws c) ≡ length ws
   unfolding all_noted
@@ -118,20 +119,35 @@ module _ (succ : ℕ → List ℕ) (ws : List ℕ) (b : ℕ) (h : 2 * b + 1 < le
   length-noted_all (suc c) = length_all c (all_noted succ ws c) (succ c) ∙ length-noted_all c
 
   one_more : (c : ℕ) → so_far c ++ cond (mem b (succ c)) (c ∷ []) [] ≡ so_far (suc c)
-  one_more c = sym (ap (filter (λ x. mem b (succ x))) (range_snoc 0 c ∙ ap (λ (x : ℕ). upto c ++ (x ∷ [])) (zero-add c)) ∙ filter_append (λ x. mem b (succ x)) (upto c) (c ∷ []))
+  one_more c =
+      append_assoc front (filter (λ x. mem b (succ x)) (upto c)) (cond (mem b (succ c)) (c ∷ []) [])
+      ∙ ap (λ (l : List ℕ). front ++ l)
+      (sym (ap (filter (λ x. mem b (succ x))) (range_snoc 0 c ∙ ap (λ (x : ℕ). upto c ++ (x ∷ [])) (zero-add c)) ∙ filter_append (λ x. mem b (succ x)) (upto c) (c ∷ [])))
 
-  pub told_all : Told ws b [] → (c : ℕ) → Told (all_noted succ ws c) b (so_far c)
+  new_one : (c : ℕ) → c < n → (x : ℕ) → In x (so_far c) → x ≡ c → ⊥
+  new_one c l x i e =
+      ⊎_elim (λ j. let z = none x j in omega arith)
+      (λ j. let z = (range_in x 0 c (filter_in (λ x. mem b (succ x)) x (upto c) j).0).1 in omega arith)
+      (in_split x front (filter (λ x. mem b (succ x)) (upto c)) i)
+
+  pub told_all : Told ws b front → (c : ℕ) → c ≤ n → Told (all_noted succ ws c) b (so_far c)
   unfolding all_noted
-  told_all t zero = t
-  told_all t (suc c) = subst (Told (steps (noted c) (all_noted succ ws c) (succ c)) b) (one_more c)
-      (told_list c b (so_far c) (λ x i e. let z = range_in x 0 c (filter_in (λ x. mem b (succ x)) x (upto c) i).0 in let y = z.1 in omega arith)
-      (all_noted succ ws c) (succ c) false (rw (length-noted_all c) h) (subst (Told (all_noted succ ws c) b) (sym (append-nil (so_far c))) (told_all t c)))
+  told_all t zero m = subst (Told ws b) (sym (append-nil front)) t
+  told_all t (suc c) m = subst (Told (steps (noted c) (all_noted succ ws c) (succ c)) b) (one_more c)
+      (told_list c b (so_far c) (new_one c (omega arith)) (all_noted succ ws c) (succ c) false (rw (length-noted_all c) h)
+      (subst (Told (all_noted succ ws c) b) (sym (append-nil (so_far c))) (told_all t c (omega arith))))
 
--- from words that are 0
-pub all_preds : (P : Picture) (k : ℕ) (ws ms : List ℕ) → ws ≡ replicate k 0 → 2 * nblocks P ≤ length ws → ms ≡ all_noted (succs P) ws (nblocks P) → Preds P ms
-all_preds P k ws ms e h q = record {
-  told = λ b l. subst (λ (ms : List ℕ). Told ms b (preds P b)) (sym q)
-      (told_all (succs P) ws b (omega arith) (record { count = ap (λ (l : List ℕ). get_or l (2 * b) 0) e ∙ get_or_zeros k (2 * b); which = ap (λ (l : List ℕ). get_or l (2 * b + 1) 0) e ∙ get_or_zeros k (2 * b + 1) }) (nblocks P));
+-- the start of the function is no block
+start_none : (n b x : ℕ) → In x (from_start n b) → n ≤ x
+start_none n zero x (inl e) = omega arith
+start_none n zero x (inr j) = absurd j
+start_none n (suc b) x j = absurd j
+
+pub all_preds : (P : Picture) (ws ms : List ℕ) → ((b : ℕ) → b < nblocks P → Told ws b (from_start (nblocks P) b)) → 2 * nblocks P ≤ length ws → ms ≡ all_noted (succs P) ws (nblocks P)
+    → Preds P ms
+all_preds P ws ms t h q = record {
+  told = λ b l. subst (λ (ms : List ℕ). Told ms b (callers P b)) (sym q)
+      (told_all (succs P) ws b (nblocks P) (from_start (nblocks P) b) (omega arith) (start_none (nblocks P) b) (t b l) (nblocks P) (le_refl (nblocks P)));
 }
 
 -- ---- the loop over the blocks

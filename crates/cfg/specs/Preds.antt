@@ -1,7 +1,7 @@
--- Predecessors in two words a block (01, "A round": "has not exactly one predecessor", "sole predecessor"): how many there
--- are, up to two, and the first. Assumes nothing.
+-- Predecessors in two words a block (01, "A round": "has not exactly one predecessor", "sole predecessor"; request 2026-02: the start of
+-- the function is one of block 0): how many there are, up to two, and the first. Assumes nothing.
 use Rattle.std.specs.Prelude.{◌≡◌, not, cond, ◌&&◌, List, [], ◌∷◌, ℕ, zero, suc, ◌+◌, ◌*◌, ◌<◌, eqb, get_or, set}
-use Rattle.model.specs.Picture.{Picture, nblocks, preds}
+use Rattle.model.specs.Picture.{Picture, nblocks, callers}
 use Rattle.words.specs.Steps.{steps}
 
 -- 0 none, 1 one, 2 more
@@ -20,7 +20,7 @@ pub record Told (words : List ℕ) (b : ℕ) (ps : List ℕ) : Type 0 where
   pub which : get_or words (2 * b + 1) 0 ≡ first ps
 
 pub record Preds (P : Picture) (words : List ℕ) : Type 0 where
-  pub told : (b : ℕ) → b < nblocks P → Told words b (preds P b)
+  pub told : (b : ℕ) → b < nblocks P → Told words b (callers P b)
 
 -- ---- how they are found: the two words k, p of a block that c goes to
 

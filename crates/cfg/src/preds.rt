@@ -1,7 +1,9 @@
-// Sole predecessors (01, "A round"; in the Rust `find_preds`): each block tells the blocks that it goes to, in two words a block.
-ghost use Rattle.std.specs.Prelude.{◌≡◌, ◌+◌, ◌*◌, ◌≤◌, ◌<◌, length};
+// Sole predecessors (01, "A round"; in the Rust `find_preds`): each block tells the blocks that it goes to, in two words a block. The
+// start of the function leads to block 0 (request 2026-02).
+ghost use Rattle.std.specs.Prelude.{◌≡◌, ℕ, ◌+◌, ◌*◌, ◌≤◌, ◌<◌, length};
+ghost use Rattle.model.specs.Picture.{from_start};
 ghost use Rattle.cfg.specs.Func.{blocks_of, drawn_of};
-ghost use Rattle.cfg.specs.Preds.{Preds, count_after, which_after, noted};
+ghost use Rattle.cfg.specs.Preds.{Told, Preds, count_after, which_after, noted};
 ghost use Rattle.words.specs.Steps.{steps};
 
 use crate::graph::Func;
@@ -54,13 +56,25 @@ fn note_all(words: &mut [u32], succs: Succs<'_>, c: BlockId)
     }
 }
 
+// Nothing leads to any of n blocks yet, but the start of the function to block 0: it is no block, and has the number n.
+fn begin(words: &mut [u32], n: u32)
+    requires { 2 * n ≤ length words.old }
+    ensures { (b : ℕ) → b < n → Told words.new b (from_start n b) }
+{
+    words.fill(0);
+    if n > 0 {
+        words[0] = 1;
+        words[1] = n;
+    }
+}
+
 // For each block how many predecessors it has, up to two, and the first: words 2 b and 2 b + 1.
 pub fn find_preds(words: &mut [u32], func: &Func<'_>)
     requires { 2 * blocks_of func.now ≤ length words.old }
     ensures { Preds (drawn_of func.now) words.new }
 {
     let n = func.blocks();
-    words.fill(0);
+    begin(words, n);
     for k in 0..n {
         let c = BlockId::known(k, n);
         note_all(words, func.succs(c), c);

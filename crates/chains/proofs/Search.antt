@@ -12,7 +12,7 @@ use lib.ListN.{get_or, length}
 use Rattle.words.specs.Lists.{mem, same}
 use Rattle.words.proofs.Bools.{and_no}
 use Rattle.model.specs.Kinds.{kind_of}
-use Rattle.model.specs.Picture.{Picture, inst, End, goes, parts, cases, stops, end_of, ending, preds}
+use Rattle.model.specs.Picture.{Picture, inst, End, goes, parts, cases, stops, end_of, ending, callers}
 use Rattle.model.specs.Move as M
 use Rattle.model.specs.Move.{chain, chain_from}
 use Rattle.inst.specs.declared.index.BlockId.{BlockId}
@@ -98,7 +98,7 @@ module _ (P : Picture) (bs : List ℕ) (cur : ℕ) where
   abbrev some_left : ℕ → End → Option M.Chain
   some_left k x =
       elim x [
-        | goes to ↦ elim (eqb (length (preds P to)) 1 && not (mem to bs)) [ true ↦ chain_from P k (bs ++ to ∷ []) to | false ↦ None ]
+        | goes to ↦ elim (eqb (length (callers P to)) 1 && not (mem to bs)) [ true ↦ chain_from P k (bs ++ to ∷ []) to | false ↦ None ]
         | parts t f ↦ Some (record { blocks = bs; last = cur; t = t; f = f })
         | cases c ↦ None
         | stops ↦ None
@@ -129,7 +129,7 @@ module _ (P : Picture) (bs : List ℕ) (cur : ℕ) where
     from_full : chain_from P 0 bs cur ≡ None
     from_full = ap none_left e
 
-    from_on : (k : ℕ) (b : Bool) → (eqb (length (preds P to)) 1 && not (mem to bs)) ≡ b → chain_from P (suc k) bs cur ≡ (elim b [ true ↦ chain_from P k (bs ++ to ∷ []) to | false ↦ None ])
+    from_on : (k : ℕ) (b : Bool) → (eqb (length (callers P to)) 1 && not (mem to bs)) ≡ b → chain_from P (suc k) bs cur ≡ (elim b [ true ↦ chain_from P k (bs ++ to ∷ []) to | false ↦ None ])
     from_on k b q = ap (some_left k) e ∙ ap (λ (b : Bool). elim b [ true ↦ chain_from P k (bs ++ to ∷ []) to | false ↦ None ]) q
 
 -- ---- over the struct
@@ -156,22 +156,22 @@ module _ (P : Picture) {c : Chain} (few : Few c) where
     unfolding rest
     rest_full h = let n : 6 - c.count ≡ 0 = omega arith in sym (ap (λ (k : ℕ). chain_from P k (blocks_of c) (last_of c)) n ∙ from_full P (blocks_of c) (last_of c) e)
 
-    step : c.count < 6 → (b : Bool) → (eqb (length (preds P to)) 1 && not (mem to (blocks_of c))) ≡ b
+    step : c.count < 6 → (b : Bool) → (eqb (length (callers P to)) 1 && not (mem to (blocks_of c))) ≡ b
         → rest P (Some c) ≡ (elim b [ true ↦ chain_from P (5 - c.count) (blocks_of c ++ to ∷ []) to | false ↦ None ])
     unfolding rest
     step h b q =
         let n : 6 - c.count ≡ suc (5 - c.count) = omega arith in
         ap (λ (k : ℕ). chain_from P k (blocks_of c) (last_of c)) n ∙ from_on P (blocks_of c) (last_of c) e (5 - c.count) b q
 
-    pub rest_many : c.count < 6 → eqb (length (preds P to)) 1 ≡ false → rest P None ≡ rest P (Some c)
+    pub rest_many : c.count < 6 → eqb (length (callers P to)) 1 ≡ false → rest P None ≡ rest P (Some c)
     unfolding rest
     rest_many h q = sym (step h false (ap (λ (x : Bool). x && not (mem to (blocks_of c))) q))
 
     pub rest_twice : c.count < 6 → mem to (blocks_of c) ≡ true → rest P None ≡ rest P (Some c)
     unfolding rest
-    rest_twice h q = sym (step h false (and_no (eqb (length (preds P to)) 1) (ap not q)))
+    rest_twice h q = sym (step h false (and_no (eqb (length (callers P to)) 1) (ap not q)))
 
-    pub rest_on : (d : Chain) → c.count < 6 → eqb (length (preds P to)) 1 ≡ true → mem to (blocks_of c) ≡ false
+    pub rest_on : (d : Chain) → c.count < 6 → eqb (length (callers P to)) 1 ≡ true → mem to (blocks_of c) ≡ false
         → blocks_of d ≡ blocks_of c ++ to ∷ [] → d.count ≡ c.count + 1 → last_of d ≡ to → rest P (Some d) ≡ rest P (Some c)
     unfolding rest
     rest_on d h q m eb en el =
@@ -281,12 +281,12 @@ sole_is (x ∷ []) k s l e h =
 sole_is (x ∷ y ∷ ps) k s l e h = ap (λ (b : Bool). b && eqb s l) (e ∙ ne_eqb (length (x ∷ y ∷ ps)) 1 (λ q. omega (arith, q))) ∙ sym (and-false (eqb x l))
 
 module _ (c : Chain) {P : Picture} {words : List ℕ} {B : ℕ} {x : ℕ} {h : Bool} (q : Preds P words B) (l : x < B) (eh : h ≡ mem x (blocks_of c)) where
-  pub target_in : h ≡ true → false ≡ (not (mem x (blocks_of c)) && same (preds P x) (last_of c ∷ []))
-  target_in t = sym (ap (λ (b : Bool). not b && same (preds P x) (last_of c ∷ [])) (sym eh ∙ t))
+  pub target_in : h ≡ true → false ≡ (not (mem x (blocks_of c)) && same (callers P x) (last_of c ∷ []))
+  target_in t = sym (ap (λ (b : Bool). not b && same (callers P x) (last_of c ∷ [])) (sym eh ∙ t))
 
   pub target_out : {a z : ℕ} → h ≡ false → a ≡ x → z ≡ last_of c
-      → (eqb (get_or words (2 * a) 0) 1 && eqb (get_or words (2 * a + 1) 0) z) ≡ (not (mem x (blocks_of c)) && same (preds P x) (last_of c ∷ []))
+      → (eqb (get_or words (2 * a) 0) 1 && eqb (get_or words (2 * a + 1) 0) z) ≡ (not (mem x (blocks_of c)) && same (callers P x) (last_of c ∷ []))
   target_out {a} {z} t ea ez =
       ap (λ (n : ℕ). eqb (get_or words (2 * n) 0) 1 && eqb (get_or words (2 * n + 1) 0) z) ea ∙ ap (λ (n : ℕ). eqb (get_or words (2 * x) 0) 1 && eqb (get_or words (2 * x + 1) 0) n) ez
-      ∙ sole_is (preds P x) (get_or words (2 * x) 0) (get_or words (2 * x + 1) 0) (last_of c) (q.count x l) (q.sole x l)
-      ∙ sym (ap (λ (b : Bool). not b && same (preds P x) (last_of c ∷ [])) (sym eh ∙ t))
+      ∙ sole_is (callers P x) (get_or words (2 * x) 0) (get_or words (2 * x + 1) 0) (last_of c) (q.count x l) (q.sole x l)
+      ∙ sym (ap (λ (b : Bool). not b && same (callers P x) (last_of c ∷ [])) (sym eh ∙ t))

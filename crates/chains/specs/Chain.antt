@@ -2,7 +2,7 @@
 -- for. Assumes nothing.
 use Rattle.std.specs.Prelude.{◌≡◌, List, [], ◌∷◌, ℕ, ◌+◌, ◌*◌, ◌-◌, ◌≤◌, ◌<◌, true, false, eqb, get_or, length, map, Option, Some, None}
 use Rattle.words.specs.Lists.{upto}
-use Rattle.model.specs.Picture.{Picture, inst, End, goes, parts, cases, stops, end_of, ending, preds}
+use Rattle.model.specs.Picture.{Picture, inst, End, goes, parts, cases, stops, end_of, ending, callers}
 use Rattle.model.specs.Move as M
 use Rattle.model.specs.Move.{chain, chain_from}
 use Rattle.inst.specs.Record.{word}
@@ -83,10 +83,11 @@ pub record Blocks (bounds recs : List ℕ) (B : ℕ) : Type 0 where
   pub goes_in : (b t : ℕ) → b < B → end_in bounds recs b ≡ goes t → t < B
   pub parts_in : (b t f : ℕ) → b < B → end_in bounds recs b ≡ parts t f → (t < B) × (f < B)
 
--- two words a block: how many predecessors, 2 for more than one; and the one, if it is one
+-- two words a block: how many predecessors, the start of the function among those of block 0, 2 for more than one; and the one, if it
+-- is one
 pub record Preds (P : Picture) (words : List ℕ) (B : ℕ) : Type 0 where
-  pub count : (b : ℕ) → b < B → eqb (get_or words (2 * b) 0) 1 ≡ eqb (length (preds P b)) 1
-  pub sole : (b : ℕ) → b < B → length (preds P b) ≡ 1 → preds P b ≡ get_or words (2 * b + 1) 0 ∷ []
+  pub count : (b : ℕ) → b < B → eqb (get_or words (2 * b) 0) 1 ≡ eqb (length (callers P b)) 1
+  pub sole : (b : ℕ) → b < B → length (callers P b) ≡ 1 → callers P b ≡ get_or words (2 * b + 1) 0 ∷ []
 
 -- the picture that is lent
 pub record Shown (P : Picture) (bounds recs words : List ℕ) (B : ℕ) : Type 0 where

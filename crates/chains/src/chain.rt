@@ -2,7 +2,7 @@
 // or none, and the caller stops on none.
 ghost use Rattle.std.specs.Prelude.{◌≡◌, [], ◌∷◌, ◌++◌, ℕ, ◌+◌, ◌*◌, ◌≤◌, ◌<◌, length, get_or, not, ◌&&◌};
 ghost use Rattle.words.specs.Lists.{mem, same};
-ghost use Rattle.model.specs.Picture.{Picture, preds as preds_of};
+ghost use Rattle.model.specs.Picture.{Picture, callers};
 ghost use Rattle.chains.specs.Chain.{blocks_of, last_of, ended, chain_of, ending_of, end_in, Few, Sound, SoundOf, Block, Blocks, Preds, Next, Found};
 
 use inst::index::BlockId;
@@ -66,7 +66,7 @@ impl Chain {
     // Is block b a target: not in the chain, and its sole predecessor the chain's end?
     pub fn is_target(self, preds: &[u32], b: BlockId) -> bool
         requires { Few self × (2 * b.0 + 1 < length preds.now) }
-        ensures { (P : Picture) (n : ℕ) → b.0 < n → Preds P preds.now n → result ≡ (not (mem b.0 (blocks_of self)) && same (preds_of P b.0) (last_of self ∷ [])) }
+        ensures { (P : Picture) (n : ℕ) → b.0 < n → Preds P preds.now n → result ≡ (not (mem b.0 (blocks_of self)) && same (callers P b.0) (last_of self ∷ [])) }
     {
         if self.has(b) {
             return false;

@@ -7,7 +7,7 @@ use Prim.Native.Nat.{ℕ, ◌<◌}
 use Rattle.words.specs.Lists.{upto, mem, iterate, member}
 use Rattle.words.proofs.Lists.{map_ext}
 use Rattle.words.proofs.Members.{filter_on}
-use Rattle.model.specs.Picture.{Picture, End, goes, parts, cases, stops, nblocks, code, ending, end_succs, succs, preds}
+use Rattle.model.specs.Picture.{Picture, End, goes, parts, cases, stops, nblocks, code, ending, end_succs, succs, from_start, callers}
 use Rattle.model.specs.Live.{Node, node, live_at, live_in, read_first, written}
 use Rattle.cfg.specs.Drawn.{drawn}
 use Rattle.flow.specs.Live.{Live, Wrote, Rows}
@@ -36,8 +36,10 @@ module _ (P : Picture) where
   pub succs_whole : (ops : List ℕ) (b : ℕ) → succs (Q ops) b ≡ succs P b
   succs_whole ops b = end_whole ops (ending P b)
 
-  pub preds_whole : (ops : List ℕ) (b : ℕ) → preds (Q ops) b ≡ preds P b
-  preds_whole ops b = filter_on (λ c. mem b (succs (Q ops) c)) (λ c. mem b (succs P c)) (upto (nblocks P)) (λ c i. ap (mem b) (succs_whole ops c))
+  pub callers_whole : (ops : List ℕ) (b : ℕ) → callers (Q ops) b ≡ callers P b
+  callers_whole ops b =
+      ap (λ (l : List ℕ). from_start (nblocks P) b ++ l)
+      (filter_on (λ c. mem b (succs (Q ops) c)) (λ c. mem b (succs P c)) (upto (nblocks P)) (λ c i. ap (mem b) (succs_whole ops c)))
 
   node_whole : (r b : ℕ) → node (Q P.ops) r b ≡ node P r b
   node_whole r b =

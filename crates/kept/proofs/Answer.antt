@@ -1,14 +1,13 @@
 -- DEMAND 3: the theorem, for every number of rounds; and for the picture that the call leaves. Assumes nothing.
 use mathlib.Core.Path.{◌≡◌, refl, sym, ap, ◌∙◌, subst}
-use mathlib.Core.List.{List, []}
+use mathlib.Core.List.{List}
 use mathlib.Core.Logic.{⊎_elim}
 use Prim.Native.Nat.{ℕ, zero, suc, ◌+◌}
 use native.Mathlib.Nat.{add-zero, zero-add, suc-add, add-suc, le_refl}
 use lib.ListN.{length}
 use Rattle.words.specs.Lists.{upto, concat}
 use Rattle.words.proofs.Bools.{bool?}
-use Rattle.words.proofs.Lists.{same_eq}
-use Rattle.model.specs.Picture.{Picture, preds}
+use Rattle.model.specs.Picture.{Picture}
 use Rattle.model.specs.Refusal.{refusal}
 use Rattle.model.specs.Analyse.{Facts, facts}
 use Rattle.model.specs.Move.{Plan, order, apply}
@@ -70,7 +69,7 @@ module _ (P : Picture) (w64 w32 nf : ℕ) (accept : refusal P w64 w32 nf ≡ 0) 
       let s = standing P ok k in
       record {
         exactly_once = s.once;
-        along = λ clear. follows P (after P k).now (after P k).was ok s (demand (before P) (behind P (after P k).now (after P k).was) (s.sunk (same_eq (preds P 0) [] clear)) (own_places P ok));
+        along = follows P (after P k).now (after P k).was ok s (demand (before P) (behind P (after P k).now (after P k).was) s.sunk (own_places P ok));
       }
 
 -- for every accepted picture, every number of rounds up to those that the call says, and every walk

@@ -6,10 +6,10 @@ use Prim.Native.Nat.{ℕ}
 use lib.ListN.{length}
 use Rattle.words.specs.Lists.{In}
 use Rattle.words.proofs.Members.{in_split, one_in}
-use Rattle.model.specs.Picture.{Picture, goes, ending, end_succs, succs, preds}
+use Rattle.model.specs.Picture.{Picture, goes, ending, end_succs, succs, preds, callers}
 use Rattle.model.specs.Analyse.{Facts}
 use Rattle.model.specs.Move.{Plan}
-use Rattle.laws.proofs.Blocks.{is_pred}
+use Rattle.laws.proofs.Blocks.{is_pred, sole_caller}
 use Rattle.laws.proofs.Chains.{Links, last_of_chain, links_apart, ends_succs}
 use Rattle.laws.proofs.Moving.{Moving, found, rest, into_out}
 use Rattle.walk.specs.Rules.{Sole, Linked, Chain, ChainSteps, last_block}
@@ -19,18 +19,17 @@ last_same b [] = refl
 last_same b (c ∷ cs) = last_same c cs
 
 module _ (P : Picture) where
-  sole : preds P 0 ≡ [] → (p c : ℕ) → length (preds P c) ≡ 1 → In c (succs P p) → Sole (succs P) p c
-  sole clear p c e i = record {
-    nonzero = λ z. subst (In p) clear (subst (λ y. In p (preds P y)) z (is_pred P p c i));
-    only = λ a j. one_in (preds P c) a p e (is_pred P a c j) (is_pred P p c i);
-  }
+  sole : (p c : ℕ) → length (callers P c) ≡ 1 → In c (succs P p) → Sole (succs P) p c
+  sole p c e i =
+      let s = sole_caller P p c i e in
+      record { nonzero = s.0; only = λ a j. one_in (preds P c) a p (ap length s.1) (is_pred P a c j) (is_pred P p c i) }
 
   goes_there : (b c : ℕ) → ending P b ≡ goes c → succs P b ≡ c ∷ []
   goes_there b c e = ap (end_succs P) e
 
-  linked : preds P 0 ≡ [] → (bs : List ℕ) (cur t : ℕ) (cs : List ℕ) → Links P bs cur cs → In t (succs P (last_of_chain cur cs)) → length (preds P t) ≡ 1 → Linked (succs P) cur (cs ++ t ∷ [])
-  linked n bs cur t [] l i e = (sole n cur t e i, tt)
-  linked n bs cur t (c ∷ cs) l i e = (sole n cur c l.1 (subst (In c) (sym (goes_there cur c l.0)) (inl refl)), linked n (bs ++ c ∷ []) c t cs l.3 i e)
+  linked : (bs : List ℕ) (cur t : ℕ) (cs : List ℕ) → Links P bs cur cs → In t (succs P (last_of_chain cur cs)) → length (callers P t) ≡ 1 → Linked (succs P) cur (cs ++ t ∷ [])
+  linked bs cur t [] l i e = (sole cur t e i, tt)
+  linked bs cur t (c ∷ cs) l i e = (sole cur c l.1 (subst (In c) (sym (goes_there cur c l.0)) (inl refl)), linked (bs ++ c ∷ []) c t cs l.3 i e)
 
   steps : (bs : List ℕ) (cur t : ℕ) (cs : List ℕ) → Links P bs cur cs → In t (succs P (last_of_chain cur cs)) → ChainSteps (succs P) t cur cs
   steps bs cur t [] l i = i
@@ -51,9 +50,9 @@ module _ (P : Picture) (G : Facts) (a : Plan) (mv : Moving P G a) where
       ⊎_elim (λ k. links_apart P (a.x ∷ []) a.x a.x (rest P G a mv) (found P G a mv).links (inl refl) k) (λ k. ⊎_elim (λ f. into_out P G a mv (inl (sym f))) (λ y. y) k)
       (in_split a.x (rest P G a mv) (a.into ∷ []) j)
 
-  pub is_chain : preds P 0 ≡ [] → Chain (succs P) a.x a.into (rest P G a mv)
-  is_chain clear = record {
-    linked = linked P clear (a.x ∷ []) a.x a.into (rest P G a mv) (found P G a mv).links into_next (ap length mv.choice.sole);
+  pub is_chain : Chain (succs P) a.x a.into (rest P G a mv)
+  is_chain = record {
+    linked = linked P (a.x ∷ []) a.x a.into (rest P G a mv) (found P G a mv).links into_next (ap length mv.choice.sole);
     steps = steps P (a.x ∷ []) a.x a.into (rest P G a mv) (found P G a mv).links into_next;
     x_apart = x_out;
     t_apart = λ j. into_out P G a mv (inr j);

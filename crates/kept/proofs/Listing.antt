@@ -17,7 +17,7 @@ use Rattle.model.specs.Pass.{number, sink}
 use Rattle.model.specs.Build.{shows}
 use Rattle.model.specs.Marked.{konst, cmp, branch, output, ret, sunk, lent, nine, behind}
 use Rattle.kept.specs.Walk.{after, is_walk, Follows, Keeps}
-use Rattle.kept.specs.Shown.{listing, loop, twice, cramped, back, far, far_walk, loop_walk, runs_of, reads_well, follows}
+use Rattle.kept.specs.Shown.{listing, loop, twice, cramped, entered, aside, far, far_walk, loop_walk, runs_of, reads_well, follows}
 use Rattle.kept.specs.Wrong.{Move, moves}
 use Rattle.kept.proofs.Answer.{demand3}
 use Rattle.kept.proofs.Accord.{refuted}
@@ -32,7 +32,7 @@ pub listing_moved : (after listing 1).was ≡ 0 ∷ 9 ∷ 1 ∷ 2 ∷ 3 ∷ 4 �
 listing_moved = refl
 
 pub twice_kept : (w : List ℕ) → T (is_walk twice w) → Follows twice (after twice 2).now (after twice 2).was w
-twice_kept = (demand3 twice 1000 9000 records 2 refl (omega arith)).along tt
+twice_kept = (demand3 twice 1000 9000 records 2 refl (omega arith)).along
 
 -- at each stop between rounds
 pub twice_at : (k : ℕ) → k ≤ 2 → Keeps twice (after twice k).now (after twice k).was
@@ -40,10 +40,17 @@ twice_at k h = demand3 twice 1000 9000 records k refl h
 
 -- of nine blocks, on a walk of eight places; and on one of nine places through a loop
 pub far_kept : Follows far (after far 1).now (after far 1).was far_walk
-far_kept = (demand3 far 1000 9000 records 1 refl (omega arith)).along tt far_walk tt
+far_kept = (demand3 far 1000 9000 records 1 refl (omega arith)).along far_walk tt
 
 pub loop_kept : Follows loop (after loop 1).now (after loop 1).was loop_walk
-loop_kept = (demand3 loop 1000 9000 records 1 refl (omega arith)).along tt loop_walk tt
+loop_kept = (demand3 loop 1000 9000 records 1 refl (omega arith)).along loop_walk tt
+
+-- where a block leads to block 0: on a walk that comes back to it, and on one that only begins in it
+pub entered_kept : Keeps entered (after entered 1).now (after entered 1).was
+entered_kept = demand3 entered 1000 9000 records 1 refl (omega arith)
+
+pub aside_kept : Follows aside (after aside 1).now (after aside 1).was (0 ∷ [])
+aside_kept = (demand3 aside 1000 9000 records 1 refl (omega arith)).along (0 ∷ []) tt
 
 -- where the call ends Short
 pub cramped_kept : Keeps cramped (after cramped 1).now (after cramped 1).was
@@ -84,7 +91,3 @@ pub moves_refused : (m : Move) → In m moves → Follows m.before m.then m.plac
 moves_refused m i =
     refuted m.before m.then m.places m.walk
     (T_false (follows m.before m.then m.places m.walk) (all_in (λ m. not (follows m.before m.then m.places m.walk)) m moves tt i))
-
--- without the premise on block 0 the claim is false
-pub premise_needed : Follows back (after back 1).now (after back 1).was (0 ∷ []) → ⊥
-premise_needed = refuted back (after back 1).now (after back 1).was (0 ∷ []) refl

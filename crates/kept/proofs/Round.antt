@@ -10,7 +10,7 @@ use lib.ListN.{get_or, length, take, length-map}
 use lib.Seq.{length-take-le}
 use Rattle.words.specs.Lists.{range, member, lookup, In}
 use Rattle.words.proofs.Lists.{get_or-made, get_d_map, get_or-range, length_range}
-use Rattle.model.specs.Picture.{Picture, inst, starts, size, places, code, preds, end_succs, writes}
+use Rattle.model.specs.Picture.{Picture, inst, starts, size, places, code, end_succs, writes}
 use Rattle.model.specs.Picture as Pic
 use Rattle.model.specs.Live.{live_in, live_out, written}
 use Rattle.model.specs.Analyse.{Facts, Fact, analyse}
@@ -192,8 +192,8 @@ module _ (was : ℕ → Spot) (P : Picture) (G : Facts) (a : Plan) (mv : Moving 
       ∙ ap (end_succs P) (mover_stops (inst P.recs (starts P x + p)) (member_may P G a mv p k))
 
   -- A ROUND OF THE PASS IS A ROUND OF THE WALK
-  pub full_round : preds P 0 ≡ [] → FullRound P.regs PW PN
-  full_round clear = record {
+  pub full_round : FullRound P.regs PW PN
+  full_round = record {
     is_round = record {
       x = x;
       t = t;
@@ -203,7 +203,7 @@ module _ (was : ℕ → Spot) (P : Picture) (G : Facts) (a : Plan) (mv : Moving 
       new_reg = fr;
       below = below was P mv.ok;
       solves = subst (λ (z : ℕ → List ℕ). LiveSolution P.regs z PW (live_in P)) (sym (succs_are was P)) live;
-      is_chain = subst (λ (z : ℕ → List ℕ). Chain z x t cs) (sym (succs_are was P)) (is_chain P G a mv clear);
+      is_chain = subst (λ (z : ℕ → List ℕ). Chain z x t cs) (sym (succs_are was P)) (is_chain P G a mv);
       quiet = quiet_from [] x cs refl;
       legal = rules;
       fresh = new_ones;

@@ -7,10 +7,10 @@ use Prim.Native.Nat.{ℕ, zero, suc, ◌<◌}
 use native.Mathlib.Nat.{zero-add}
 use lib.Dec.{eqb, ltb}
 use lib.ListN.{get_or, length, length-map}
-use Rattle.words.specs.Lists.{upto, filter, mem, concat}
+use Rattle.words.specs.Lists.{upto, mem, concat}
 use Rattle.words.proofs.Lists.{get_or-range, length_range}
 use Rattle.words.proofs.Members.{map_on, in_index}
-use Rattle.model.specs.Picture.{Picture, inst, nblocks, places, succs, preds}
+use Rattle.model.specs.Picture.{Picture, inst, nblocks, places, succs}
 use Rattle.model.specs.Analyse.{Facts, facts}
 use Rattle.model.specs.Move.{Plan, order, apply}
 use Rattle.laws.proofs.Accepted.{Accepted}
@@ -59,12 +59,9 @@ pub record Standing (L Q : Picture) (was : List ℕ) : Type 0 where
   pub fine : Accepted Q
   pub once : Once L Q was
   pub same_count : nblocks Q ≡ nblocks L
-  pub sunk : preds L 0 ≡ [] → Sunk (before L) (behind L Q was)
+  pub sunk : Sunk (before L) (behind L Q was)
 
 module _ (L : Picture) (G : Facts) where
-  still_clear : (Q : Picture) (was : List ℕ) → Standing L Q was → preds L 0 ≡ [] → preds Q 0 ≡ []
-  still_clear Q was s n = ap₂ (λ (f : ℕ → List ℕ) (n : ℕ). filter (λ c. mem 0 (f c)) (upto n)) (fun_ext s.once.same_succs) s.same_count ∙ n
-
   -- one round more
   next : (P : Picture) (was : List ℕ) → Standing L P was → (a : Plan) → Moving P G a → Standing L (apply P a) (carried was (concat (order P a)))
   next P was s a mv = record {
@@ -89,11 +86,10 @@ module _ (L : Picture) (G : Facts) where
       same_walks = walks_same L (apply P a) (same_blocks P G a mv ∙ s.same_count) (λ b. succs_kept P G a mv b ∙ o.same_succs b);
     };
     same_count = same_blocks P G a mv ∙ s.same_count;
-    sunk = λ n.
-        subst (Sunk (before L))
+    sunk = subst (Sunk (before L))
         (prog_same (apply P a) ok (Round.was_now u P G a mv) (λ p. spot L (get_or (carried was ps) p 0))
         (λ p h. ap (spot L) (sym (old p (subst (λ (m : ℕ). p < m) (same_locs P G a mv ∙ sym (order_length P G a mv)) h)))))
-        (again P.regs (s.sunk n) (Round.full_round u P G a mv (still_clear P was s n)));
+        (again P.regs s.sunk (Round.full_round u P G a mv));
   }
     where
       ok : Accepted (apply P a)
@@ -161,7 +157,7 @@ module _ (P : Picture) (ok : Accepted P) where
       same_walks = λ w. refl;
     };
     same_count = refl;
-    sunk = λ n. subst (Sunk (before P)) (prog_same P ok (spot P) (λ p. spot P (get_or own p 0)) (λ p h. ap (spot P) (sym (own_is p h)))) none_yet;
+    sunk = subst (Sunk (before P)) (prog_same P ok (spot P) (λ p. spot P (get_or own p 0)) (λ p h. ap (spot P) (sym (own_is p h)))) none_yet;
   }
 
   pub standing : (k : ℕ) → Standing P (after P k).now (after P k).was

@@ -8,7 +8,7 @@ use Rattle.model.specs.Refusal.{records, refusal}
 use Rattle.model.specs.Pass.{rounds, sink}
 use Rattle.model.specs.Build.{Room}
 use Rattle.model.specs.Marked.{konst, cmp, cat, branch, jump, output, ret, first, ends, lent, nine}
-use Rattle.kept.specs.Walk.{after, clear_entry, is_walk, Run, Write, takes, is_run, match}
+use Rattle.kept.specs.Walk.{after, is_walk, Run, Write, takes, is_run, match}
 
 -- ---- the test
 
@@ -60,11 +60,11 @@ pub record Row : Type 0 where
 abbrev pub row : Picture → ℕ → List ℕ → Row
 row P k w = record { what = P; rounds_done = k; walk = w }
 
--- demand 3's premises on it: accepted, k at most what the call says, block 0 without predecessor, a walk
+-- demand 3's premises on it: accepted, k at most what the call says, a walk
 abbrev pub premises : Row → Bool
 premises r =
     let P = r.what in
-    eqb (refusal P 1000 9000 records) 0 && leb r.rounds_done (rounds (sink P 1000 9000 records).answer) && clear_entry P && is_walk P r.walk
+    eqb (refusal P 1000 9000 records) 0 && leb r.rounds_done (rounds (sink P 1000 9000 records).answer) && is_walk P r.walk
 
 abbrev pub claim : Row → Bool
 claim r =
@@ -98,9 +98,13 @@ twice = two_rounds (nine [])
 abbrev pub cramped : Picture
 cramped = two_rounds (record { types = 0 ∷ 0 ∷ 1 ∷ replicate 6 0; registers = 12; ops = []; operands = 1 })
 
--- block 0 is x's target: a walk's first place runs what came from a block that it has not visited
-abbrev pub back : Picture
-back = lent ((output 4 ∷ jump 1 ∷ []) ∷ (cmp 3 1 ∷ cmp 4 3 ∷ cmp 5 4 ∷ branch 0 2 ∷ []) ∷ gate ∷ []) (nine []) (0 ∷ [])
+-- request 2026-02, block 0 as the head of a loop: it is x, and its target leads to it
+abbrev pub entered : Picture
+entered = lent ((konst 8 ∷ cmp 3 1 ∷ cmp 4 3 ∷ cmp 5 4 ∷ branch 1 2 ∷ []) ∷ (output 5 ∷ jump 0 ∷ []) ∷ gate ∷ []) (nine []) (1 ∷ [])
+
+-- block 0 as x's branch t, which is no target; f is
+abbrev pub aside : Picture
+aside = lent ((konst 8 ∷ jump 1 ∷ []) ∷ (cmp 3 1 ∷ cmp 4 3 ∷ cmp 5 4 ∷ branch 0 2 ∷ []) ∷ gate ∷ []) (nine []) (0 ∷ [])
 
 -- nine blocks; what goes to block 1 is read there, and the walk goes on
 abbrev pub far : Picture
@@ -127,20 +131,24 @@ rows =
     ∷ row cramped 1 (0 ∷ 1 ∷ 2 ∷ 4 ∷ [])
     ∷ row far 1 far_walk
     ∷ row loop 1 loop_walk
-    -- block 0 has a predecessor; no walks: a step to a block that is no successor, and one that starts elsewhere
-    ∷ row back 1 (0 ∷ [])
+    -- block 0 has a predecessor
+    ∷ row entered 1 (0 ∷ 1 ∷ 0 ∷ 1 ∷ 0 ∷ 2 ∷ [])
+    ∷ row entered 1 (0 ∷ [])
+    ∷ row aside 1 (0 ∷ 1 ∷ 0 ∷ 1 ∷ 2 ∷ [])
+    ∷ row aside 1 (0 ∷ [])
+    -- no walks: a step to a block that is no successor, and one that starts elsewhere
     ∷ row loop 1 (0 ∷ 2 ∷ [])
     ∷ row listing 1 (1 ∷ [])
     ∷ []
 
-pub shown : map claim rows ≡ replicate 13 true
+pub shown : map claim rows ≡ replicate 16 true
 shown = refl
 
--- the premises of the last three do not hold, and there the claim would be false
-pub met : map premises rows ≡ replicate 10 true ++ replicate 3 false
+-- the premises of the last two do not hold, and there the claim would be false
+pub met : map premises rows ≡ replicate 14 true ++ replicate 2 false
 met = refl
 
-pub needed : map (λ r. let s = after r.what r.rounds_done in follows r.what s.now s.was r.walk) rows ≡ replicate 10 true ++ replicate 3 false
+pub needed : map (λ r. let s = after r.what r.rounds_done in follows r.what s.now s.was r.walk) rows ≡ replicate 14 true ++ replicate 2 false
 needed = refl
 
 -- ---- the instructions that move

@@ -1,9 +1,10 @@
--- 01, "The walk": demand 3 as a statement. This page is read beside that section, sentence by sentence; the theorem is
--- `demand3 : Demand3` (proofs/Answer), and specs/Shown computes the same claim on small pictures. Assumes nothing.
+-- 01, "The walk": demand 3 as a statement. This page is read beside that section, sentence by sentence, but for its premise on block 0,
+-- which request 2026-02 takes away; the theorem is `demand3 : Demand3` (proofs/Answer), and specs/Shown computes the same claim on small
+-- pictures. Assumes nothing.
 use Rattle.std.specs.Prelude.{◌≡◌, Bool, true, false, not, ◌&&◌, cond, List, [], ◌∷◌, ◌++◌, map, ℕ, zero, suc, ◌-◌, ◌≤◌, ◌<◌, T, eqb, ltb, leb, get_or, length, take, drop, Option, None, Some}
-use Rattle.words.specs.Lists.{range, upto, mem, concat, same}
+use Rattle.words.specs.Lists.{range, upto, mem, concat}
 use Rattle.model.specs.Kinds.{Role, writing}
-use Rattle.model.specs.Picture.{Picture, Inst, inst, absent, slots, roles, reads, nblocks, starts, ends, places, succs, preds}
+use Rattle.model.specs.Picture.{Picture, Inst, inst, absent, slots, roles, reads, nblocks, starts, ends, places, succs}
 use Rattle.model.specs.Analyse.{Facts, facts}
 use Rattle.model.specs.Move.{order, apply}
 use Rattle.model.specs.Refusal.{refusal}
@@ -45,10 +46,7 @@ module _ (P : Picture) where
 
 -- ---- successors and walks
 
--- A block's successors are `succs` of model's Picture. Block 0 has no predecessor if it is a successor of no block: demand 3's
--- premise on walks.
-abbrev pub clear_entry : Picture → Bool
-clear_entry P = same (preds P 0) []
+-- A block's successors are `succs` of model's Picture.
 
 -- from b on, each time to a successor
 abbrev pub steps : Picture → ℕ → List ℕ → Bool
@@ -175,8 +173,8 @@ pub record Follows (L Q : Picture) (was w : List ℕ) : Type 0 where
 -- of two pictures
 pub record Keeps (L Q : Picture) (was : List ℕ) : Type 0 where
   pub exactly_once : Once L Q was
-  -- if block 0 has no predecessor, for every walk, of whatever length
-  pub along : T (clear_entry L) → (w : List ℕ) → T (is_walk L w) → Follows L Q was w
+  -- for every walk, of whatever length; also where block 0 has predecessors (request 2026-02)
+  pub along : (w : List ℕ) → T (is_walk L w) → Follows L Q was w
 
 -- For every accepted picture, and at whatever point between rounds the work stops: k from 0 to the number that Done or Short gives.
 abbrev pub Demand3 : Type 0

@@ -1,4 +1,4 @@
--- The chain that the search finds from a block: its blocks, each the sole successor of the one before and with one predecessor, none
+-- The chain that the search finds from a block: its blocks, each the sole successor of the one before and with one caller, none
 -- twice, and its end in a CondBr; and its places. Assumes nothing.
 use Rattle.std.proofs.lemmas.Option.{none-some, same_Some}
 use Rattle.std.specs.Prelude.{Option, None, Some}
@@ -15,7 +15,7 @@ use Rattle.words.specs.Lists.{In, mem}
 use Rattle.words.proofs.Bools.{left, right, true_T, T_false}
 use Rattle.words.proofs.Members.{in_left, mem-not_in}
 use Rattle.words.proofs.Lists.{length_range, get_or-range, nil_snoc}
-use Rattle.model.specs.Picture.{Picture, starts, size, places, End, goes, parts, cases, stops, ending, end_succs, succs, preds}
+use Rattle.model.specs.Picture.{Picture, starts, size, places, End, goes, parts, cases, stops, ending, end_succs, succs, callers}
 use Rattle.model.specs.Move.{Chain, chain, chain_from, chain_places}
 
 -- the last of a block and those behind it
@@ -24,10 +24,10 @@ last_of_chain b [] = b
 last_of_chain b (c ∷ cs) = last_of_chain c cs
 
 module _ (P : Picture) where
-  -- each of cs, behind the blocks bs of which cur is the last: the Br before it goes there, it has one predecessor, and it is new
+  -- each of cs, behind the blocks bs of which cur is the last: the Br before it goes there, it has one caller, and it is new
   abbrev pub Links : List ℕ → ℕ → List ℕ → Type 0
   Links bs cur [] = Unit {0}
-  Links bs cur (c ∷ cs) = (ending P cur ≡ goes c) × (length (preds P c) ≡ 1) × (In c bs → ⊥) × Links (bs ++ c ∷ []) c cs
+  Links bs cur (c ∷ cs) = (ending P cur ≡ goes c) × (length (callers P c) ≡ 1) × (In c bs → ⊥) × Links (bs ++ c ∷ []) c cs
 
   -- what the search from cur, behind bs, has found
   pub record Found (bs : List ℕ) (cur : ℕ) (c : Chain) : Type 0 where
@@ -58,11 +58,11 @@ module _ (P : Picture) where
       go stops e q = absurd (none-some c q)
   found (suc k) bs cur c q = go (λ to. found k (bs ++ to ∷ []) to c) (ending P cur) refl q
     where
-      on : (to : ℕ) → (chain_from P k (bs ++ to ∷ []) to ≡ Some c → Found (bs ++ to ∷ []) to c) → ending P cur ≡ goes to → (b : Bool) → (eqb (length (preds P to)) 1 && not (mem to bs)) ≡ b
+      on : (to : ℕ) → (chain_from P k (bs ++ to ∷ []) to ≡ Some c → Found (bs ++ to ∷ []) to c) → ending P cur ≡ goes to → (b : Bool) → (eqb (length (callers P to)) 1 && not (mem to bs)) ≡ b
           → ◌≡◌ {A = Option Chain} (elim b as (λ z. Option Chain) [ true ↦ chain_from P k (bs ++ to ∷ []) to | false ↦ None ]) (Some c) → Found bs cur c
       on to rec e true t q =
           let r = rec q in
-          let u = true_T (eqb (length (preds P to)) 1 && not (mem to bs)) t in
+          let u = true_T (eqb (length (callers P to)) 1 && not (mem to bs)) t in
           record {
             rest = to ∷ r.rest;
             blocks_are = r.blocks_are ∙ append_assoc bs (to ∷ []) r.rest;
@@ -70,8 +70,8 @@ module _ (P : Picture) where
             ends_in = r.ends_in;
             links = (
               e,
-              eqb→eq (length (preds P to)) 1 (left (eqb (length (preds P to)) 1) (not (mem to bs)) u),
-              mem-not_in to bs (T_false (mem to bs) (right (eqb (length (preds P to)) 1) (not (mem to bs)) u)),
+              eqb→eq (length (callers P to)) 1 (left (eqb (length (callers P to)) 1) (not (mem to bs)) u),
+              mem-not_in to bs (T_false (mem to bs) (right (eqb (length (callers P to)) 1) (not (mem to bs)) u)),
               r.links,
             );
           }
@@ -79,12 +79,12 @@ module _ (P : Picture) where
 
       go : ((to : ℕ) → chain_from P k (bs ++ to ∷ []) to ≡ Some c → Found (bs ++ to ∷ []) to c) → (e : End) → ending P cur ≡ e
           → ◌≡◌ {A = Option Chain} (elim e as (λ z. Option Chain) [
-            | goes to ↦ elim (eqb (length (preds P to)) 1 && not (mem to bs)) as (λ z. Option Chain) [ true ↦ chain_from P k (bs ++ to ∷ []) to | false ↦ None ]
+            | goes to ↦ elim (eqb (length (callers P to)) 1 && not (mem to bs)) as (λ z. Option Chain) [ true ↦ chain_from P k (bs ++ to ∷ []) to | false ↦ None ]
             | parts t f ↦ Some (record { blocks = bs; last = cur; t = t; f = f })
             | cases c ↦ None
             | stops ↦ None
           ]) (Some c) → Found bs cur c
-      go rec (goes to) e q = on to (rec to) e (eqb (length (preds P to)) 1 && not (mem to bs)) refl q
+      go rec (goes to) e q = on to (rec to) e (eqb (length (callers P to)) 1 && not (mem to bs)) refl q
       go rec (parts t f) e q = stop bs cur t f c e q
       go rec (cases n) e q = absurd (none-some c q)
       go rec stops e q = absurd (none-some c q)

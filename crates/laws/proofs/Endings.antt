@@ -12,7 +12,7 @@ use Rattle.words.proofs.Bools.{not_true_is_false, eq?, lt?}
 use Rattle.words.proofs.Lists.{map_append, map_map, range_snoc, filter_yes}
 use Rattle.words.proofs.Members.{in_map, filter_in}
 use Rattle.words.proofs.Each.{Each, each_of}
-use Rattle.model.specs.Picture.{Picture, Inst, inst, writes, nblocks, starts, ends, size, places, code, End, goes, parts, cases, stops, end_of, ending, end_succs, succs, preds}
+use Rattle.model.specs.Picture.{Picture, Inst, inst, writes, nblocks, starts, ends, size, places, code, End, goes, parts, cases, stops, end_of, ending, end_succs, succs, from_start, callers}
 use Rattle.model.specs.Analyse.{Facts}
 use Rattle.model.specs.Move.{Plan, Job, members, member_job, own_jobs, made_all, new_code, apply}
 use Rattle.laws.proofs.Admitted.{mover_stops}
@@ -150,5 +150,5 @@ module _ (P : Picture) (G : Facts) (a : Plan) (mv : Moving P G a) where
   pub succs_kept : (b : ℕ) → succs Q b ≡ succs P b
   succs_kept b = same_ends (ending Q b) ∙ ap (end_succs P) (ending_kept b)
 
-  pub preds_kept : (b : ℕ) → preds Q b ≡ preds P b
-  preds_kept b = ap₂ (λ (f : ℕ → List ℕ) (n : ℕ). filter (λ c. mem b (f c)) (upto n)) (fun_ext succs_kept) (Applied.same_blocks P G a mv)
+  pub callers_kept : (b : ℕ) → callers Q b ≡ callers P b
+  callers_kept b = ap₂ (λ (f : ℕ → List ℕ) (n : ℕ). from_start n b ++ filter (λ c. mem b (f c)) (upto n)) (fun_ext succs_kept) (Applied.same_blocks P G a mv)

@@ -13,7 +13,7 @@ use Rattle.words.proofs.Bools.{left, right, true_T, T_false}
 use Rattle.words.proofs.Lists.{same_eq}
 use Rattle.words.proofs.Members.{range_in}
 use Rattle.words.proofs.Sets.{◌⊑◌}
-use Rattle.model.specs.Picture.{Picture, nblocks, size, preds}
+use Rattle.model.specs.Picture.{Picture, nblocks, size, callers}
 use Rattle.model.specs.Analyse.{Facts, Fact}
 use Rattle.model.specs.Legal.{LegalSet, greatest}
 use Rattle.model.specs.Move.{Chain, chain, minimum, Plan, needed_of, set_for, is_target, plan, replays, run_of, worth_a_look, plan_chain, try_block}
@@ -33,7 +33,7 @@ pub record Planned (P : Picture) (run : List Fact) (x : ℕ) (c : Chain) (least 
   pub set_is : a.set ≡ set_for P run x into other
   pub enough : least ≤ count a.set
   pub apart : mem into c.blocks ≡ false
-  pub sole : preds P into ≡ c.last ∷ []
+  pub sole : callers P into ≡ c.last ∷ []
 
 pub planned : (P : Picture) (run : List Fact) (x : ℕ) (c : Chain) (least into other : ℕ) (a : Plan) → plan P run x c least into other ≡ Some a → Planned P run x c least into other a
 planned P run x c least into other a e = go (is_target P c into && leb least (count S)) refl e
@@ -54,8 +54,8 @@ planned P run x c least into other a e = go (is_target P c into && leb least (co
           run_is = ap (λ (z : Plan). z.run) (sym f);
           set_is = ap (λ (z : Plan). z.set) (sym f);
           enough = subst (λ (z : Plan). least ≤ count z.set) f (leb→le least (count S) (right (is_target P c into) (leb least (count S)) u));
-          apart = T_false (mem into c.blocks) (left (not (mem into c.blocks)) (same (preds P into) (c.last ∷ [])) v);
-          sole = same_eq (preds P into) (c.last ∷ []) (right (not (mem into c.blocks)) (same (preds P into) (c.last ∷ [])) v);
+          apart = T_false (mem into c.blocks) (left (not (mem into c.blocks)) (same (callers P into) (c.last ∷ [])) v);
+          sole = same_eq (callers P into) (c.last ∷ []) (right (not (mem into c.blocks)) (same (callers P into) (c.last ∷ [])) v);
         }
 
 -- ---- demand 2: a round moves the greatest legal set, and none if every legal set has fewer members than the minimum
@@ -102,7 +102,7 @@ pub record Chosen (P : Picture) (G : Facts) (a : Plan) : Type 0 where
   pub run_is : a.run ≡ run_of P G c
   pub set_is : a.set ≡ greatest a.run (member (needed_of P a.into other)) (size P a.x - 1)
   pub apart : mem a.into c.blocks ≡ false
-  pub sole : preds P a.into ≡ c.last ∷ []
+  pub sole : callers P a.into ≡ c.last ∷ []
 
 module _ (P : Picture) (G : Facts) where
   from_side : (x : ℕ) (c : Chain) (a : Plan) (least into other : ℕ) → x < nblocks P → chain P x ≡ Some c
@@ -117,7 +117,7 @@ module _ (P : Picture) (G : Facts) where
     set_is = d.set_is ∙ ap₂ (λ (r : List Fact) (y : ℕ). greatest r (member (needed_of P into other)) (size P y - 1)) (sym d.run_is) (sym d.x_is)
         ∙ ap (λ (y : ℕ). greatest a.run (member (needed_of P y other)) (size P a.x - 1)) (sym d.into_is);
     apart = ap (λ (y : ℕ). mem y c.blocks) d.into_is ∙ d.apart;
-    sole = ap (preds P) d.into_is ∙ d.sole;
+    sole = ap (callers P) d.into_is ∙ d.sole;
   }
 
   from_chain : (x : ℕ) (c : Chain) (a : Plan) → x < nblocks P → chain P x ≡ Some c → plan_chain P G x c ≡ Some a → Chosen P G a

@@ -16,3 +16,4 @@ pub mod Memory
 pub mod Paths
 pub mod Refused
 pub mod Moved
+pub mod Entry

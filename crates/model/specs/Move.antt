@@ -2,7 +2,7 @@
 use Rattle.std.specs.Prelude.{Bool, true, false, not, ◌&&◌, ◌||◌, cond, List, [], ◌∷◌, ◌++◌, map, ℕ, zero, suc, ◌+◌, ◌-◌, max, eqb, ltb, leb, get_or, length, take, drop, Option, None, Some}
 use Rattle.words.specs.Lists.{upto, any, mem, filter, concat, same, lookup, spans, member, count}
 use Rattle.model.specs.Kinds.{Role, reading, writing, Cat}
-use Rattle.model.specs.Picture.{Picture, Inst, inst, absent, form, slots, roles, is_kind, list_of, writes, nblocks, starts, places, code, size, goes, parts, cases, stops, ending, preds}
+use Rattle.model.specs.Picture.{Picture, Inst, inst, absent, form, slots, roles, is_kind, list_of, writes, nblocks, starts, places, code, size, goes, parts, cases, stops, ending, callers}
 use Rattle.model.specs.Live.{live_in, live_out, written}
 use Rattle.model.specs.Analyse.{Facts, Fact, analyse, last_writer}
 use Rattle.model.specs.Legal.{fact_at, reads_from, writes_last, greatest}
@@ -31,13 +31,14 @@ pub record Chain : Type 0 where
   pub t : ℕ
   pub f : ℕ
 
--- the chain that goes on from cur, behind the blocks gathered, if k more may be gathered: follow Br until CondBr
+-- the chain that goes on from cur, behind the blocks gathered, if k more may be gathered: follow Br until CondBr. Block 0 begins a
+-- chain, and is no later part of one (request 2026-02).
 abbrev pub chain_from : Picture → ℕ → List ℕ → ℕ → Option Chain
 chain_from P zero bs cur =
     elim (ending P cur) [ goes to ↦ None | parts t f ↦ Some (record { blocks = bs; last = cur; t = t; f = f }) | cases c ↦ None | stops ↦ None ]
 chain_from P (suc k) bs cur =
     elim (ending P cur) [
-      | goes to ↦ elim (eqb (length (preds P to)) 1 && not (mem to bs)) [ true ↦ chain_from P k (bs ++ to ∷ []) to | false ↦ None ]
+      | goes to ↦ elim (eqb (length (callers P to)) 1 && not (mem to bs)) [ true ↦ chain_from P k (bs ++ to ∷ []) to | false ↦ None ]
       | parts t f ↦ Some (record { blocks = bs; last = cur; t = t; f = f })
       | cases c ↦ None
       | stops ↦ None
@@ -66,9 +67,9 @@ pub record Plan : Type 0 where
 abbrev pub needed : Picture → ℕ → ℕ → ℕ → Bool
 needed P into other r = live_in P other r || (live_out P into r && not (written r (code P into)))
 
--- a target is not in the chain, and its sole predecessor is the chain's end
+-- a target is not in the chain, and its sole predecessor is the chain's end; so it is not block 0 (request 2026-02)
 abbrev pub is_target : Picture → Chain → ℕ → Bool
-is_target P c into = not (mem into c.blocks) && same (preds P into) (c.last ∷ [])
+is_target P c into = not (mem into c.blocks) && same (callers P into) (c.last ∷ [])
 
 -- the same for each register in use
 abbrev pub needed_of : Picture → ℕ → ℕ → List Bool

@@ -8,14 +8,7 @@ use Rattle.model.specs.Pass.{ends_in, used}
 use Rattle.model.specs.Build.{op, Room, shows}
 use Rattle.model.specs.Move.{chain_places}
 use Rattle.model.specs.Marked.{Row, konst, alloc, cmp, cmps, sunk_cmps, cat, branch, jump, output, ret, lent, moves}
-use Rattle.model.specs.Small.{in1, in2, in3, in4, value, load, nat, Step, keep, send, wide, held, still, once, shown, other, around, whole, steps, rests, cmp_to, two, two_to, answered, given}
-
--- three Cmps into r3
-abbrev three : List Inst
-three = cmp 3 1 ∷ two
-
-abbrev three_to : ℕ → List Step
-three_to d = cmp_to d ∷ two_to d
+use Rattle.model.specs.Small.{in1, in2, in3, in4, value, load, nat, Step, keep, send, held, still, once, shown, other, around, whole, steps, rests, three, three_to, two, two_to, ending, apart, replayed, answered, given}
 
 -- x goes on to block 3
 abbrev onward : List Inst → List Inst
@@ -23,10 +16,6 @@ onward is = konst 8 ∷ is ++ jump 3 ∷ []
 
 abbrev onward_steps : List Step → List Step
 onward_steps ss = keep (konst 8) ∷ ss ++ keep (jump 3) ∷ []
-
--- nothing moves, with these blocks in replay
-abbrev replayed : List ℕ → List (List Inst) → Row
-replayed rs bs = let P = lent bs (wide 0) rs in record { what = P; gives = ends_in (Done (used 0 P)) P }
 
 -- ---- facts on registers, by what block 2 writes
 
@@ -93,13 +82,6 @@ listings_cases = refl
 abbrev links : List (List Inst)
 links = (jump 4 ∷ []) ∷ (jump 5 ∷ []) ∷ (jump 6 ∷ []) ∷ []
 
--- a block that reads nothing, and one with a Cat that nothing leads to
-abbrev ending : List Inst
-ending = ret [] ∷ []
-
-abbrev apart : List Inst
-apart = cat 0 0 0 ∷ jump 3 ∷ []
-
 abbrev pub chains : List Row
 chains =
     -- x and a second block; that one has a second predecessor
@@ -108,10 +90,10 @@ chains =
     -- six blocks, and seven
     ∷ once 1 (onward_steps (three_to 9)) (around ++ links ++ (jump 7 ∷ []) ∷ (branch 1 2 ∷ []) ∷ []) (shown 9) (other ∷ links ++ (jump 7 ∷ []) ∷ (branch 1 2 ∷ []) ∷ [])
     ∷ still (onward three ∷ around ++ links ++ (jump 7 ∷ []) ∷ (jump 8 ∷ []) ∷ (branch 1 2 ∷ []) ∷ [])
-    -- a block that ends otherwise: in Ret, or empty; a chain that comes back
+    -- a block that ends otherwise: in Ret, or empty; a chain that comes back, from block 1
     ∷ still (onward three ∷ around ++ (ret [] ∷ []) ∷ [])
     ∷ still (onward three ∷ around ++ [] ∷ [])
-    ∷ still (onward three ∷ around ++ (jump 0 ∷ []) ∷ [])
+    ∷ still (ending ∷ onward three ∷ other ∷ (jump 1 ∷ []) ∷ [])
     -- without replay: eight Cmps in x, and a Cat of form 0 in the chain but not in x
     ∷ replayed [] (onward (three ++ three ++ two) ∷ around ++ (cat 0 0 0 ∷ branch 1 2 ∷ []) ∷ [])
     -- x in replay does not count, nor does a block behind the target
@@ -123,8 +105,8 @@ chains =
     -- f is the target, and alone in replay; where both are targets, t is tried first
     ∷ once 1 (keep (konst 8) ∷ three_to 9 ++ keep (branch 2 1) ∷ []) around (shown 9) (other ∷ [])
     ∷ once 1 (steps (three_to 9)) (ending ∷ ending ∷ apart ∷ []) ending (ending ∷ apart ∷ [])
-    -- a target is not in the chain: t is x itself
-    ∷ replayed (0 ∷ []) ((konst 8 ∷ three ++ branch 0 2 ∷ []) ∷ around)
+    -- a target is not in the chain: t is x itself, which is block 1
+    ∷ still (ending ∷ whole three ∷ other ∷ [])
     -- the target has a second predecessor, which is itself: it reads r3, writes it, and goes to itself
     ∷ still (whole three ∷ (output 3 ∷ cmp 3 1 ∷ branch 1 3 ∷ []) ∷ other ∷ (ret [] ∷ []) ∷ [])
     -- rule 1: a value that a kept position reads, in x and further on in the chain; six drop out one after another

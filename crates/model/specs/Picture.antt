@@ -1,6 +1,6 @@
 -- 01, "The call": the picture that the caller lends, its records, and what the roles say of one; a block's successors and
 -- predecessors. Assumes nothing.
-use Rattle.std.specs.Prelude.{Bool, true, false, not, ◌&&◌, cond, List, [], ◌∷◌, ◌++◌, map, ℕ, ◌+◌, ◌-◌, ◌*◌, ◌/◌, eqb, get_or, length, take, drop}
+use Rattle.std.specs.Prelude.{Bool, true, false, not, ◌&&◌, cond, List, [], ◌∷◌, ◌++◌, map, ℕ, zero, suc, ◌+◌, ◌-◌, ◌*◌, ◌/◌, eqb, get_or, length, take, drop}
 use Rattle.words.specs.Lists.{range, upto, mem, filter}
 use Rattle.model.specs.Kinds.{Kind, Role, row, kind_of, at_form, reading, writing, place, Br, CondBr, Case}
 
@@ -127,3 +127,12 @@ succs P b = end_succs P (ending P b)
 -- its predecessors are the blocks that it is a successor of, each once
 abbrev pub preds : Picture → ℕ → List ℕ
 preds P b = filter (λ c. mem b (succs P c)) (upto (nblocks P))
+
+-- Request 2026-02: the start of the function, as one more predecessor of block 0. It is no block: of n blocks it has the number n.
+abbrev pub from_start : ℕ → ℕ → List ℕ
+from_start n zero = n ∷ []
+from_start n (suc b) = []
+
+-- all that lead to a block, the start of the function among them: a chain goes on to a block, and a block is a target, by these
+abbrev pub callers : Picture → ℕ → List ℕ
+callers P b = from_start (nblocks P) b ++ preds P b

@@ -86,9 +86,12 @@ wide n = record { types = replicate 9 0 ++ replicate n 0; registers = 12; ops = 
 abbrev pub held : List (List Inst) → Picture
 held bs = lent bs (wide 0) (1 ∷ [])
 
--- these blocks stay as they are
+-- these blocks stay as they are, with these in replay, or with block 1
+abbrev pub replayed : List ℕ → List (List Inst) → Row
+replayed rs bs = let P = lent bs (wide 0) rs in record { what = P; gives = ends_in (Done (used 0 P)) P }
+
 abbrev pub still : List (List Inst) → Row
-still bs = let P = held bs in record { what = P; gives = ends_in (Done (used 0 P)) P }
+still bs = replayed (1 ∷ []) bs
 
 -- one round from block 0, step by step, into block 1, with n new registers: the blocks from 1 on, before, and after but for what
 -- is sent
@@ -131,6 +134,19 @@ two = cmp 3 1 ∷ cmp 3 1 ∷ []
 
 abbrev pub two_to : ℕ → List Step
 two_to d = cmp_to d ∷ cmp_to d ∷ []
+
+abbrev pub three : List Inst
+three = cmp 3 1 ∷ two
+
+abbrev pub three_to : ℕ → List Step
+three_to d = cmp_to d ∷ two_to d
+
+-- a block that reads nothing, and one with a Cat, block 3, that nothing else leads to
+abbrev pub ending : List Inst
+ending = ret [] ∷ []
+
+abbrev pub apart : List Inst
+apart = cat 0 0 0 ∷ jump 3 ∷ []
 
 -- the call with work slices that are long enough, and records enough
 abbrev pub answered : Row → Outcome

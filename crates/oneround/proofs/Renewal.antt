@@ -10,14 +10,14 @@ use lib.Dec.{eqb}
 use lib.ListN.{get_or, length, take, drop}
 use Rattle.words.specs.Bits.{is_in}
 use Rattle.words.proofs.Bools.{eq?}
-use Rattle.model.specs.Picture.{Picture, nblocks, code, preds}
+use Rattle.model.specs.Picture.{Picture, nblocks, code, callers}
 use Rattle.model.specs.Live.{read_first, written}
 use Rattle.model.specs.Refusal.{refusal, records}
 use Rattle.model.specs.Analyse.{Facts}
 use Rattle.model.specs.Move.{Plan, apply}
 use Rattle.laws.proofs.Accepted.{Accepted}
 use Rattle.laws.proofs.Moving.{Moving, x_block}
-use Rattle.laws.proofs.Endings.{preds_kept}
+use Rattle.laws.proofs.Endings.{callers_kept}
 use Rattle.laws.proofs.Unchanged.{same_blocks, same_types, regs_more}
 use Rattle.laws.proofs.Apart.{first_kept, written_kept}
 use Rattle.cfg.specs.Drawn.{drawn}
@@ -88,8 +88,8 @@ module _ (P : Picture) (G : Facts) (a : Plan) (mv : Moving P G a) where
       subst (λ (n : ℕ). Preds Q (take (2 * n) (drop (8000 + length Q.types) work32)) n) (sym (same_blocks P G a mv))
       (subst (λ (k : ℕ). Preds Q (take (2 * nblocks P) (drop (8000 + k) work32)) (nblocks P)) (sym (same_types P G a mv)) here)
     where
-      kept : (c : ℕ) → preds Q c ≡ preds P c
-      kept = preds_kept P G a mv
+      kept : (c : ℕ) → callers Q c ≡ callers P c
+      kept = callers_kept P G a mv
 
       here : Preds Q (pred_words P work32) (nblocks P)
       here = record {

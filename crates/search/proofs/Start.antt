@@ -15,7 +15,7 @@ use Rattle.words.specs.Bits.{width}
 use Rattle.words.specs.Lists.{upto, concat}
 use Rattle.words.proofs.Lists.{length_range, front_same}
 use Rattle.words.proofs.Parts.{put_part}
-use Rattle.model.specs.Picture.{Picture, nblocks, places, preds}
+use Rattle.model.specs.Picture.{Picture, nblocks, places, callers}
 use Rattle.model.specs.Refusal.{records, refusal}
 use Rattle.model.specs.Analyse.{facts}
 use Rattle.laws.proofs.Accepted.{Accepted, accepted, work_room}
@@ -31,7 +31,7 @@ use Rattle.cfg.specs.Preds as F
 use Rattle.cfg.specs.Preds.{many, first}
 use Rattle.flow.proofs.Accepted.{blocks_given, code_given}
 use Rattle.flow.proofs.Standing.{rows_same}
-use Rattle.flow.proofs.Whole.{preds_whole}
+use Rattle.flow.proofs.Whole.{callers_whole}
 use Rattle.chains.specs.Chain as C
 use Rattle.regfacts.specs.Flags.{Found, Seen}
 use Rattle.analyse.proofs.Accepted.{seen_given}
@@ -83,7 +83,7 @@ only (x ∷ []) e h = ap (λ (z : ℕ). z ∷ []) (sym e)
 only (x ∷ y ∷ l) e h = absurd (omega arith)
 
 pub preds_from : (P : Picture) {words : List ℕ} → F.Preds P words → C.Preds P words (nblocks P)
-preds_from P f = record { count = λ b h. count_one (preds P b) (f.told b h).count; sole = λ b h e. only (preds P b) (f.told b h).which e }
+preds_from P f = record { count = λ b h. count_one (callers P b) (f.told b h).count; sole = λ b h e. only (callers P b) (f.told b h).which e }
 
 preds_at : (P : Picture) {bounds recs pairs targets words : List ℕ} → P.bounds ≡ bounds → P.recs ≡ recs → P.pairs ≡ pairs → P.targets ≡ targets
     → F.Preds (drawn bounds recs [] pairs targets) words → F.Preds P words
@@ -93,7 +93,7 @@ preds_at P {bounds} {recs} {pairs} {targets} {words} e f g h z =
     (subst (λ (l : List ℕ). F.Preds (drawn bounds l [] P.pairs P.targets) words) (sym f)
     (subst (λ (l : List ℕ). F.Preds (drawn bounds recs [] l P.targets) words) (sym g)
     (subst (λ (l : List ℕ). F.Preds (drawn bounds recs [] pairs l) words) (sym h) z))) in
-    record { told = λ b u. subst (F.Told words b) (preds_whole P [] b) (y.told b u) }
+    record { told = λ b u. subst (F.Told words b) (callers_whole P [] b) (y.told b u) }
 
 -- ---- the rows
 

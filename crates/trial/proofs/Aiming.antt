@@ -13,7 +13,7 @@ use Rattle.words.specs.Bits.{is_in}
 use Rattle.words.specs.Lists.{mem, same, member}
 use Rattle.words.proofs.Bools.{left_true, right_true}
 use Rattle.words.proofs.Lists.{get_or-made, front_same, back_same}
-use Rattle.model.specs.Picture.{Picture, nblocks, preds}
+use Rattle.model.specs.Picture.{Picture, nblocks, callers}
 use Rattle.model.specs.Refusal.{records}
 use Rattle.model.specs.Analyse.{Facts}
 use Rattle.model.specs.Move.{needed, needed_of}
@@ -93,7 +93,7 @@ preds_from s work32 P e h = subst (λ (p : ℕ). Preds P (take (length work32 - 
 
 -- r says whether it is a target, by the words lent
 pub record Spotted (s : Sizes) (c : Chain) (work32 : List ℕ) (into : ℕ) (r : Bool) : Type 0 where
-  pub is : (P : Picture) → Preds P (take (length work32 - (8000 + s.lent)) (drop (8000 + s.lent) work32)) s.blocks → r ≡ (not (mem into (blocks_of c)) && same (preds P into) (last_of c ∷ []))
+  pub is : (P : Picture) → Preds P (take (length work32 - (8000 + s.lent)) (drop (8000 + s.lent) work32)) s.blocks → r ≡ (not (mem into (blocks_of c)) && same (callers P into) (last_of c ∷ []))
 
 module _ {bounds recs pairs targets : List ℕ} {s : Sizes} {c : Chain} {work64 work32 : List ℕ} {g : Goal} where
   -- nothing to do

@@ -1,14 +1,12 @@
 -- `cfg::preds::find_preds` meets its contract. Assumes nothing.
-use mathlib.Core.Path.{◌≡◌, ap, ◌∙◌}
+use mathlib.Core.Path.{ap, ◌∙◌, subst}
 use native.Mathlib.Omega.{arith}
 use Prim.Native.Nat.{ℕ}
-use lib.ListN.{length, replicate}
-use Rattle.model.specs.Picture.{succs}
+use Rattle.model.specs.Picture.{succs, from_start}
 use Rattle.words.specs.Steps.{steps}
 use Rattle.cfg.specs.Func.{drawn_of}
-use Rattle.cfg.specs.Preds.{noted}
+use Rattle.cfg.specs.Preds.{Told, noted}
 use Rattle.cfg.proofs.Noted.{all_preds, noted_none, noted_more, noted_end}
-use borrow.Author.Rules.{rules}
 use Rattle.cfg.proofs.preds.find_preds.Goals as goal
 
 pub loop-k-init : goal.loop-k-init
@@ -23,6 +21,6 @@ loop-k-preserved c =
 
 pub returns : goal.returns
 returns c =
-    let zeros : c.fill.new.self ≡ replicate (length c.args.words.now) 0 = search rules in
-    all_preds (drawn_of c.args.func.now) (length c.args.words.now) _ _ zeros (omega (arith, c.requires, c.fill.ensures.len))
+    let n = c.blocks-n.ensures in
+    all_preds (drawn_of c.args.func.now) _ _ (λ b l. subst (λ (m : ℕ). Told c.begin.new.words b (from_start m b)) n (c.begin.ensures b (omega (arith, n)))) (omega (arith, c.requires, c.begin.auto.words))
     (noted_end _ _ _ _ (omega (arith, c.loop-k.auto.k-end, c.blocks-n.ensures)) (omega (arith, c.loop-k-test.false, c.blocks-n.ensures)) c.loop-k.invariant)
