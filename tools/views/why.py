@@ -45,6 +45,8 @@ class Graph:
             last, to = chain[-1], self.succs[chain[-1]][0]
             if len(chain) == 6:
                 return None, f'six blocks, and block {last} goes on to block {to}'
+            if to == 0:
+                return None, f'block {last} goes on to block 0, where the function begins'
             if len(self.preds[to]) != 1:
                 return None, f'block {last} goes on to block {to}, which has {len(self.preds[to])} predecessors'
             if to in chain:
@@ -59,6 +61,8 @@ class Graph:
         """Why a branch is no target."""
         if to in chain:
             return f'block {to} is in the chain'
+        if to == 0:
+            return 'block 0 is where the function begins'
         if self.preds[to] != [chain[-1]]:
             return f'block {to} has {len(self.preds[to])} predecessors'
         return None

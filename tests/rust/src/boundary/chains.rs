@@ -104,31 +104,45 @@ fn cats(add: &mut impl FnMut(&str, u32, u32, Picture)) {
     add("no blocks, and a type of 8", 209, 0, none);
 }
 
-fn targets(add: &mut impl FnMut(&str, u32, u32, Picture)) {
-    add("the target before x", 1, 8, reordered([1, 0, 2]));
-    add("both branches before x", 1, 8, reordered([2, 1, 0]));
-    add("an empty target", 1, 8, listing_but(|b| b[1].clear()));
-    add("an empty target before x", 1, 8, listing_but(|b| {
-        b.swap(0, 1);
-        b[0].clear();
-        b[1][9] = fork(0, 2);
-    }));
-    add("the target is f", 1, 8, listing_but(|b| b[0][9] = fork(2, 1)));
-    add("block 0 is the target and nothing leads to x", 1, 8, reordered([1, 2, 0]));
-    add("the chain goes on in block 0", 1, 8, listing_but(|b| {
+/// The start of the function is a predecessor of block 0 (request 2026-02). Document 01 moves eight in the first two.
+fn entries(add: &mut impl FnMut(&str, u32, u32, Picture)) {
+    add("block 0 is no target, though nothing else leads to it", 0, 0, reordered([1, 2, 0]));
+    add("no chain goes on in block 0, though nothing else leads to it", 0, 0, listing_but(|b| {
         b[0][9] = br(0);
         b.push(vec![op(COVER, &[]), fork(1, 2)]);
         b.swap(0, 3);
     }));
+    add("block 0 is t, and f the target", 1, 8, {
+        let mut p = reordered([2, 0, 1]);
+        let last = p.places(1).end - 1;
+        p.set_record(last, fork(0, 2));
+        p
+    });
+    add("block 0 comes back to itself", 0, 0, listing_but(|b| b[0][9] = br(0)));
+    add("block 0 is x, and its target leads to it", 1, 8, listing_but(|b| b[1][1] = br(0)));
+    add("block 0 is x and the other branch", 1, 8, listing_but(|b| b[0][9] = fork(1, 0)));
+    add("block 0 is x, and a block that nothing reaches leads to it", 1, 8, listing_but(|b| b.push(vec![br(0)])));
+}
+
+fn targets(add: &mut impl FnMut(&str, u32, u32, Picture)) {
+    add("the target before x", 1, 8, behind(vec![br(2)], &reordered([1, 0, 2])));
+    add("both branches before x", 1, 8, reordered([2, 1, 0]));
+    add("an empty target", 1, 8, listing_but(|b| b[1].clear()));
+    add("an empty target before x", 1, 8, behind(vec![br(2)], &listing_but(|b| {
+        b.swap(0, 1);
+        b[0].clear();
+        b[1][9] = fork(0, 2);
+    })));
+    add("the target is f", 1, 8, listing_but(|b| b[0][9] = fork(2, 1)));
     add("the target has two predecessors", 0, 0, listing_but(|b| b[2][0] = br(1)));
     add("the target leads to itself", 0, 0, listing_but(|b| b[1][1] = br(1)));
-    add("the chain comes back to x", 0, 0, listing_but(|b| b[0][9] = br(0)));
+    add("the chain comes back to x", 0, 0, behind(vec![op(RET, &[])], &listing_but(|b| b[0][9] = br(0))));
     add("x ends in a Case", 0, 0, listing_but(|b| b[0][9] = Record::new(CASE, 0, &[0], (0, 0), &[0])));
     add("the target leads to itself and writes what it reads", 0, 0, listing_but(|b| b[1] = vec![op(OUTPUT, &[2, 1]), constant(2, 5), br(1)]));
-    add("the target is x itself, the other has two predecessors", 0, 0, listing_but(|b| {
+    add("the target is x itself, the other has two predecessors", 0, 0, behind(vec![op(RET, &[])], &listing_but(|b| {
         b[0][9] = fork(0, 2);
         b[1][1] = br(2);
-    }));
+    })));
     add("the chain's second block has a second predecessor", 0, 0, listing_but(|b| {
         b[0][9] = br(3);
         b.extend([vec![op(COVER, &[]), fork(1, 2)], vec![br(3)]]);

@@ -130,6 +130,21 @@ fn reordered(order: [u32; 3]) -> Picture {
     lay(&blocks, 9, &[])
 }
 
+/// These blocks, lent with the listing's types, behind one in which the function begins.
+fn behind(entry: Vec<Record>, of: &Picture) -> Picture {
+    let mut blocks = of.blocks();
+    for r in blocks.iter_mut().flatten() {
+        let words = match r.kind() {
+            BR => 9..10,
+            COND_BR => 9..11,
+            _ => 0..0,
+        };
+        r.0[words].iter_mut().for_each(|to| *to += 1);
+    }
+    blocks.insert(0, entry);
+    lay(&blocks, of.regs, &of.ops[..of.opers as usize])
+}
+
 /// The bounds within the program's sizes.
 pub fn boundaries() -> Vec<Boundary> {
     let mut all = Vec::new();
