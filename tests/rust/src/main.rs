@@ -12,6 +12,7 @@ use compare::{bench, facts, flow, large, live, port, refusals};
 use compare::sink;
 use compare::roles::roles;
 use compare::selfcheck::selfcheck;
+use compare::walks::walks;
 use compare::{program, vectors};
 use std::fs;
 use std::io::{Read, Write};
@@ -19,7 +20,7 @@ use std::path::Path;
 use std::process::ExitCode;
 
 const USAGE: &str =
-    "compare listing | bytes | rounds | sunk | program PATH | selfcheck N SEED | roles KINDS | crossed FOLDER [ROWS] | vectors FOLDER, with the host's entry: sink N SEED, and with the port's layers: refusals | flow | facts | large N SEED | bench SEED | once port|rust ROW | live SEED | live once SIDE ROW";
+    "compare listing | bytes | rounds | sunk | program PATH | selfcheck | walks N SEED | roles KINDS | crossed FOLDER [ROWS] | vectors FOLDER, with the host's entry: sink N SEED, and with the port's layers: refusals | flow | facts | large N SEED | bench SEED | once port|rust ROW | live SEED | live once SIDE ROW";
 
 /// A picture's code, block by block.
 fn show(what: &str, p: &Picture) {
@@ -149,6 +150,11 @@ fn main() -> ExitCode {
         }
         ["selfcheck", n, seed] => drawn(n, seed, |n, seed| {
             let stats = selfcheck(n, seed);
+            stats.print();
+            stats.missing()
+        }),
+        ["walks", n, seed] => drawn(n, seed, |n, seed| {
+            let stats = walks(n, seed);
             stats.print();
             stats.missing()
         }),
