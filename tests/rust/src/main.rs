@@ -4,7 +4,7 @@ use compare::bytes;
 use compare::convert::decode;
 use compare::crossed;
 use compare::listing::listing;
-use compare::oracle::oracle_with_work;
+use compare::oracle::{Outcome, oracle_with_work};
 use compare::picture::Picture;
 #[cfg(feature = "port")]
 use compare::{bench, facts, flow, large, live, port, refusals};
@@ -12,6 +12,8 @@ use compare::{bench, facts, flow, large, live, port, refusals};
 use compare::sink;
 use compare::roles::roles;
 use compare::selfcheck::selfcheck;
+#[cfg(feature = "port")]
+use compare::walks::left_otherwise;
 use compare::walks::walks;
 use compare::{program, vectors};
 use std::fs;
@@ -154,7 +156,11 @@ fn main() -> ExitCode {
             stats.missing()
         }),
         ["walks", n, seed] => drawn(n, seed, |n, seed| {
-            let stats = walks(n, seed);
+            #[cfg(feature = "port")]
+            let also = |p: &Picture, left: &Outcome| left_otherwise(p, left, port::sink_all);
+            #[cfg(not(feature = "port"))]
+            let also = |_: &Picture, _: &Outcome| None;
+            let stats = walks(n, seed, also);
             stats.print();
             stats.missing()
         }),

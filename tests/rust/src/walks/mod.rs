@@ -7,6 +7,7 @@ mod claim;
 mod entry;
 mod machine;
 mod places;
+mod port;
 #[cfg(test)]
 mod tests;
 
@@ -16,7 +17,7 @@ use crate::accept;
 use crate::boundary::boundaries;
 use crate::driver::{Entry, Facts, Trace};
 use crate::generate::{entered, picture};
-use crate::oracle::Lent;
+use crate::oracle::{Lent, Outcome};
 use crate::picture::Picture;
 use crate::random::Random;
 use crate::selfcheck::size_of;
@@ -25,6 +26,7 @@ pub use choose::{Walks, walks_of};
 pub use claim::broken;
 use claim::{Pair, latest};
 use entry::SORTS;
+pub use port::left_otherwise;
 
 #[derive(Default)]
 pub struct Stats {
@@ -61,11 +63,15 @@ pub struct Stats {
     pub faults: Vec<String>,
 }
 
-pub fn walks(n: usize, seed: u64) -> Stats {
+/// What else is asked of a picture and of what the rounds leave of it: why that is not so.
+pub trait Also: FnMut(&Picture, &Outcome) -> Option<String> {}
+impl<F: FnMut(&Picture, &Outcome) -> Option<String>> Also for F {}
+
+pub fn walks(n: usize, seed: u64, mut also: impl Also) -> Stats {
     let mut stats = Stats::default();
     for b in boundaries() {
         if (1..=8).contains(&(b.number % 100)) && b.number < 200 {
-            stats.hold(&b.picture, &b.name, &mut Random::new(seed));
+            stats.hold(&b.picture, &b.name, &mut Random::new(seed), &mut also);
         }
     }
     stats.at_bounds = stats.pictures;
@@ -73,11 +79,11 @@ pub fn walks(n: usize, seed: u64) -> Stats {
         let this = seed.wrapping_mul(1_000_003).wrapping_add(k as u64);
         let (size, mut rnd) = (size_of(k / 2), Random::new(this ^ 0x3A1C_0F03));
         if k % 2 == 0 {
-            stats.hold(&picture(this, size), &format!("seed {this} {size:?}"), &mut rnd);
+            stats.hold(&picture(this, size), &format!("seed {this} {size:?}"), &mut rnd, &mut also);
         } else {
             let p = entered(this, size);
             stats.entered(&p);
-            stats.hold(&p, &format!("seed {this} {size:?}, entered"), &mut rnd);
+            stats.hold(&p, &format!("seed {this} {size:?}, entered"), &mut rnd, &mut also);
         }
     }
     stats
@@ -95,7 +101,7 @@ impl Stats {
     }
 
     /// One picture, with every number of rounds, on all its walks.
-    fn hold(&mut self, p: &Picture, name: &str, rnd: &mut Random) {
+    fn hold(&mut self, p: &Picture, name: &str, rnd: &mut Random, also: &mut impl Also) {
         if accept::refusal(p, p.work()) != 0 {
             self.faults.push(format!("{name}: is refused"));
             return;
@@ -110,7 +116,8 @@ impl Stats {
         *self.whole.entry(walks.whole).or_default() += 1;
         self.all += usize::from(walks.all);
         self.longest = walks.walks.iter().map(Vec::len).max().unwrap_or(0).max(self.longest);
-        for why in self.claim(p, &lent, &trace, &walks.walks) {
+        let faults = self.claim(p, &lent, &trace, &walks.walks);
+        for why in faults.into_iter().chain(also(p, &lent.outcome(&trace))) {
             self.faults.push(format!("{name}: {why}"));
         }
         if p.leads_to_entry() {

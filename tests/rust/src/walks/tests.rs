@@ -2,9 +2,11 @@
 
 use super::machine::{Code, Write};
 use super::*;
+use crate::fact::Fact;
 use crate::generate::Size;
 use crate::kinds::*;
 use crate::listing::listing;
+use crate::oracle::oracle_with_work;
 use crate::picture::Record;
 
 fn op(kind: u32, slots: &[u32]) -> Record {
@@ -248,5 +250,24 @@ fn block_0_is_led_to_in_each_way() {
 
 #[test]
 fn all_comes_up() {
-    assert_eq!(walks(600, 1).missing(), Vec::<String>::new());
+    assert_eq!(walks(600, 1, |_: &Picture, _: &Outcome| None).missing(), Vec::<String>::new());
+}
+
+#[test]
+fn the_port_is_held_to_the_picture_after_the_last_round() {
+    // The Rust in the port's place, as it is, and with a slip.
+    let held = |slip: fn(&mut Picture, u32) -> u32| {
+        let also = |p: &Picture, wanted: &Outcome| {
+            left_otherwise(p, wanted, |q: &mut Picture, _: &mut [u64], _: &mut [u32], _: &mut [Fact], out: &mut [u32]| {
+                let found = oracle_with_work(q).expect("few types");
+                *q = found.picture;
+                out.copy_from_slice(&[q.regs, q.opers]);
+                slip(q, found.answer.number())
+            })
+        };
+        walks(20, 1, also).faults.len()
+    };
+    assert_eq!(held(|_, n| n), 0);
+    assert!(held(|_, n| if n == 1 { 2 } else { n }) > 0);
+    assert!(held(|p, n| { p.recs[2] ^= u32::from(n > 0); n }) > 0);
 }
