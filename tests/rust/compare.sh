@@ -1,7 +1,7 @@
 #!/bin/sh
-# Holds the definitions and the port against the Rust of the pass: the table of roles, the oracle against itself, the rows of
-# crate `crossed`, made anew, the layers of the port and the pass over slices, through crate `probe`, the host's entry, and what
-# `sinkrounds` prints. See README.md; tests/c calls the entry from C.
+# Holds the definitions and the port against the Rust of the pass: the table of roles, the oracle against itself and against
+# demand 3, the rows of crate `crossed`, made anew, the layers of the port and the pass over slices, through crate `probe`, the
+# host's entry, and what `sinkrounds` prints. See README.md; tests/c calls the entry from C.
 #
 #   compare.sh              needs the Rust; without it, or without cargo or rt, it says so and ends with 2
 #   compare.sh --if-there   for .ci/run: without the Rust the comparison is left out, except that it fails where CI=true
@@ -65,6 +65,7 @@ cargo test --release --offline --locked --quiet --features port,host
 
 $compare roles ../../crates/model/specs/Kinds.antt
 $compare selfcheck "${PICTURES:-4000}" "${SEED:-1}"
+$compare walks "${PICTURES:-4000}" "${SEED:-1}"
 $compare refusals $((${PICTURES:-4000} / 4)) "${SEED:-1}"
 $compare flow $((${PICTURES:-4000} / 4)) "${SEED:-1}"
 $compare facts $((${PICTURES:-4000} / 8)) "${SEED:-1}"

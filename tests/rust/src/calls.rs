@@ -257,7 +257,7 @@ impl Pass {
             }
             let Some(from) = from else { break };
             let into = (0..before.len()).find(|&b| s.code[b].len() > before[b]).expect("a round moves something");
-            let chain = s.chain(from).expect("a round leaves its chain").0.len();
+            let chain = s.chain(from).expect("a round leaves its chain").0;
             let moved = before[from] - s.code[from].len();
             trace.rounds.push(Round { from, into, moved, chain, after: s.state() });
             if facts == Facts::Lengthened {

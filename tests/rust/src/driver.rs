@@ -36,13 +36,13 @@ pub struct State {
     pub reg_ty: Vec<RegTy>,
 }
 
-/// One round: from block, into block, members moved, the chain's length in blocks, and what the round leaves.
+/// One round: from block, into block, members moved, the chain's blocks, and what the round leaves.
 #[derive(Clone, Debug)]
 pub struct Round {
     pub from: usize,
     pub into: usize,
     pub moved: usize,
-    pub chain: usize,
+    pub chain: Vec<usize>,
     pub after: State,
 }
 

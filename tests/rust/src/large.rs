@@ -221,7 +221,7 @@ impl Stats {
 }
 
 /// Which parts of two pictures are not the same.
-fn differs(a: &Picture, b: &Picture) -> String {
+pub fn differs(a: &Picture, b: &Picture) -> String {
     let parts = [
         ("bounds", a.bounds != b.bounds),
         ("records", a.recs != b.recs),

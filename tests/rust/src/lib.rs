@@ -42,6 +42,7 @@ pub mod stack;
 pub mod tally;
 pub mod time;
 pub mod vectors;
+pub mod walks;
 
 include!(concat!(env!("OUT_DIR"), "/inst_mod.rs"));
 

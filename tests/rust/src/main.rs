@@ -4,7 +4,7 @@ use compare::bytes;
 use compare::convert::decode;
 use compare::crossed;
 use compare::listing::listing;
-use compare::oracle::oracle_with_work;
+use compare::oracle::{Outcome, oracle_with_work};
 use compare::picture::Picture;
 #[cfg(feature = "port")]
 use compare::{bench, facts, flow, large, live, port, refusals};
@@ -12,6 +12,9 @@ use compare::{bench, facts, flow, large, live, port, refusals};
 use compare::sink;
 use compare::roles::roles;
 use compare::selfcheck::selfcheck;
+#[cfg(feature = "port")]
+use compare::walks::left_otherwise;
+use compare::walks::walks;
 use compare::{program, vectors};
 use std::fs;
 use std::io::{Read, Write};
@@ -19,7 +22,7 @@ use std::path::Path;
 use std::process::ExitCode;
 
 const USAGE: &str =
-    "compare listing | bytes | rounds | sunk | program PATH | selfcheck N SEED | roles KINDS | crossed FOLDER [ROWS] | vectors FOLDER, with the host's entry: sink N SEED, and with the port's layers: refusals | flow | facts | large N SEED | bench SEED | once port|rust ROW | live SEED | live once SIDE ROW";
+    "compare listing | bytes | rounds | sunk | program PATH | selfcheck | walks N SEED | roles KINDS | crossed FOLDER [ROWS] | vectors FOLDER, with the host's entry: sink N SEED, and with the port's layers: refusals | flow | facts | large N SEED | bench SEED | once port|rust ROW | live SEED | live once SIDE ROW";
 
 /// A picture's code, block by block.
 fn show(what: &str, p: &Picture) {
@@ -149,6 +152,15 @@ fn main() -> ExitCode {
         }
         ["selfcheck", n, seed] => drawn(n, seed, |n, seed| {
             let stats = selfcheck(n, seed);
+            stats.print();
+            stats.missing()
+        }),
+        ["walks", n, seed] => drawn(n, seed, |n, seed| {
+            #[cfg(feature = "port")]
+            let also = |p: &Picture, left: &Outcome| left_otherwise(p, left, port::sink_all);
+            #[cfg(not(feature = "port"))]
+            let also = |_: &Picture, _: &Outcome| None;
+            let stats = walks(n, seed, also);
             stats.print();
             stats.missing()
         }),

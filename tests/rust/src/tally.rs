@@ -85,7 +85,7 @@ impl Tally {
         }
         for round in trace.rounds.iter().take(rounds) {
             self.members += round.moved;
-            *self.chains.entry(round.chain).or_default() += 1;
+            *self.chains.entry(round.chain.len()).or_default() += 1;
             self.target_before += usize::from(round.into < round.from);
             self.empty_target += usize::from(sizes[round.into] == 0);
             self.sig_registers += round.after.reg_ty[regs..].iter().filter(|t| **t == crate::RegTy::Sig).count();

@@ -33,7 +33,7 @@ pub fn features(p: &Picture, trace: &Trace, out: &Outcome) -> BTreeSet<String> {
     let mut before = p.clone();
     for (round, line) in trace.rounds.iter().zip(&out.lines) {
         f.insert(if round.into < round.from { "target before x" } else { "target after x" }.into());
-        f.insert(format!("chain of {}", round.chain));
+        f.insert(format!("chain of {}", round.chain.len()));
         if before.places(round.into).is_empty() {
             f.insert("empty target".into());
         }

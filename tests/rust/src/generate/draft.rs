@@ -199,15 +199,29 @@ impl Draft {
 
     /// The picture, blocks in another order, with no room past what is in use.
     pub fn finish(mut self) -> Picture {
-        let n = self.blocks.len();
         // A picture without blocks cannot have branches, so one block is the least here.
-        let mut order: Vec<usize> = (0..n).collect();
+        let mut order: Vec<usize> = (0..self.blocks.len()).collect();
         match self.rnd.below(4) {
             0 => {}
             1 if self.rnd.chance(30) => self.rnd.shuffle(&mut order),
             _ => self.rnd.shuffle(&mut order[1..]),
         }
-        // order[new] is the old block
+        self.finish_in(&order)
+    }
+
+    /// The same with this one as block 0.
+    pub fn finish_from(mut self, first: usize) -> Picture {
+        let mut order: Vec<usize> = (0..self.blocks.len()).filter(|&b| b != first).collect();
+        if self.rnd.chance(60) {
+            self.rnd.shuffle(&mut order);
+        }
+        order.insert(0, first);
+        self.finish_in(&order)
+    }
+
+    /// The picture of the blocks in this order: `order[new]` is the old one.
+    fn finish_in(mut self, order: &[usize]) -> Picture {
+        let n = order.len();
         let mut place = vec![0u32; n];
         for (new, &old) in order.iter().enumerate() {
             place[old] = new as u32;

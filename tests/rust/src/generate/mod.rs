@@ -2,6 +2,7 @@
 //! branches, one of which reads what the members leave.
 
 mod draft;
+mod entry;
 mod members;
 mod shapes;
 
@@ -14,7 +15,15 @@ use crate::random::Random;
 
 /// The picture of a seed.
 pub fn picture(seed: u64, size: Size) -> Picture {
-    with_room(bare(seed, size), &mut Random::new(seed ^ 0x5EED_0F_2006))
+    with_room(bare(seed, size), Entry::Blocks, &mut Random::new(seed ^ 0x5EED_0F_2006))
+}
+
+/// A picture of the same shapes whose block 0 is led to, more often than not: as where a chain begins, as a later part of one, as a
+/// target (request 2026-02). The room is that for the rounds of that request.
+pub fn entered(seed: u64, size: Size) -> Picture {
+    let mut d = shapes::draw(Draft::new(seed, size));
+    let first = d.first();
+    with_room(d.finish_from(first), Entry::Start, &mut Random::new(seed ^ 0x5EED_0F_2602))
 }
 
 /// The same picture, with no room past what is in use.
@@ -23,8 +32,8 @@ pub fn bare(seed: u64, size: Size) -> Picture {
 }
 
 /// Lends room: some past what the pass needs, just enough, or one register or operand too few for one of the rounds.
-fn with_room(mut p: Picture, rnd: &mut Random) -> Picture {
-    let trace = Lent::new(&p).expect("no more types than the Rust has").rounds(Facts::Lengthened, Entry::Blocks);
+fn with_room(mut p: Picture, entry: Entry, rnd: &mut Random) -> Picture {
+    let trace = Lent::new(&p).expect("no more types than the Rust has").rounds(Facts::Lengthened, entry);
     let mut used = vec![(p.regs as usize, p.opers as usize)];
     used.extend(trace.rounds.iter().map(|r| (r.after.reg_ty.len(), r.after.operands.len())));
     let (mut regs, mut opers) = *used.last().expect("the counts of before");

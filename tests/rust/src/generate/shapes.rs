@@ -71,16 +71,16 @@ impl Draft {
         self.blocks.len() - 1
     }
 
-    fn put(&mut self, b: usize, r: Record) {
+    pub fn put(&mut self, b: usize, r: Record) {
         self.blocks[b].push(r);
     }
 
-    fn br(&mut self, b: usize, to: usize) {
+    pub fn br(&mut self, b: usize, to: usize) {
         let r = self.op(BR, 0, &[], (0, 0), &[to as u32]);
         self.put(b, r);
     }
 
-    fn fork(&mut self, b: usize, t: usize, f: usize) {
+    pub fn fork(&mut self, b: usize, t: usize, f: usize) {
         let c = self.harmless();
         let r = self.op(COND_BR, 0, &[c], (0, 0), &[t as u32, f as u32]);
         self.put(b, r);
@@ -142,7 +142,7 @@ impl Draft {
         }
     }
 
-    fn table(&mut self, to: &[usize]) -> u32 {
+    pub fn table(&mut self, to: &[usize]) -> u32 {
         let start = self.targets.len() as u32;
         self.targets.extend(to.iter().map(|&b| b as u32));
         self.pairs.extend([start, to.len() as u32]);
