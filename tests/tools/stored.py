@@ -12,18 +12,21 @@ from views import dot, page, text, why
 from views.calls import REFUSED
 from views.steps import block_of, rows, steps, whole
 
-# What is said of block 0 of some stored pictures, by the name that crates/vectors/README.md gives them.
+# What is said of a block of some stored pictures, by the name that crates/vectors/README.md gives them.
 STOPS = {
-    'a chain of 7 blocks': 'no chain: six blocks, and block 7 goes on to block 8',
-    'the chain comes back to x': 'no chain: block 0 goes back to block 0',
-    'x ends in a Case': 'no chain: block 0 ends in Case',
-    'the target has two predecessors': 'tried into block 2: ',
-    'the target is x itself, the other has two predecessors': 'no target: block 0 is in the chain, block 2 has 2 predecessors',
-    'both branches to 1': 'tried into block 1',
-    "the chain's second block has a second predecessor": 'no chain: block 0 goes on to block',
-    "the Cat in the chain's second block": 'no Cat of form 0',
-    '2 members with replay': 'tried into block 1',
-    'Stmt after the Cat': 'tried into block 1',
+    'a chain of 7 blocks': (0, 'no chain: six blocks, and block 7 goes on to block 8'),
+    'block 0 comes back to itself': (0, 'no chain: block 0 goes on to block 0, where the function begins'),
+    'x ends in a Case': (0, 'no chain: block 0 ends in Case'),
+    'the target has two predecessors': (0, 'tried into block 2: '),
+    'both branches to 1': (0, 'tried into block 1'),
+    "the chain's second block has a second predecessor": (0, 'no chain: block 0 goes on to block'),
+    "the Cat in the chain's second block": (0, 'no Cat of form 0'),
+    '2 members with replay': (0, 'tried into block 1'),
+    'Stmt after the Cat': (0, 'tried into block 1'),
+    'the chain comes back to x': (1, 'no chain: block 1 goes back to block 1'),
+    'the target is x itself, the other has two predecessors': (1, 'no target: block 1 is in the chain, block 3 has 2 predecessors'),
+    'block 0 is no target, though nothing else leads to it': (2, 'tried into block 1: '),
+    'no chain goes on in block 0, though nothing else leads to it': (3, 'no chain: block 3 goes on to block 0, where the function begins'),
 }
 
 
@@ -101,8 +104,9 @@ def reasons(checks, n, name, number, p, found):
     tried = not why.gate(p) and any(v.test == 'tried' for v in why.verdicts(p))
     checks.holds(f'picture {n}: nothing is tried, nothing moves', tried or number == 0)
     if name in STOPS:
-        said = why.verdicts(p)[0].text
-        checks.holds(f'picture {n}, {name}: {said}', said.startswith(STOPS[name]))
+        block, says = STOPS[name]
+        said = why.verdicts(p)[block].text
+        checks.holds(f'picture {n}, {name}: {said}', said.startswith(says))
 
 
 class Page(HTMLParser):
