@@ -1,0 +1,218 @@
+//! The plain check (`src/plain/`) held against the Rust: without the requests of document 02 on every picture, and with request
+//! 2026-02 where no block leads to block 0, and against the Rust told of one more predecessor everywhere.
+
+use std::collections::BTreeMap;
+
+use crate::accept;
+use crate::boundary::boundaries;
+use crate::damage::DAMAGES;
+use crate::driver::{Entry, Facts, Trace};
+use crate::generate::{Size, picture};
+use crate::kinds::{BR, COND_BR, RET};
+use crate::oracle::Lent;
+use crate::picture::{Picture, RECORD, Record};
+use crate::plain::{Requests, Round};
+use crate::random::Random;
+use crate::selfcheck::size_of;
+
+/// What is held against the Rust: `plain::rounds`, or something that must be told from it.
+pub trait Plain: Fn(&Picture, Requests) -> Vec<Round> {}
+impl<F: Fn(&Picture, Requests) -> Vec<Round>> Plain for F {}
+
+#[derive(Clone, Copy, PartialEq, Eq, PartialOrd, Ord, Debug)]
+pub enum Source {
+    Generated,
+    Entered,
+    Damaged,
+    Boundary,
+}
+
+#[derive(Default)]
+pub struct Stats {
+    pub pictures: BTreeMap<Source, usize>,
+    /// rounds by document 01, and with the request
+    pub rounds: [usize; 2],
+    /// pictures where a block leads to block 0
+    pub entered: usize,
+    /// those of them where the request changes the rounds
+    pub changed: usize,
+    /// those where block 0 is a target by document 01, or a later part of a chain, and is not with the request
+    pub target: usize,
+    pub part: usize,
+    /// those where a round begins at block 0 with the request
+    pub begun: usize,
+    /// with more types than the Rust has
+    pub unlike: usize,
+    /// instructions of the largest with a round
+    pub most: usize,
+    pub faults: Vec<String>,
+}
+
+pub fn plaincheck(n: usize, seed: u64, plain: impl Plain) -> Stats {
+    let mut stats = Stats::default();
+    for b in boundaries() {
+        if accept::refusal(&b.picture, b.picture.work()) == 0 {
+            stats.check(Source::Boundary, &b.picture, &b.name, &plain);
+        }
+    }
+    for k in 0..n {
+        let this = seed.wrapping_mul(1_000_003).wrapping_add(k as u64);
+        let name = format!("seed {this} {:?}", size_of(k));
+        let p = picture(this, size_of(k));
+        stats.check(Source::Generated, &p, &name, &plain);
+        stats.check(Source::Entered, &entered(this, size_of(k)), &format!("{name}, entered"), &plain);
+        let every = DAMAGES[k % DAMAGES.len()..=k % DAMAGES.len()].iter().chain(if k < 20 { DAMAGES } else { &[] });
+        for d in every {
+            let mut q = p.clone();
+            if (d.deed)(&mut q, &mut Random::new(this)) && accept::refusal(&q, q.work()) == 0 {
+                stats.check(Source::Damaged, &q, &format!("{name}, {}", d.what), &plain);
+            }
+        }
+    }
+    stats
+}
+
+impl Stats {
+    fn check(&mut self, source: Source, p: &Picture, name: &str, plain: &impl Plain) {
+        let Some(lent) = Lent::new(p) else {
+            self.unlike += 1;
+            return;
+        };
+        *self.pictures.entry(source).or_default() += 1;
+        let (off, on) = (plain(p, Requests::NONE), plain(p, Requests { entry_has_caller: true }));
+        self.count(p, &off, &on);
+        for (rounds, entry) in [(&off, Entry::Blocks), (&on, Entry::Start)] {
+            if let Some(what) = differs(&lent, rounds, &lent.rounds(Facts::Lengthened, entry)) {
+                self.faults.push(format!("{name}, against {entry:?}: {what}"));
+            }
+        }
+        if !p.leads_to_entry() && on != off {
+            self.faults.push(format!("{name}: the request changes the rounds though no block leads to block 0"));
+        }
+    }
+
+    fn count(&mut self, p: &Picture, off: &[Round], on: &[Round]) {
+        self.rounds[0] += off.len();
+        self.rounds[1] += on.len();
+        if !off.is_empty() {
+            self.most = self.most.max(p.locs.len());
+        }
+        if !p.leads_to_entry() {
+            return;
+        }
+        let only_off = |shows: fn(&Round) -> bool| usize::from(off.iter().any(shows) && !on.iter().any(shows));
+        self.entered += 1;
+        self.changed += usize::from(on != off);
+        self.target += only_off(|r| r.into == 0);
+        self.part += only_off(|r| r.chain[1..].contains(&0));
+        self.begun += usize::from(on.iter().any(|r| r.from == 0));
+    }
+
+    /// What is missing, if the comparison is to be worth its while.
+    pub fn missing(&self) -> Vec<String> {
+        let mut out = Vec::new();
+        let mut want = |ok: bool, what: &str| {
+            if !ok {
+                out.push(what.to_string());
+            }
+        };
+        want(self.faults.is_empty(), "no fault");
+        want(self.pictures.len() == 4, "generated, entered and damaged pictures, and those at the bounds");
+        want(self.rounds[0] > 0 && self.rounds[1] > 0, "rounds");
+        want(self.entered > 0, "pictures where a block leads to block 0");
+        want(self.changed > 0, "pictures where the request changes the rounds");
+        want(self.target > 0, "block 0 refused as a target");
+        want(self.part > 0, "block 0 refused as a later part of a chain");
+        want(self.begun > 0, "block 0 as a beginning though a block leads to it");
+        out
+    }
+
+    pub fn print(&self) {
+        println!("pictures {:?}, the largest that moves {}, with too many types {}", self.pictures, self.most, self.unlike);
+        println!("rounds by document 01 {} with the request {}", self.rounds[0], self.rounds[1]);
+        println!("a block leads to block 0 {}: the request changes the rounds {}", self.entered, self.changed);
+        println!("block 0 refused as a target {} as a part {} taken as a beginning {}", self.target, self.part, self.begun);
+        println!("faults {}", self.faults.len());
+        for f in self.faults.iter().take(20) {
+            println!("fault: {f}");
+        }
+    }
+}
+
+/// The first thing in which these rounds are not the Rust's.
+fn differs(lent: &Lent, rounds: &[Round], trace: &Trace) -> Option<String> {
+    let mut places: Vec<u32> = (0..lent.picture.locs.len() as u32).collect();
+    for (k, (a, b)) in rounds.iter().zip(&trace.rounds).enumerate() {
+        let (found, wanted) = ((a.from, a.into, a.members.len(), a.chain.len()), (b.from, b.into, b.moved, b.chain));
+        if found != wanted {
+            return Some(format!("round {}: from, into, moved and chain {found:?} in place of {wanted:?}", k + 1));
+        }
+        if a.after != lent.picture_of(&b.after) {
+            return Some(format!("round {} leaves another picture", k + 1));
+        }
+        places = a.was.iter().map(|&was| places[was]).collect();
+        if !places.iter().eq(b.after.loc.iter().flatten().map(|id| &id.place)) {
+            return Some(format!("round {} takes the instructions from elsewhere", k + 1));
+        }
+    }
+    (rounds.len() != trace.rounds.len() || trace.stopped).then(|| format!("{} rounds in place of {}", rounds.len(), trace.rounds.len()))
+}
+
+/// The picture of a seed with a block of its first round as block 0, and perhaps one more block that goes on to it.
+fn entered(seed: u64, size: Size) -> Picture {
+    let mut rnd = Random::new(seed ^ 0x00E2_7E2E_D2F0);
+    let p = picture(seed, size);
+    let trace = crate::plain::rounds(&p, Requests::NONE);
+    let first = match trace.first() {
+        Some(round) => rnd.pick(&[&round.chain[..], &[round.into, round.into]].concat()),
+        None => rnd.below(p.nblocks()),
+    };
+    let mut q = swapped(&p, first);
+    if rnd.chance(30) || !q.leads_to_entry() {
+        lead_back(&mut q, &mut rnd);
+    }
+    q
+}
+
+/// Some Ret at the end of a block becomes a Br to block 0.
+fn lead_back(p: &mut Picture, rnd: &mut Random) {
+    let ends = (0..p.nblocks()).filter_map(|b| p.places(b).next_back());
+    let rets: Vec<usize> = ends.filter(|&k| p.record(k).kind() == RET).collect();
+    if !rets.is_empty() {
+        p.set_record(rnd.pick(&rets), Record::new(BR, 0, &[], (0, 0), &[0]));
+    }
+}
+
+/// The picture with blocks 0 and `b` having changed their numbers.
+fn swapped(p: &Picture, b: usize) -> Picture {
+    let number = |n: u32| match n as usize {
+        0 => b as u32,
+        n if n == b => 0,
+        n => n as u32,
+    };
+    let mut q = Picture { bounds: Vec::new(), recs: Vec::new(), locs: Vec::new(), vias: Vec::new(), ..p.clone() };
+    for old in (0..p.nblocks() as u32).map(number) {
+        let places = p.places(old as usize);
+        q.bounds.push(q.locs.len() as u32);
+        q.recs.extend_from_slice(&p.recs[RECORD * places.start..RECORD * places.end]);
+        q.locs.extend_from_slice(&p.locs[places.clone()]);
+        q.vias.extend_from_slice(p.vias.get(places).unwrap_or(&[]));
+        q.bounds.push(q.locs.len() as u32);
+    }
+    for k in 0..q.locs.len() {
+        let mut r = q.record(k);
+        let words = match r.kind() {
+            BR => 9..10,
+            COND_BR => 9..11,
+            _ => 0..0,
+        };
+        for w in &mut r.0[words] {
+            *w = number(*w);
+        }
+        q.set_record(k, r);
+    }
+    for w in q.targets.iter_mut().chain(&mut q.replay) {
+        *w = number(*w);
+    }
+    q
+}
