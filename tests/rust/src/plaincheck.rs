@@ -216,3 +216,59 @@ fn swapped(p: &Picture, b: usize) -> Picture {
     }
     q
 }
+
+#[cfg(test)]
+mod tests {
+    use super::*;
+    use crate::plain::{rounds, rounds_but};
+
+    #[test]
+    fn the_rust_and_the_plain_check_agree() {
+        assert_eq!(plaincheck(60, 2, rounds).missing(), Vec::<String>::new());
+    }
+
+    #[test]
+    fn a_request_forgotten_is_found() {
+        let off = plaincheck(20, 1, |p: &Picture, _| rounds(p, Requests::NONE));
+        assert!(off.faults.iter().all(|f| f.contains("against Start")) && off.faults.len() > 3);
+        let on = plaincheck(20, 1, |p: &Picture, _| rounds(p, Requests::ALL));
+        assert!(on.faults.iter().all(|f| f.contains("against Blocks")) && on.faults.len() > 3);
+    }
+
+    #[test]
+    fn each_rule_left_out_is_found() {
+        for rule in 1..=6 {
+            let stats = plaincheck(20, 1, |p: &Picture, with| rounds_but(p, with, Some(rule)));
+            assert!(!stats.faults.is_empty(), "rule {rule} decides nothing");
+        }
+    }
+
+    /// Each part of a round, wrong in the last one.
+    #[test]
+    fn a_slip_in_a_round_is_found() {
+        let slips: [fn(&mut Round); 12] = [
+            |r| r.from += 1,
+            |r| r.into += 1,
+            |r| r.chain.push(0),
+            |r| r.members.push(0),
+            |r| r.was.swap(0, 1),
+            |r| r.after.recs[2] ^= 1,
+            |r| r.after.bounds[1] += 1,
+            |r| r.after.locs[0] ^= 1,
+            |r| r.after.vias.clear(),
+            |r| r.after.types.push(7),
+            |r| r.after.regs -= 1,
+            |r| r.after.opers += 1,
+        ];
+        for (k, slip) in slips.iter().enumerate() {
+            let slipped = |p: &Picture, with| {
+                let mut all = rounds(p, with);
+                all.last_mut().map(slip);
+                all
+            };
+            assert!(!plaincheck(12, 1, slipped).faults.is_empty(), "slip {k} is not found");
+        }
+        let fewer = |p: &Picture, with| rounds(p, with).into_iter().take(7).collect();
+        assert!(!plaincheck(12, 1, fewer).faults.is_empty(), "a round too few is not found");
+    }
+}
