@@ -1,7 +1,7 @@
 #!/bin/sh
-# Holds the definitions and the port against the Rust of the pass: the table of roles, the oracle against itself, the plain check
-# against the Rust, the rows of crate `crossed`, made anew, the layers of the port and the pass over slices, through crate `probe`, the host's entry, and what
-# `sinkrounds` prints. See README.md; tests/c calls the entry from C.
+# Holds the definitions and the port against the Rust of the pass: the table of roles, the oracle against itself, the plain check,
+# the rows of crate `crossed`, made anew, the layers of the port and the pass over slices, through crate `probe`, the host's entry,
+# and what `sinkrounds` prints. See README.md; tests/c calls the entry from C.
 #
 #   compare.sh              needs the Rust; without it, or without cargo or rt, it says so and ends with 2
 #   compare.sh --if-there   for .ci/run: without the Rust the comparison is left out, except that it fails where CI=true
@@ -10,7 +10,8 @@
 #   compare.sh --live       only prints the times of liveness, as in docs/SPEED.md
 #
 # YAVS_SRC names the folder that holds crates/yavs-ir/src; else shared/docs/src beside the repository is taken.
-# PICTURES and SEED say how many pictures are drawn, and which (4000 and 1); for the plain check and the port's layers a quarter or an eighth as many.
+# PICTURES and SEED say how many pictures are drawn, and which (4000 and 1); for the plain check and the port's layers a quarter or
+# an eighth as many.
 # SUNK and LARGE say how many go through the host's entry and over slices (10000 and 40).
 set -eu
 sources=${YAVS_SRC:-$(dirname "$0")/../../../shared/docs/src}
