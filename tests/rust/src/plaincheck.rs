@@ -4,7 +4,7 @@
 use std::collections::BTreeMap;
 
 use crate::accept;
-use crate::boundary::boundaries;
+use crate::boundary;
 use crate::damage::DAMAGES;
 use crate::driver::{Entry, Facts, Trace};
 use crate::generate::{Size, picture};
@@ -50,9 +50,11 @@ pub struct Stats {
 
 pub fn plaincheck(n: usize, seed: u64, plain: impl Plain) -> Stats {
     let mut stats = Stats::default();
-    for b in boundaries() {
-        if accept::refusal(&b.picture, b.picture.work()) == 0 {
-            stats.check(Source::Boundary, &b.picture, &b.name, &plain);
+    let large = [(1, 800), (1, 801), (6, 800), (6, 801)].map(|(b, n)| (format!("a chain of {n} in {b} blocks"), boundary::chain(b, n)));
+    let largest = boundary::largest().into_iter().map(|(name, p, _)| (name.into(), p));
+    for (name, p) in boundary::boundaries().into_iter().map(|b| (b.name, b.picture)).chain(large).chain(largest) {
+        if accept::refusal(&p, p.work()) == 0 {
+            stats.check(Source::Boundary, &p, &name, &plain);
         }
     }
     for k in 0..n {
@@ -201,12 +203,8 @@ fn swapped(p: &Picture, b: usize) -> Picture {
     }
     for k in 0..q.locs.len() {
         let mut r = q.record(k);
-        let words = match r.kind() {
-            BR => 9..10,
-            COND_BR => 9..11,
-            _ => 0..0,
-        };
-        for w in &mut r.0[words] {
+        let branches = usize::from(r.kind() == BR) + 2 * usize::from(r.kind() == COND_BR);
+        for w in &mut r.0[9..9 + branches] {
             *w = number(*w);
         }
         q.set_record(k, r);
@@ -240,6 +238,18 @@ mod tests {
         for rule in 1..=6 {
             let stats = plaincheck(20, 1, |p: &Picture, with| rounds_but(p, with, Some(rule)));
             assert!(!stats.faults.is_empty(), "rule {rule} decides nothing");
+        }
+    }
+
+    /// In the Rust's types, and by the places of the picture lent, the rounds of the plain check are what they were.
+    #[test]
+    fn the_port_is_held_to_the_plain_check() {
+        for seed in 1..100 {
+            let p = entered(seed, size_of(seed as usize));
+            let lent = Lent::new(&p).expect("no more types than the Rust has");
+            let with = if p.leads_to_entry() { Requests::ALL } else { Requests::NONE };
+            assert_eq!(differs(&lent, &rounds(&p, with), &lent.wanted()), None, "seed {seed}");
+            assert_eq!(differs(&lent, &rounds(&p, Requests::ALL), &lent.traced(rounds(&p, Requests::ALL))), None, "seed {seed}");
         }
     }
 
