@@ -62,6 +62,7 @@ pub fn along(p: &Picture, chain: &Chain, known: &[Known]) -> Vec<Fact> {
     facts
 }
 
+/// A position that is looked at, and what is known before it.
 struct Position<'a> {
     r: Record,
     at: usize,
@@ -103,14 +104,11 @@ impl Position<'_> {
         }
     }
 
-    /// Add, Sub and Mul of lengths, and Div of a length by a constant above 0.
+    /// Is it Add, Sub or Mul of lengths, or Div of a length by a register that is known as a constant above 0?
     fn counts(&self) -> bool {
-        self.is(&[BIN])
-            && match self.form() {
-                1..=3 => self.length_of(0) && self.length_of(1),
-                4 => self.length_of(0) && matches!(self.known(1), Known::Constant(v) if v > 0),
-                _ => false,
-            }
+        let sums = [1, 2, 3].contains(&self.form()) && self.length_of(1);
+        let divides = self.form() == 4 && matches!(self.known(1), Known::Constant(v) if v > 0);
+        self.is(&[BIN]) && (sums || divides) && self.length_of(0)
     }
 
     /// A Load of anything but a Sig.
@@ -140,29 +138,36 @@ impl Position<'_> {
     }
 
     fn origin(&self) -> Origin {
-        match (self.r.kind(), self.form()) {
-            (ADDR_OF, 0) => Origin::Frame,
-            (ADDR_OF, 2 | 4) => Origin::Ro,
-            (MOVE | INDEX, _) => self.origin_of(0),
-            (SELECT, _) if self.origin_of(1) == self.origin_of(2) => self.origin_of(1),
+        let address = |forms: &[u32]| self.is(&[ADDR_OF]) && forms.contains(&self.form());
+        let into_image = || matches!(self.origin_of(0), Origin::Img(_));
+        if address(&[0]) {
+            Origin::Frame
+        } else if address(&[2, 4]) {
+            Origin::Ro
+        } else if self.is(&[MOVE, INDEX]) || (self.loads() && into_image()) {
             // the pointers inside an image point into it
-            (LOAD, 1..=3) if matches!(self.origin_of(0), Origin::Img(_)) => self.origin_of(0),
-            (ALLOC, _) | (LAYOUT_OF, 0) | (CALL_NATIVE, 2) => Origin::Temp(self.at),
-            (CALL_NATIVE, _) if self.image() => Origin::Img(self.at),
-            (DEREF, _) => Origin::Heap,
-            (_, _) => Origin::Unknown,
+            self.origin_of(0)
+        } else if self.is(&[SELECT]) && self.origin_of(1) == self.origin_of(2) {
+            self.origin_of(1)
+        } else if self.is(&[ALLOC]) || self.lays_out() || (self.is(&[CALL_NATIVE]) && self.form() == 2) {
+            Origin::Temp(self.at)
+        } else if self.image() {
+            Origin::Img(self.at)
+        } else if self.is(&[DEREF]) {
+            Origin::Heap
+        } else {
+            Origin::Unknown
         }
     }
 
     fn length(&self) -> bool {
-        match self.r.kind() {
-            CONST => is_length(whole(&self.r)),
-            MOVE => self.length_of(0),
-            SELECT => self.length_of(1) && self.length_of(2),
+        self.is(&[CMP, F_CMP, BOOL, DOPE_LEN, BOUNDS_LEN])
+            || self.counts()
+            || (self.is(&[CONST]) && is_length(whole(&self.r)))
+            || (self.is(&[MOVE]) && self.length_of(0))
+            || (self.is(&[SELECT]) && self.length_of(1) && self.length_of(2))
             // a word of a layout
-            LOAD => self.loads() && matches!(self.origin_of(0), Origin::Temp(k) if self.before[k].layout),
-            _ => self.is(&[CMP, F_CMP, BOOL, DOPE_LEN, BOUNDS_LEN]) || self.counts(),
-        }
+            || (self.loads() && matches!(self.origin_of(0), Origin::Temp(k) if self.before[k].layout))
     }
 
     /// The memory it reads. Of a Cat, each piece in its list, an address and a count, that is no scalar.

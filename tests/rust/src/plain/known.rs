@@ -25,11 +25,14 @@ pub fn known(p: &Picture) -> Vec<Known> {
 }
 
 fn said_by(r: &Record) -> Known {
-    match (r.kind(), r.form()) {
-        (CONST, _) => Known::Constant(whole(r)),
-        (ADDR_OF, 0) => Known::Frame,
-        (ADDR_OF, 2 | 4) => Known::ReadOnly,
-        (_, _) => Known::Nothing,
+    if r.kind() == CONST {
+        Known::Constant(whole(r))
+    } else if r.kind() == ADDR_OF && r.form() == 0 {
+        Known::Frame
+    } else if r.kind() == ADDR_OF && (r.form() == 2 || r.form() == 4) {
+        Known::ReadOnly
+    } else {
+        Known::Nothing
     }
 }
 
