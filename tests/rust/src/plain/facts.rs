@@ -106,9 +106,9 @@ impl Position<'_> {
 
     /// Is it Add, Sub or Mul of lengths, or Div of a length by a register that is known as a constant above 0?
     fn counts(&self) -> bool {
-        let sums = [1, 2, 3].contains(&self.form()) && self.length_of(1);
-        let divides = self.form() == 4 && matches!(self.known(1), Known::Constant(v) if v > 0);
-        self.is(&[BIN]) && (sums || divides) && self.length_of(0)
+        let sums = || [1, 2, 3].contains(&self.form()) && self.length_of(1);
+        let divides = || self.form() == 4 && matches!(self.known(1), Known::Constant(v) if v > 0);
+        self.is(&[BIN]) && self.length_of(0) && (sums() || divides())
     }
 
     /// A Load of anything but a Sig.
