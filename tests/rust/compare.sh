@@ -1,6 +1,6 @@
 #!/bin/sh
-# Holds the definitions and the port against the Rust of the pass: the table of roles, the oracle against itself and against
-# demand 3, the rows of crate `crossed`, made anew, the layers of the port and the pass over slices, through crate `probe`, the
+# Holds the definitions and the port against the Rust of the pass: the table of roles, the oracle against itself, the plain check
+# and demand 3, the rows of crate `crossed`, made anew, the layers of the port and the pass over slices, through crate `probe`, the
 # host's entry, and what `sinkrounds` prints. See README.md; tests/c calls the entry from C.
 #
 #   compare.sh              needs the Rust; without it, or without cargo or rt, it says so and ends with 2
@@ -10,7 +10,8 @@
 #   compare.sh --live       only prints the times of liveness, as in docs/SPEED.md
 #
 # YAVS_SRC names the folder that holds crates/yavs-ir/src; else shared/docs/src beside the repository is taken.
-# PICTURES and SEED say how many pictures are drawn, and which (4000 and 1); for the port's layers a quarter or an eighth as many.
+# PICTURES and SEED say how many pictures are drawn, and which (4000 and 1); for the plain check and the port's layers a quarter or
+# an eighth as many.
 # SUNK and LARGE say how many go through the host's entry and over slices (10000 and 40).
 set -eu
 sources=${YAVS_SRC:-$(dirname "$0")/../../../shared/docs/src}
@@ -65,6 +66,7 @@ cargo test --release --offline --locked --quiet --features port,host
 
 $compare roles ../../crates/model/specs/Kinds.antt
 $compare selfcheck "${PICTURES:-4000}" "${SEED:-1}"
+$compare plain $((${PICTURES:-4000} / 4)) "${SEED:-1}"
 $compare walks "${PICTURES:-4000}" "${SEED:-1}"
 $compare refusals $((${PICTURES:-4000} / 4)) "${SEED:-1}"
 $compare flow $((${PICTURES:-4000} / 4)) "${SEED:-1}"

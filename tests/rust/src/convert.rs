@@ -85,6 +85,19 @@ pub fn function(p: &Picture, types: &Types) -> Func {
     }
 }
 
+/// The state that a picture is, whose positions stood at these places in the picture lent.
+pub fn state(p: &Picture, types: &Types, places: &[usize]) -> State {
+    let blocks = || (0..p.nblocks()).map(|b| p.places(b));
+    let id = |k: usize| StmtId { loc: p.locs[k], place: places[k] as u32 };
+    State {
+        code: blocks().map(|b| b.map(|k| decode(&p.record(k))).collect()).collect(),
+        loc: blocks().map(|b| b.map(id).collect()).collect(),
+        via: blocks().map(|b| p.vias.get(b).unwrap_or(&[]).to_vec()).collect(),
+        operands: p.ops[..p.opers as usize].iter().map(|&r| Reg(r)).collect(),
+        reg_ty: p.types[..p.regs as usize].iter().map(|&t| types.ty(t)).collect(),
+    }
+}
+
 /// The picture that `state` is, with the room of `lent` past what is in use kept where it holds, and grown where not.
 pub fn picture(lent: &Picture, types: &Types, state: &State) -> Picture {
     let mut p = Picture { pairs: lent.pairs.clone(), targets: lent.targets.clone(), replay: lent.replay.clone(), ..Picture::default() };

@@ -25,6 +25,8 @@ pub mod live;
 pub mod opt;
 pub mod oracle;
 pub mod picture;
+pub mod plain;
+pub mod plaincheck;
 #[cfg(feature = "port")]
 pub mod port;
 pub mod program;

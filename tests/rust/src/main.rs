@@ -6,6 +6,8 @@ use compare::crossed;
 use compare::listing::listing;
 use compare::oracle::{Outcome, oracle_with_work};
 use compare::picture::Picture;
+use compare::plain;
+use compare::plaincheck::plaincheck;
 #[cfg(feature = "port")]
 use compare::{bench, facts, flow, large, live, port, refusals};
 #[cfg(feature = "host")]
@@ -22,7 +24,7 @@ use std::path::Path;
 use std::process::ExitCode;
 
 const USAGE: &str =
-    "compare listing | bytes | rounds | sunk | program PATH | selfcheck | walks N SEED | roles KINDS | crossed FOLDER [ROWS] | vectors FOLDER, with the host's entry: sink N SEED, and with the port's layers: refusals | flow | facts | large N SEED | bench SEED | once port|rust ROW | live SEED | live once SIDE ROW";
+    "compare listing | bytes | rounds | sunk | program PATH | selfcheck | plain | walks N SEED | roles KINDS | crossed FOLDER [ROWS] | vectors FOLDER, with the host's entry: sink N SEED, and with the port's layers: refusals | flow | facts | large N SEED | bench SEED | once port|rust ROW | live SEED | live once SIDE ROW";
 
 /// A picture's code, block by block.
 fn show(what: &str, p: &Picture) {
@@ -152,6 +154,11 @@ fn main() -> ExitCode {
         }
         ["selfcheck", n, seed] => drawn(n, seed, |n, seed| {
             let stats = selfcheck(n, seed);
+            stats.print();
+            stats.missing()
+        }),
+        ["plain", n, seed] => drawn(n, seed, |n, seed| {
+            let stats = plaincheck(n, seed, plain::rounds);
             stats.print();
             stats.missing()
         }),

@@ -1,9 +1,11 @@
-//! The answer that document 01 asks for, from the Rust: what the entry must give for a picture.
+//! The answer that document 01 asks for, from the Rust: what the entry must give for a picture. Where a block leads to block 0,
+//! request 2026-02 parts from the Rust, and the plain check stands in.
 
 use crate::accept;
 use crate::convert::{self, Types};
-use crate::driver::{Entry, Facts, Overview, Pass, Search, State, Trace};
+use crate::driver::{Entry, Facts, Overview, Pass, Round, Search, State, Trace};
 use crate::picture::{Picture, Work};
+use crate::plain::{self, Requests};
 
 #[derive(Clone, Copy, Debug, PartialEq, Eq)]
 pub enum Answer {
@@ -74,9 +76,24 @@ impl<'a> Lent<'a> {
         Pass::searches(&self.program, &self.function, &self.replay, entry)
     }
 
-    /// The rounds that the port is held to.
+    /// The rounds that the port is held to: the Rust's, or the plain check's where a block leads to block 0.
     pub fn wanted(&self) -> Trace {
-        self.rounds(Facts::Lengthened, self.entry)
+        match self.entry {
+            Entry::Blocks => self.rounds(Facts::Lengthened, Entry::Blocks),
+            Entry::Start => self.traced(plain::rounds(self.picture, Requests::ALL)),
+        }
+    }
+
+    /// Rounds of the plain check in the Rust's types.
+    pub fn traced(&self, rounds: Vec<plain::Round>) -> Trace {
+        let mut places: Vec<usize> = (0..self.picture.locs.len()).collect();
+        let traced = rounds.into_iter().map(|r| {
+            // back through this round, then through those before it
+            places = r.was.iter().map(|&was| places[was]).collect();
+            let after = convert::state(&r.after, &self.types, &places);
+            Round { from: r.from, into: r.into, moved: r.members.len(), chain: r.chain, after }
+        });
+        Trace { rounds: traced.collect(), stopped: false }
     }
 
     pub fn picture_of(&self, state: &State) -> Picture {

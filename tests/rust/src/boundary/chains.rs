@@ -6,6 +6,7 @@ pub fn add_all(add: &mut impl FnMut(&str, u32, u32, Picture)) {
     marked(add);
     lists_and_chains(add);
     cats(add);
+    entries(add);
     targets(add);
 }
 
