@@ -8,9 +8,9 @@ use std::collections::BTreeMap;
 
 use crate::accept;
 use crate::damage::DAMAGES;
-use crate::driver::{Search, Told};
+use crate::driver::{Entry, Search, Told};
 use crate::fact::Fact;
-use crate::generate::picture;
+use crate::generate::{entered, picture};
 use crate::kinds::{self, KINDS, Slot};
 use crate::oracle::Lent;
 use crate::picture::{ABSENT, Picture, Record, Work};
@@ -50,6 +50,8 @@ pub struct Stats {
     /// accepted but for the records, 799 of them
     pub few_records: usize,
     pub second_target: usize,
+    /// searches with another target than document 01's, since block 0 was it or a later part of the chain
+    pub parted: usize,
     pub positions: usize,
     pub values: usize,
     /// positions by kind and form
@@ -72,7 +74,7 @@ pub struct Stats {
 
 /// Registers of each origin, by what is written before the instruction that is looked at: unknown, a length, frame, read-only,
 /// heap, a new block, an image, a layout.
-const VALUES: u32 = 8;
+pub const VALUES: u32 = 8;
 /// Two that it may write, and one more.
 const WRITTEN: u32 = VALUES;
 const REGS: u32 = VALUES + 3;
@@ -141,6 +143,10 @@ pub fn facts(n: usize, seed: u64, mut tries: impl Tries) -> Stats {
         let mut rnd = Random::new(this ^ 0xFAC7_5000);
         let p = picture(this, size_of(k));
         stats.compare(&p, &format!("seed {this}"), &mut rnd, &mut tries);
+        if k % 4 == 0 {
+            let p = entered(this, size_of(k / 4));
+            stats.compare(&p, &format!("seed {this}, entered"), &mut rnd, &mut tries);
+        }
         let d = &DAMAGES[k % DAMAGES.len()];
         let mut q = p.clone();
         if (d.deed)(&mut q, &mut rnd) && q != p {
@@ -159,6 +165,10 @@ impl Stats {
             // A damaged picture may use more types than the Rust has.
             let Some(lent) = Lent::new(p) else { return };
             searches = lent.searches(lent.entry);
+            if lent.entry == Entry::Start {
+                let target = |s: &Option<Search>| s.as_ref().and_then(|s| s.target);
+                self.parted += lent.searches(Entry::Blocks).iter().zip(&searches).filter(|(a, b)| target(a) != target(b)).count();
+            }
         }
         self.pictures += usize::from(refused == 0);
         self.refused += usize::from(refused != 0);
@@ -244,6 +254,7 @@ impl Stats {
             (self.none, "searches without a move"),
             (self.passed_over, "blocks that are not looked at"),
             (self.second_target, "moves into f"),
+            (self.parted, "searches with another target than document 01's"),
             (self.no_block, "a block that is none"),
             (self.few_records, "799 records"),
             (self.two_reads, "positions that read two registers"),
@@ -275,6 +286,7 @@ impl Stats {
         println!("facts: the port's search from each block against analyse and plan, {} pictures, {} of one instruction, {} differences", self.pictures, self.singles, self.faults.len());
         println!("refused, nothing written {}, and so where the block is none {}, with 799 records {}", self.refused, self.no_block, self.few_records);
         println!("moves {}, into f {}, members {}, read by the target {}", self.moves, self.second_target, self.members, self.to_the_end);
+        println!("searches with another target than document 01's {}", self.parted);
         println!("searches without a move {}, blocks not looked at {}", self.none, self.passed_over);
         println!("positions {} of {} kinds and forms, classes No, Movable, Free {:?}", self.positions, self.arms.len(), self.classes);
         println!("by {SORTS:?}: values {:?} of {}, memory written {:?}, read {:?}", self.origins, self.values, self.written, self.read);

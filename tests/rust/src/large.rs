@@ -10,7 +10,7 @@ use crate::copies::{copies, spread};
 use crate::damage::DAMAGES;
 use crate::driver::Trace;
 use crate::fact::Fact;
-use crate::generate::{Size, bare};
+use crate::generate::{Size, bare, bare_entered};
 use crate::oracle::{Answer, Lent, Outcome, oracle, oracle_with_work};
 use crate::picture::{Picture, Work};
 use crate::random::Random;
@@ -26,6 +26,9 @@ impl<F: FnMut(&mut Picture, &mut [u64], &mut [u32], &mut [Fact], &mut [u32]) -> 
 pub struct Stats {
     pub pictures: usize,
     pub tally: Tally,
+    /// those where a block leads to block 0, and where that changes the rounds
+    pub entered: usize,
+    pub parted: usize,
     /// runs by number
     pub runs: BTreeMap<u32, usize>,
     /// runs with a word of 64 or of 32 bits too few, or a record, and runs of accepted pictures with just as many records and with more
@@ -44,7 +47,7 @@ pub fn large(n: usize, seed: u64, mut pass: impl Slices) -> Stats {
     for k in 0..n {
         let this = seed.wrapping_mul(1_000_003).wrapping_add(k as u64);
         let mut rnd = Random::new(this ^ 0x1A46_E000);
-        let mut one = bare(this, Size::Large);
+        let mut one = if k % 8 == 2 { bare_entered(this, Size::Large) } else { bare(this, Size::Large) };
         if rnd.chance(25) {
             one = spread(&one, rnd.from_to(60, 2000), &mut rnd);
         }
@@ -113,7 +116,10 @@ impl Stats {
 
     /// An accepted picture, with every room that says something.
     fn accepted(&mut self, p: &Picture, name: &str, rnd: &mut Random, pass: &mut impl Slices) -> Trace {
-        let trace = Lent::new(p).expect("no more types than the Rust has").wanted();
+        let lent = Lent::new(p).expect("no more types than the Rust has");
+        let trace = lent.wanted();
+        self.entered += usize::from(p.leads_to_entry());
+        self.parted += usize::from(lent.parts_from_document_01(&trace));
         let longest = trace.rounds.last().map_or(0, |r| r.after.operands.len());
         let most = (p.types.len() + 500, (p.ops.len() + 3000).max(longest + 1));
         for room in rooms(p, &trace, most, rnd) {
@@ -197,6 +203,7 @@ impl Stats {
         };
         want(self.faults.is_empty(), "no fault");
         want(self.tally.chains.keys().any(|&n| n > 1) && self.tally.moved > 0, "rounds, and chains of several blocks");
+        want(self.entered > 0 && self.parted > 0, "pictures where a block leads to block 0, and where that changes the rounds");
         want(self.tally.after_one.iter().all(|n| *n > 0), "of pictures after one round: targets before x, empty ones, Sig, long shared lists");
         want(self.tally.short_registers > 0 && self.tally.short_operands > 0, "Short by one register and by one operand");
         want(self.short_work.iter().all(|n| *n > 0), "work slices a word short, and 799 records");
@@ -210,6 +217,7 @@ impl Stats {
         println!("large: the pass over slices against the Rust, {} pictures, {} runs, {} differences", self.pictures, self.runs.values().sum::<usize>(), self.faults.len());
         println!("runs by number {:?}", self.runs);
         println!("short of a 64-bit word, a 32-bit word, a record {:?}; accepted with 800 records, with more {:?}", self.short_work, self.records);
+        println!("pictures where a block leads to block 0 {}, of other rounds than document 01's {}", self.entered, self.parted);
         let [instructions, blocks, registers] = self.most;
         println!("at most, with a round: {instructions} instructions, {blocks} blocks, {registers} registers");
         println!("of those accepted, once for each room lent:");

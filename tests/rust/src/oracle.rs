@@ -84,6 +84,12 @@ impl<'a> Lent<'a> {
         }
     }
 
+    /// Does a block lead to block 0, and do the rounds differ from document 01's for that reason?
+    pub fn parts_from_document_01(&self, wanted: &Trace) -> bool {
+        let told = |t: &Trace| t.rounds.iter().map(|r| (r.from, r.into, r.moved)).collect::<Vec<_>>();
+        self.entry == Entry::Start && told(wanted) != told(&self.rounds(Facts::Lengthened, Entry::Blocks))
+    }
+
     /// Rounds of the plain check in the Rust's types.
     pub fn traced(&self, rounds: Vec<plain::Round>) -> Trace {
         let mut places: Vec<usize> = (0..self.picture.locs.len()).collect();

@@ -7,7 +7,9 @@ use crate::accept;
 use crate::boundary;
 use crate::damage::DAMAGES;
 use crate::driver::{Entry, Facts, Trace};
+use crate::facts::{VALUES, single};
 use crate::generate::{entered, picture};
+use crate::kinds::KINDS;
 use crate::oracle::Lent;
 use crate::picture::Picture;
 use crate::plain::{Requests, Round};
@@ -24,6 +26,7 @@ pub enum Source {
     Entered,
     Damaged,
     Boundary,
+    Single,
 }
 
 #[derive(Default)]
@@ -54,6 +57,16 @@ pub fn plaincheck(n: usize, seed: u64, plain: impl Plain) -> Stats {
     for (name, p) in boundary::boundaries().into_iter().map(|b| (b.name, b.picture)).chain(large).chain(largest) {
         if accept::refusal(&p, p.work()) == 0 {
             stats.check(Source::Boundary, &p, &name, &plain);
+        }
+    }
+    // Each kind and form over registers of each origin.
+    for (k, kind) in KINDS.iter().enumerate() {
+        for form in kind.forms.0..=kind.forms.1 {
+            for first in 0..VALUES {
+                let mut p = single(k as u32, form, first, (first + 3) % VALUES);
+                p.replay = vec![1];
+                stats.check(Source::Single, &p, &format!("{} at form {form}, register {first}", kind.name), &plain);
+            }
         }
     }
     for k in 0..n {
@@ -118,7 +131,7 @@ impl Stats {
             }
         };
         want(self.faults.is_empty(), "no fault");
-        want(self.pictures.len() == 4, "generated, entered and damaged pictures, and those at the bounds");
+        want(self.pictures.len() == 5, "generated, entered and damaged pictures, those at the bounds, and each kind alone");
         want(self.rounds[0] > 0 && self.rounds[1] > 0, "rounds");
         want(self.entered > 0, "pictures where a block leads to block 0");
         want(self.changed > 0, "pictures where the request changes the rounds");

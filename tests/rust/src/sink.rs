@@ -8,7 +8,7 @@ use crate::boundary::boundaries;
 use crate::bytes::{self, Hosted, OPERANDS, REGISTERS, RESULT, fits, loose_bytes};
 use crate::copies::spread;
 use crate::damage::{DAMAGES, alter, any_words, damage_again};
-use crate::generate::bare;
+use crate::generate::{bare, bare_entered};
 use crate::oracle::{Answer, Lent, Outcome, oracle_with_work};
 use crate::picture::Picture;
 use crate::random::Random;
@@ -50,6 +50,9 @@ pub struct Stats {
     pub pictures: usize,
     /// of the pictures at the bounds, and of the generated ones, once for each room
     pub tally: Tally,
+    /// those of the generated ones where a block leads to block 0, and where that changes the rounds
+    pub entered: usize,
+    pub parted: usize,
     /// runs by number and source
     pub runs: BTreeMap<(u32, Source), usize>,
     /// accepted pictures of more types than the Rust has
@@ -73,6 +76,10 @@ pub fn sink(n: usize, seed: u64, mut entry: impl Entry) -> Stats {
         }
         stats.generated(&p, &format!("seed {this} {:?}", size_of(k)), &mut rnd, &mut entry);
         stats.damaged(&p, k, &format!("seed {this}"), &mut rnd, &mut entry);
+        if k % 4 == 0 {
+            let p = bare_entered(this, size_of(k / 4));
+            stats.generated(&p, &format!("seed {this} {:?}, entered", size_of(k / 4)), &mut rnd, &mut entry);
+        }
     }
     stats
 }
@@ -153,7 +160,10 @@ impl Stats {
             let lending = Lending { bytes, registers: REGISTERS as u32, operands: OPERANDS as u32, result: RESULT };
             return self.run(Source::Generated, name, lending, (300, None), entry);
         }
-        let trace = Lent::new(p).expect("no more types than the Rust has").wanted();
+        let lent = Lent::new(p).expect("no more types than the Rust has");
+        let trace = lent.wanted();
+        self.entered += usize::from(p.leads_to_entry());
+        self.parted += usize::from(lent.parts_from_document_01(&trace));
         for (registers, operands) in rooms(p, &trace, (REGISTERS, OPERANDS), rnd) {
             let q = bytes::from_bytes(&bytes, registers, operands).expect("a picture within the program's sizes");
             let outcome = match accept::refusal(&q, q.work()) {
@@ -234,6 +244,9 @@ impl Stats {
         if !self.faults.is_empty() {
             out.push("no fault".to_string());
         }
+        if self.entered == 0 || self.parted == 0 {
+            out.push("generated pictures where a block leads to block 0, and where that changes the rounds".to_string());
+        }
         if self.tally.after_one.contains(&0) {
             out.push("of pictures after one round: targets before x, empty ones, Sig, long shared lists".to_string());
         }
@@ -262,6 +275,7 @@ impl Stats {
             println!("{name:<10}{}", SOURCES.map(|s| format!("{:>11}", self.of(n, s))).join("").split_off(3));
         }
         println!("accepted, with more types than the Rust has {}", self.without_equal);
+        println!("generated pictures where a block leads to block 0 {}, of other rounds than document 01's {}", self.entered, self.parted);
         println!("of those generated, once for each room lent, and at the bounds:");
         self.tally.print();
         for f in self.faults.iter().take(20) {

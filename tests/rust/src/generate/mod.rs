@@ -21,9 +21,14 @@ pub fn picture(seed: u64, size: Size) -> Picture {
 /// A picture of the same shapes whose block 0 is led to, more often than not: as where a chain begins, as a later part of one, as a
 /// target (request 2026-02). The room is that for the rounds of that request.
 pub fn entered(seed: u64, size: Size) -> Picture {
+    with_room(bare_entered(seed, size), Entry::Start, &mut Random::new(seed ^ 0x5EED_0F_2602))
+}
+
+/// The same picture, with no room past what is in use.
+pub fn bare_entered(seed: u64, size: Size) -> Picture {
     let mut d = shapes::draw(Draft::new(seed, size));
     let first = d.first();
-    with_room(d.finish_from(first), Entry::Start, &mut Random::new(seed ^ 0x5EED_0F_2602))
+    d.finish_from(first)
 }
 
 /// The same picture, with no room past what is in use.
