@@ -1,5 +1,6 @@
--- What the definitions give for pictures that the Rust has run: the same answers, lines and whole pictures, by computation,
--- page by page. Printed with the pages by `compare crossed` in tests/rust. Assumes nothing.
+-- What the definitions give for pictures that the Rust has run, or tests/rust's plain check where a block leads to block 0
+-- (request 2026-02): the same answers, lines and whole pictures, by computation, page by page. Printed with the pages by
+-- `compare crossed` in tests/rust. Assumes nothing.
 use mathlib.Core.Path.{◌≡◌, refl}
 use mathlib.Core.List.{map}
 use Rattle.model.specs.Pass.{Outcome, sink}

@@ -1,13 +1,13 @@
--- Pictures by seed and what the Rust makes of them, page 1: of the first 4000 seeds of the generator, those that show
+-- Pictures by seed and what the Rust makes of them (see proofs/Crossed), page 1: of the first 4000 seeds of the generator, those that show
 -- something new. Printed by
 -- `compare crossed` in tests/rust, and again by its compare.sh: not to be edited. Assumes nothing.
 use Rattle.std.specs.Prelude.{List, [], ◌∷◌, ◌++◌, replicate}
 use Rattle.words.specs.Lists.{range, upto}
-use Rattle.model.specs.Kinds.{AddrOf, Alloc, ArrCmp, Bin, BoolOp, BoundsLen, Br, CallForeign, CallIndirect, CallNative}
-use Rattle.model.specs.Kinds.{Case, Cat, Check, Cmp, CondBr, Const, ConstF, Cover, DopeLen, Edge}
-use Rattle.model.specs.Kinds.{FCheck, IToF, Index, LFill, LGet, LayoutOf, Load, MakeDope, Move, Now}
-use Rattle.model.specs.Kinds.{Output, Pos, Report, Ret, Select, SigDrivingValue, SigRead, SigReadScalar, SigVal, Store}
-use Rattle.model.specs.Kinds.{Suspend, Un, Unreachable}
+use Rattle.model.specs.Kinds.{AddrOf, Alloc, ArrCmp, Bin, BoolOp, BoundsLen, BoundsSlice, Br, CallForeign, CallIndirect}
+use Rattle.model.specs.Kinds.{CallNative, Case, Cat, Check, Cmp, CondBr, Const, ConstF, Cover, Deref}
+use Rattle.model.specs.Kinds.{DopeLen, Edge, FCheck, IToF, Index, LFill, LGet, LayoutOf, Load, MakeDope}
+use Rattle.model.specs.Kinds.{Move, Now, Output, Pos, Report, Ret, Select, SigDrivingValue, SigRead, SigReadScalar}
+use Rattle.model.specs.Kinds.{SigVal, Store, Suspend, Un, Unreachable}
 use Rattle.model.specs.Picture.{absent}
 use Rattle.model.specs.Build.{op}
 use Rattle.crossed.specs.Row.{Row, pic, at, registers, operands, beside, op0, op1, op2, op3, op4, op5, br, fork, const, moves, stays, done, short}
@@ -260,24 +260,18 @@ s29 =
     (0 ∷ 3 ∷ 1 ∷ 0 ∷ 3 ∷ 4 ∷ 0 ∷ 1 ∷ 0 ∷ 0 ∷ 0 ∷ 4 ∷ 0 ∷ 0 ∷ 3 ∷ 9 ∷ 77 ∷ 77 ∷ [])) (operands 2 (8 ∷ 10 ∷ 999 ∷ absent
     ∷ 999 ∷ [])) (beside [] [] (3 ∷ [])))
 
--- seed 30: a register reused, chain of 6, done 1, moves with replay, moves without vias, new Sig, new list, target
--- after x, target t
-abbrev pub s30 : Row
-s30 =
-    moves (pic ((const 6 9 ∷ op AddrOf 2 (7 ∷ []) [] [] ∷ op2 Alloc 3 6 ∷ op Cat 0 (3 ∷ 6 ∷ 6 ∷ []) (0 ∷ 2 ∷ []) []
-    ∷ op Bin 1 (4 ∷ 6 ∷ 6 ∷ []) [] [] ∷ op2 Alloc 2 4 ∷ op Bin 1 (5 ∷ 4 ∷ 6 ∷ []) [] [] ∷ br 6 ∷ []) ∷ (br 3 ∷ [])
-    ∷ (br 8 ∷ []) ∷ (op CondBr 0 (1 ∷ []) [] (9 ∷ 7 ∷ 1 ∷ 7 ∷ 0 ∷ 4 ∷ 5 ∷ []) ∷ []) ∷ (op0 Ret ∷ []) ∷ (op2 Output 1 1
-    ∷ op2 Output 1 1 ∷ []) ∷ (br 2 ∷ []) ∷ (op ConstF 0 (1 ∷ []) [] (1800062889 ∷ 1116037728 ∷ []) ∷ fork 1 5 4 ∷ [])
-    ∷ (br 1 ∷ []) ∷ (op1 Ret 1 ∷ []) ∷ []) (at (upto 19) []) (registers 8 (1 ∷ 3 ∷ 0 ∷ 0 ∷ 4 ∷ 0 ∷ 1 ∷ 7 ∷ 7 ∷ 7 ∷ 9
-    ∷ [])) (operands 2 (3 ∷ 3 ∷ replicate 5 absent ++ 0 ∷ [])) (beside [] [] (4 ∷ 7 ∷ []))) 62 8248 800 (done 1 11 4)
-    ((1 ∷ 0 ∷ 9 ∷ 5 ∷ 11 ∷ 4 ∷ []) ∷ [])
-    (pic ((const 6 9 ∷ op AddrOf 2 (7 ∷ []) [] [] ∷ br 6 ∷ []) ∷ (br 3 ∷ []) ∷ (br 8 ∷ []) ∷ (op CondBr 0 (1 ∷ []) []
-    (9 ∷ 7 ∷ 1 ∷ 7 ∷ 0 ∷ 4 ∷ 5 ∷ []) ∷ []) ∷ (op0 Ret ∷ []) ∷ (op2 Output 1 1 ∷ op2 Output 1 1 ∷ []) ∷ (br 2 ∷ [])
-    ∷ (op ConstF 0 (1 ∷ []) [] (1800062889 ∷ 1116037728 ∷ []) ∷ fork 1 5 4 ∷ []) ∷ (br 1 ∷ []) ∷ (op2 Alloc 8 6
-    ∷ op Cat 0 (8 ∷ 6 ∷ 6 ∷ []) (2 ∷ 2 ∷ []) [] ∷ op Bin 1 (9 ∷ 6 ∷ 6 ∷ []) [] [] ∷ op2 Alloc 8 9 ∷ op Bin 1 (8 ∷ 9
-    ∷ 6 ∷ []) [] [] ∷ op1 Ret 1 ∷ []) ∷ []) (at (0 ∷ 1 ∷ range 7 11 ++ range 2 5 ++ 18 ∷ []) []) (registers 11 (1 ∷ 3
-    ∷ 0 ∷ 0 ∷ 4 ∷ 0 ∷ 1 ∷ 7 ∷ 0 ∷ 4 ∷ 0 ∷ [])) (operands 4 (3 ∷ 3 ∷ 8 ∷ 8 ∷ absent ∷ absent ∷ absent ∷ 0 ∷ []))
-    (beside [] [] (4 ∷ 7 ∷ [])))
+-- seed 31: a seventh block decides, done 0, the start of the function decides
+abbrev pub s31 : Row
+s31 =
+    stays (pic ((br 2 ∷ []) ∷ (op Br 0 [] [] (0 ∷ 2 ∷ 5 ∷ 3 ∷ 5 ∷ 4 ∷ 1 ∷ []) ∷ []) ∷ (br 3 ∷ []) ∷ (op CondBr 0 (0
+    ∷ []) [] (5 ∷ 7 ∷ 1 ∷ 0 ∷ 4 ∷ 5 ∷ 4 ∷ []) ∷ []) ∷ (op Br 0 [] [] (1 ∷ 0 ∷ 8 ∷ 2 ∷ 2 ∷ 1 ∷ 1 ∷ []) ∷ [])
+    ∷ (op2 Deref 1 7 ∷ []) ∷ (const 7 64 ∷ op CallNative 1 (5 ∷ []) (0 ∷ 1 ∷ []) [] ∷ op Move 0 (6 ∷ 5 ∷ []) [] (7 ∷ 4
+    ∷ 4 ∷ 4 ∷ 4 ∷ 7 ∷ 3 ∷ []) ∷ op Alloc 0 (2 ∷ 7 ∷ []) [] (1 ∷ 6 ∷ 1 ∷ 4 ∷ 5 ∷ 5 ∷ 5 ∷ []) ∷ op Cat 0 (2 ∷ 7 ∷ 7
+    ∷ []) (2 ∷ []) (0 ∷ 0 ∷ 6 ∷ 6 ∷ 3 ∷ 5 ∷ 3 ∷ []) ∷ op Load 2 (4 ∷ 6 ∷ []) [] [] ∷ op2 SigRead 2 0 ∷ op3 Cmp 3 7 5
+    ∷ op Bin 1 (2 ∷ 3 ∷ 3 ∷ []) [] [] ∷ op CallNative 1 (2 ∷ []) (2 ∷ 1 ∷ []) (4 ∷ 7 ∷ 6 ∷ 0 ∷ 2 ∷ 0 ∷ 2 ∷ [])
+    ∷ op Bin 2 (3 ∷ 3 ∷ 7 ∷ []) [] [] ∷ br 4 ∷ []) ∷ [] ∷ []) (at (upto 18) []) (registers 8 (0 ∷ 0 ∷ 0 ∷ 7 ∷ 5 ∷ 0
+    ∷ 4 ∷ 4 ∷ 7 ∷ 7 ∷ 77 ∷ 7 ∷ 9 ∷ 77 ∷ 9 ∷ [])) (operands 3 (7 ∷ 0 ∷ 2 ∷ absent ∷ [])) (beside [] [] [])) 62 8248 800
+    (done 0 8 3)
 
 -- seed 32: a register reused, chain of 1, moves with vias, moves without replay, new Sig, new list, rule 2 decides,
 -- short 1, short by an operand, target after x, target t
@@ -361,7 +355,26 @@ s37 =
     ∷ [])) (registers 14 (1 ∷ 1 ∷ 4 ∷ 0 ∷ 1 ∷ 1 ∷ 0 ∷ 1 ∷ 4 ∷ 1 ∷ 0 ∷ 4 ∷ 0 ∷ 0 ∷ 9 ∷ 77 ∷ 77 ∷ 7 ∷ [])) (operands 1
     (5 ∷ 999 ∷ absent ∷ 0 ∷ absent ∷ [])) (beside [] [] []))
 
+-- seed 39: 2 members are too few, chain of 4, done 1, moves with replay, moves without vias, new Sig, new list, rule
+-- 2 decides, target after x, target f, target's list renamed
+abbrev pub s39 : Row
+s39 =
+    moves (pic ((const 8 9 ∷ op AddrOf 1 (9 ∷ []) [] (7 ∷ 6 ∷ 8 ∷ 8 ∷ 6 ∷ 4 ∷ 1 ∷ []) ∷ br 2 ∷ []) ∷ (br 7 ∷ [])
+    ∷ (op2 Move 2 8 ∷ op Move 0 (3 ∷ 8 ∷ []) [] (3 ∷ 8 ∷ 5 ∷ 6 ∷ 5 ∷ 1 ∷ 3 ∷ []) ∷ op2 SigReadScalar 4 3 ∷ br 4 ∷ [])
+    ∷ (op BoundsSlice 0 (1 ∷ []) (0 ∷ 2 ∷ []) [] ∷ op CondBr 0 (0 ∷ []) [] (6 ∷ 5 ∷ 4 ∷ 5 ∷ 8 ∷ 2 ∷ []) ∷ []) ∷ (br 1
+    ∷ []) ∷ (op2 Output 0 0 ∷ op2 Output 1 1 ∷ []) ∷ (op3 Pos 1 8 0 ∷ []) ∷ (fork 8 9 3 ∷ []) ∷ (op3 Cat 1 1 1 ∷ [])
+    ∷ (op0 Ret ∷ []) ∷ []) (at (upto 17) []) (registers 10 (4 ∷ 0 ∷ 0 ∷ 0 ∷ 4 ∷ 0 ∷ 4 ∷ 2 ∷ 4 ∷ 4 ∷ 9 ∷ 77 ∷ 77 ∷ 7
+    ∷ 7 ∷ 77 ∷ 9 ∷ [])) (operands 2 (8 ∷ 2 ∷ 999 ∷ 0 ∷ [])) (beside [] [] (6 ∷ 3 ∷ []))) 74 8296 800 (done 1 14 4) ((1
+    ∷ 2 ∷ 3 ∷ 3 ∷ 14 ∷ 4 ∷ []) ∷ [])
+    (pic ((const 8 9 ∷ op AddrOf 1 (9 ∷ []) [] (7 ∷ 6 ∷ 8 ∷ 8 ∷ 6 ∷ 4 ∷ 1 ∷ []) ∷ br 2 ∷ []) ∷ (br 7 ∷ []) ∷ (br 4
+    ∷ []) ∷ (op2 Move 10 8 ∷ op Move 0 (11 ∷ 8 ∷ []) [] (3 ∷ 8 ∷ 5 ∷ 6 ∷ 5 ∷ 1 ∷ 3 ∷ []) ∷ op2 SigReadScalar 12 11
+    ∷ op BoundsSlice 0 (1 ∷ []) (2 ∷ 2 ∷ []) [] ∷ op CondBr 0 (0 ∷ []) [] (6 ∷ 5 ∷ 4 ∷ 5 ∷ 8 ∷ 2 ∷ []) ∷ []) ∷ (br 1
+    ∷ []) ∷ (op2 Output 0 0 ∷ op2 Output 1 1 ∷ []) ∷ (op3 Pos 1 8 0 ∷ []) ∷ (fork 8 9 3 ∷ []) ∷ (op3 Cat 1 1 1 ∷ [])
+    ∷ (op0 Ret ∷ []) ∷ []) (at (0 ∷ 1 ∷ 2 ∷ 3 ∷ 7 ∷ 4 ∷ 5 ∷ 6 ∷ range 8 9) []) (registers 14 (4 ∷ 0 ∷ 0 ∷ 0 ∷ 4 ∷ 0
+    ∷ 4 ∷ 2 ∷ 4 ∷ 4 ∷ 0 ∷ 0 ∷ 4 ∷ 0 ∷ 7 ∷ 77 ∷ 9 ∷ [])) (operands 4 (8 ∷ 2 ∷ 8 ∷ 10 ∷ [])) (beside [] [] (6 ∷ 3
+    ∷ [])))
+
 abbrev pub rows1 : List Row
 rows1 =
-    s1 ∷ s2 ∷ s3 ∷ s4 ∷ s5 ∷ s9 ∷ s10 ∷ s12 ∷ s15 ∷ s16 ∷ s17 ∷ s21 ∷ s22 ∷ s25 ∷ s28 ∷ s29 ∷ s30 ∷ s32 ∷ s35 ∷ s36
-    ∷ s37 ∷ []
+    s1 ∷ s2 ∷ s3 ∷ s4 ∷ s5 ∷ s9 ∷ s10 ∷ s12 ∷ s15 ∷ s16 ∷ s17 ∷ s21 ∷ s22 ∷ s25 ∷ s28 ∷ s29 ∷ s31 ∷ s32 ∷ s35 ∷ s36
+    ∷ s37 ∷ s39 ∷ []

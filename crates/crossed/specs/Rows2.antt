@@ -1,35 +1,16 @@
--- Pictures by seed and what the Rust makes of them, page 2: of the first 4000 seeds of the generator, those that show
+-- Pictures by seed and what the Rust makes of them (see proofs/Crossed), page 2: of the first 4000 seeds of the generator, those that show
 -- something new. Printed by
 -- `compare crossed` in tests/rust, and again by its compare.sh: not to be edited. Assumes nothing.
 use Rattle.std.specs.Prelude.{List, [], ◌∷◌, ◌++◌, replicate}
 use Rattle.words.specs.Lists.{range, upto}
-use Rattle.model.specs.Kinds.{AddrOf, Alloc, Bin, BinRange, BoolOp, BoundsLen, BoundsSlice, Br, Call, CallIndirect}
-use Rattle.model.specs.Kinds.{CallNative, CallProt, Case, Cat, Check, Cmp, CondBr, Const, ConstF, Cover}
-use Rattle.model.specs.Kinds.{Deref, DopeLen, Edge, FBin, FCheck, FCmp, Field, Fill, IToF, Index}
-use Rattle.model.specs.Kinds.{LGet, LayoutOf, Load, LogicOp, MakeDope, Move, Now, Output, Pos, Report}
-use Rattle.model.specs.Kinds.{Ret, Select, SigReadScalar, SigVal, Store, Un, Unreachable, WaitAt, WaitOn}
+use Rattle.model.specs.Kinds.{AddrOf, Alloc, Bin, BinRange, BoolOp, BoundsLen, Br, Call, CallIndirect, CallNative}
+use Rattle.model.specs.Kinds.{CallProt, Case, Cat, Check, Cmp, CondBr, Const, ConstF, Cover, Deref}
+use Rattle.model.specs.Kinds.{DopeLen, Edge, FBin, FCheck, FCmp, Field, Fill, IToF, Index, LGet}
+use Rattle.model.specs.Kinds.{LayoutOf, Load, LogicOp, MakeDope, Move, Now, Output, Pos, Report, Ret}
+use Rattle.model.specs.Kinds.{Select, SigRead, SigReadScalar, SigVal, Store, Un, Unreachable, WaitAt, WaitOn}
 use Rattle.model.specs.Picture.{absent}
 use Rattle.model.specs.Build.{op}
 use Rattle.crossed.specs.Row.{Row, pic, at, registers, operands, beside, op0, op1, op2, op3, op4, op5, br, fork, const, moves, stays, done, short}
-
--- seed 39: 2 members are too few, chain of 4, done 1, moves with replay, moves without vias, new Sig, new list, rule
--- 2 decides, target after x, target f, target's list renamed
-abbrev pub s39 : Row
-s39 =
-    moves (pic ((const 8 9 ∷ op AddrOf 1 (9 ∷ []) [] (7 ∷ 6 ∷ 8 ∷ 8 ∷ 6 ∷ 4 ∷ 1 ∷ []) ∷ br 2 ∷ []) ∷ (br 7 ∷ [])
-    ∷ (op2 Move 2 8 ∷ op Move 0 (3 ∷ 8 ∷ []) [] (3 ∷ 8 ∷ 5 ∷ 6 ∷ 5 ∷ 1 ∷ 3 ∷ []) ∷ op2 SigReadScalar 4 3 ∷ br 4 ∷ [])
-    ∷ (op BoundsSlice 0 (1 ∷ []) (0 ∷ 2 ∷ []) [] ∷ op CondBr 0 (0 ∷ []) [] (6 ∷ 5 ∷ 4 ∷ 5 ∷ 8 ∷ 2 ∷ []) ∷ []) ∷ (br 1
-    ∷ []) ∷ (op2 Output 0 0 ∷ op2 Output 1 1 ∷ []) ∷ (op3 Pos 1 8 0 ∷ []) ∷ (fork 8 9 3 ∷ []) ∷ (op3 Cat 1 1 1 ∷ [])
-    ∷ (op0 Ret ∷ []) ∷ []) (at (upto 17) []) (registers 10 (4 ∷ 0 ∷ 0 ∷ 0 ∷ 4 ∷ 0 ∷ 4 ∷ 2 ∷ 4 ∷ 4 ∷ 9 ∷ 77 ∷ 77 ∷ 7
-    ∷ 7 ∷ 77 ∷ 9 ∷ [])) (operands 2 (8 ∷ 2 ∷ 999 ∷ 0 ∷ [])) (beside [] [] (6 ∷ 3 ∷ []))) 74 8296 800 (done 1 14 4) ((1
-    ∷ 2 ∷ 3 ∷ 3 ∷ 14 ∷ 4 ∷ []) ∷ [])
-    (pic ((const 8 9 ∷ op AddrOf 1 (9 ∷ []) [] (7 ∷ 6 ∷ 8 ∷ 8 ∷ 6 ∷ 4 ∷ 1 ∷ []) ∷ br 2 ∷ []) ∷ (br 7 ∷ []) ∷ (br 4
-    ∷ []) ∷ (op2 Move 10 8 ∷ op Move 0 (11 ∷ 8 ∷ []) [] (3 ∷ 8 ∷ 5 ∷ 6 ∷ 5 ∷ 1 ∷ 3 ∷ []) ∷ op2 SigReadScalar 12 11
-    ∷ op BoundsSlice 0 (1 ∷ []) (2 ∷ 2 ∷ []) [] ∷ op CondBr 0 (0 ∷ []) [] (6 ∷ 5 ∷ 4 ∷ 5 ∷ 8 ∷ 2 ∷ []) ∷ []) ∷ (br 1
-    ∷ []) ∷ (op2 Output 0 0 ∷ op2 Output 1 1 ∷ []) ∷ (op3 Pos 1 8 0 ∷ []) ∷ (fork 8 9 3 ∷ []) ∷ (op3 Cat 1 1 1 ∷ [])
-    ∷ (op0 Ret ∷ []) ∷ []) (at (0 ∷ 1 ∷ 2 ∷ 3 ∷ 7 ∷ 4 ∷ 5 ∷ 6 ∷ range 8 9) []) (registers 14 (4 ∷ 0 ∷ 0 ∷ 0 ∷ 4 ∷ 0
-    ∷ 4 ∷ 2 ∷ 4 ∷ 4 ∷ 0 ∷ 0 ∷ 4 ∷ 0 ∷ 7 ∷ 77 ∷ 9 ∷ [])) (operands 4 (8 ∷ 2 ∷ 8 ∷ 10 ∷ [])) (beside [] [] (6 ∷ 3
-    ∷ [])))
 
 -- seed 40: done 0, rule 1 decides, rule 3 decides
 abbrev pub s40 : Row
@@ -232,6 +213,29 @@ s95 =
     ∷ range 3 5 ++ range 11 5) []) (registers 19 (0 ∷ 0 ∷ 3 ∷ 4 ∷ 1 ∷ 0 ∷ 4 ∷ 1 ∷ 0 ∷ 0 ∷ 3 ∷ 4 ∷ 0 ∷ 3 ∷ 4 ∷ 0 ∷ 3
     ∷ 4 ∷ 0 ∷ [])) (operands 0 []) (beside [] [] (8 ∷ 6 ∷ 4 ∷ [])))
 
+-- seed 148: a register reused, chain of 1, moves with vias, moves without replay, new list, short 1, short by a
+-- register, target before x, target f, the start of the function decides
+abbrev pub s148 : Row
+s148 =
+    moves (pic ((op3 FCheck 0 0 0 ∷ op Case 0 (1 ∷ []) [] (91 ∷ []) ∷ []) ∷ (fork 1 4 3 ∷ []) ∷ (op Const 0 (8
+    ∷ []) [] (0 ∷ 0 ∷ 2 ∷ 5 ∷ 1 ∷ 5 ∷ []) ∷ op AddrOf 3 (9 ∷ []) [] [] ∷ op1 Ret 8 ∷ []) ∷ (op Unreachable 0 [] [] (3
+    ∷ 0 ∷ 6 ∷ 0 ∷ 1 ∷ 7 ∷ []) ∷ []) ∷ (op3 Cmp 6 8 8 ∷ op2 Alloc 7 6 ∷ op Cat 0 (7 ∷ 8 ∷ 8 ∷ []) (0 ∷ 4 ∷ []) (0 ∷ 8
+    ∷ 8 ∷ 1 ∷ 5 ∷ 8 ∷ 3 ∷ []) ∷ op Bin 4 (5 ∷ 8 ∷ 8 ∷ []) [] [] ∷ op Load 1 (2 ∷ 7 ∷ []) [] [] ∷ op Store 3 (7 ∷ 7
+    ∷ []) [] [] ∷ op Cat 0 (7 ∷ 8 ∷ 5 ∷ []) (4 ∷ 4 ∷ []) (7280 ∷ []) ∷ op2 Alloc 3 6 ∷ op Load 2 (4 ∷ 3 ∷ []) [] []
+    ∷ op2 Alloc 7 6 ∷ op2 SigRead 3 0 ∷ fork 8 0 1 ∷ []) ∷ []) (at (upto 19) (0 ∷ 0 ∷ 9 ∷ 46 ∷ 0 ∷ 0 ∷ 0 ∷ 11 ∷ 0 ∷ 6
+    ∷ 0 ∷ 0 ∷ 0 ∷ 0 ∷ 11 ∷ 0 ∷ 0 ∷ 48 ∷ 0 ∷ [])) (registers 10 (4 ∷ 4 ∷ 0 ∷ 0 ∷ 1 ∷ 0 ∷ 2 ∷ 7 ∷ 0 ∷ 1 ∷ 77 ∷ 9 ∷ 77
+    ∷ 9 ∷ [])) (operands 8 (7 ∷ 8 ∷ 7 ∷ 6 ∷ 7 ∷ 6 ∷ 7 ∷ 6 ∷ 999 ∷ 0 ∷ 999 ∷ 999 ∷ 0 ∷ 999 ∷ absent ∷ absent ∷ []))
+    (beside [] [] [])) 48 8192 800 (short 1 14 16) ((1 ∷ 4 ∷ 1 ∷ 10 ∷ 14 ∷ 16 ∷ []) ∷ [])
+    (pic ((op3 FCheck 0 0 0 ∷ op Case 0 (1 ∷ []) [] (91 ∷ []) ∷ []) ∷ (op3 Cmp 10 8 8 ∷ op2 Alloc 11 10 ∷ op Cat 0 (11
+    ∷ 8 ∷ 8 ∷ []) (8 ∷ 4 ∷ []) (0 ∷ 8 ∷ 8 ∷ 1 ∷ 5 ∷ 8 ∷ 3 ∷ []) ∷ op Load 1 (12 ∷ 11 ∷ []) [] [] ∷ op Store 3 (11 ∷ 11
+    ∷ []) [] [] ∷ op Cat 0 (11 ∷ 8 ∷ 5 ∷ []) (12 ∷ 4 ∷ []) (7280 ∷ []) ∷ op2 Alloc 12 10 ∷ op Load 2 (13 ∷ 12
+    ∷ []) [] [] ∷ op2 Alloc 11 10 ∷ op2 SigRead 12 0 ∷ fork 1 4 3 ∷ []) ∷ (op Const 0 (8 ∷ []) [] (0 ∷ 0 ∷ 2 ∷ 5 ∷ 1
+    ∷ 5 ∷ []) ∷ op AddrOf 3 (9 ∷ []) [] [] ∷ op1 Ret 8 ∷ []) ∷ (op Unreachable 0 [] [] (3 ∷ 0 ∷ 6 ∷ 0 ∷ 1 ∷ 7 ∷ [])
+    ∷ []) ∷ (op Bin 4 (5 ∷ 8 ∷ 8 ∷ []) [] [] ∷ fork 8 0 1 ∷ []) ∷ []) (at (0 ∷ 1 ∷ 7 ∷ 8 ∷ 9
+    ∷ range 11 7 ++ range 2 5 ++ 10 ∷ 18 ∷ []) (0 ∷ 0 ∷ 11 ∷ 0 ∷ 6 ∷ 0 ∷ 0 ∷ 0 ∷ 11 ∷ 0 ∷ 0 ∷ 48 ∷ 9 ∷ 46
+    ∷ replicate 5 0)) (registers 14 (4 ∷ 4 ∷ 0 ∷ 0 ∷ 1 ∷ 0 ∷ 2 ∷ 7 ∷ 0 ∷ 1 ∷ 2 ∷ 7 ∷ 0 ∷ 1 ∷ [])) (operands 16 (7 ∷ 8
+    ∷ 7 ∷ 6 ∷ 7 ∷ 6 ∷ 7 ∷ 6 ∷ 11 ∷ 8 ∷ 11 ∷ 10 ∷ 11 ∷ 10 ∷ 11 ∷ 10 ∷ [])) (beside [] [] []))
+
 -- seed 170: a register reused, chain of 2, done 1, moves without replay, moves without vias, rule 3 decides, target
 -- after x, target t
 abbrev pub s170 : Row
@@ -255,8 +259,8 @@ s170 =
     ∷ 1 ∷ 2 ∷ 7 ∷ 8 ∷ range 15 5 ++ 3 ∷ 4 ∷ 5 ∷ 6 ∷ range 9 6 ++ 20 ∷ 21 ∷ []) []) (registers 13 (4 ∷ 0 ∷ 1 ∷ 1 ∷ 5
     ∷ 0 ∷ 0 ∷ 1 ∷ 0 ∷ 5 ∷ 0 ∷ 1 ∷ 1 ∷ [])) (operands 2 (6 ∷ 4 ∷ [])) (beside [] [] []))
 
--- seed 173: a register reused, chain of 3, done 1, moves with replay, moves without vias, new list, target before x,
--- target renamed, target t
+-- seed 173: a register reused, chain of 3, done 1, moves with replay, moves without vias, rule 2 decides, target
+-- after x, target f, the start of the function decides
 abbrev pub s173 : Row
 s173 =
     moves (pic ((op3 Report 5 5 0 ∷ op0 Ret ∷ []) ∷ (op3 Cat 1 1 1 ∷ []) ∷ (const 6 40 ∷ op1 AddrOf 7
@@ -265,14 +269,27 @@ s173 =
     ∷ []) ∷ (op FCheck 0 (6 ∷ 1 ∷ 1 ∷ []) [] (3 ∷ 0 ∷ 6 ∷ 1 ∷ 1 ∷ 6 ∷ []) ∷ op Ret 0 [] [] (3 ∷ 7 ∷ 3 ∷ 6 ∷ 5 ∷ 0 ∷ 4
     ∷ []) ∷ []) ∷ (fork 6 0 3 ∷ []) ∷ (br 4 ∷ []) ∷ []) (at (upto 16) []) (registers 8 (0 ∷ 0 ∷ 1 ∷ 3 ∷ 0 ∷ 0 ∷ 1 ∷ 0
     ∷ 77 ∷ 9 ∷ 9 ∷ 9 ∷ 77 ∷ 7 ∷ 77 ∷ 77 ∷ 9 ∷ [])) (operands 2 (7 ∷ 5 ∷ absent ∷ 0 ∷ 0 ∷ 0 ∷ 999 ∷ 999 ∷ []))
-    (beside [] [] (0 ∷ []))) 58 8232 800 (done 1 12 4) ((1 ∷ 2 ∷ 0 ∷ 6 ∷ 12 ∷ 4 ∷ []) ∷ [])
-    (pic ((op2 DopeLen 8 7 ∷ op2 Alloc 9 8 ∷ op Cat 0 (9 ∷ 6 ∷ 8 ∷ []) (2 ∷ 2 ∷ []) [] ∷ op2 LayoutOf 10 7
-    ∷ op DopeLen 0 (11 ∷ 7 ∷ []) [] (5 ∷ 6 ∷ 1 ∷ 5 ∷ 2 ∷ 6 ∷ 6 ∷ []) ∷ op Load 2 (11 ∷ 10 ∷ []) [] (4 ∷ 5 ∷ 4 ∷ 4 ∷ 6
-    ∷ 2 ∷ 1 ∷ []) ∷ op3 Report 8 8 0 ∷ op0 Ret ∷ []) ∷ (op3 Cat 1 1 1 ∷ []) ∷ (const 6 40 ∷ op1 AddrOf 7 ∷ br 5 ∷ [])
-    ∷ (op FCheck 0 (6 ∷ 1 ∷ 1 ∷ []) [] (3 ∷ 0 ∷ 6 ∷ 1 ∷ 1 ∷ 6 ∷ []) ∷ op Ret 0 [] [] (3 ∷ 7 ∷ 3 ∷ 6 ∷ 5 ∷ 0 ∷ 4 ∷ [])
-    ∷ []) ∷ (fork 6 0 3 ∷ []) ∷ (br 4 ∷ []) ∷ []) (at (range 5 6 ++ upto 5 ++ range 11 5) []) (registers 12 (0 ∷ 0 ∷ 1
-    ∷ 3 ∷ 0 ∷ 0 ∷ 1 ∷ 0 ∷ 0 ∷ 0 ∷ 1 ∷ 3 ∷ 77 ∷ 7 ∷ 77 ∷ 77 ∷ 9 ∷ [])) (operands 4 (7 ∷ 5 ∷ 7 ∷ 8 ∷ 0 ∷ 0 ∷ 999 ∷ 999
-    ∷ [])) (beside [] [] (0 ∷ [])))
+    (beside [] [] (0 ∷ []))) 58 8232 800 (done 1 11 2) ((1 ∷ 2 ∷ 3 ∷ 5 ∷ 11 ∷ 2 ∷ []) ∷ [])
+    (pic ((op3 Report 5 5 0 ∷ op0 Ret ∷ []) ∷ (op3 Cat 1 1 1 ∷ []) ∷ (const 6 40 ∷ op1 AddrOf 7 ∷ op2 DopeLen 5 7
+    ∷ br 5 ∷ []) ∷ (op2 Alloc 8 5 ∷ op Cat 0 (8 ∷ 6 ∷ 5 ∷ []) (0 ∷ 2 ∷ []) [] ∷ op2 LayoutOf 9 7 ∷ op DopeLen 0 (10
+    ∷ 7 ∷ []) [] (5 ∷ 6 ∷ 1 ∷ 5 ∷ 2 ∷ 6 ∷ 6 ∷ []) ∷ op Load 2 (10 ∷ 9 ∷ []) [] (4 ∷ 5 ∷ 4 ∷ 4 ∷ 6 ∷ 2 ∷ 1 ∷ [])
+    ∷ op FCheck 0 (6 ∷ 1 ∷ 1 ∷ []) [] (3 ∷ 0 ∷ 6 ∷ 1 ∷ 1 ∷ 6 ∷ []) ∷ op Ret 0 [] [] (3 ∷ 7 ∷ 3 ∷ 6 ∷ 5 ∷ 0 ∷ 4 ∷ [])
+    ∷ []) ∷ (fork 6 0 3 ∷ []) ∷ (br 4 ∷ []) ∷ []) (at (upto 6 ++ 11 ∷ range 6 5 ++ 12 ∷ 13 ∷ 14 ∷ 15 ∷ []) [])
+    (registers 11 (0 ∷ 0 ∷ 1 ∷ 3 ∷ 0 ∷ 0 ∷ 1 ∷ 0 ∷ 0 ∷ 1 ∷ 3 ∷ 9 ∷ 77 ∷ 7 ∷ 77 ∷ 77 ∷ 9 ∷ [])) (operands 2 (7 ∷ 5
+    ∷ absent ∷ 0 ∷ 0 ∷ 0 ∷ 999 ∷ 999 ∷ [])) (beside [] [] (0 ∷ [])))
+
+-- seed 183: a seventh block decides, done 0, the start of the function decides
+abbrev pub s183 : Row
+s183 =
+    stays (pic ((br 6 ∷ []) ∷ (br 2 ∷ []) ∷ (op0 Br ∷ []) ∷ (op2 Move 1 2 ∷ op Bin 4 (0 ∷ 6 ∷ 3 ∷ []) [] (6 ∷ 6 ∷ 5
+    ∷ 4 ∷ 5 ∷ 2 ∷ 4 ∷ []) ∷ const 3 5 ∷ op3 Report 3 3 6 ∷ op0 Ret ∷ []) ∷ (const 6 26 ∷ op AddrOf 4 (7 ∷ []) [] []
+    ∷ op Bin 4 (5 ∷ 6 ∷ 6 ∷ []) [] [] ∷ op Alloc 0 (4 ∷ 6 ∷ []) [] (7 ∷ 0 ∷ 3 ∷ 5 ∷ 6 ∷ 5 ∷ 1 ∷ []) ∷ op3 Index 2 4 6
+    ∷ op CallNative 1 [] (0 ∷ 1 ∷ []) [] ∷ op BoolOp 1 (2 ∷ 2 ∷ []) [] [] ∷ op Cat 0 (4 ∷ 5 ∷ 6 ∷ []) (1 ∷ []) (27309
+    ∷ 2 ∷ 7 ∷ 8 ∷ 8 ∷ 5 ∷ 7 ∷ []) ∷ op2 DopeLen 3 4 ∷ op CallNative 1 (3 ∷ []) (1 ∷ 1 ∷ []) [] ∷ op4 BoundsLen 5 5 2 2
+    ∷ op Br 0 [] [] (1 ∷ 8 ∷ 6 ∷ 0 ∷ 2 ∷ 7 ∷ 6 ∷ []) ∷ []) ∷ (op Case 0 (0 ∷ []) [] (95 ∷ []) ∷ []) ∷ (fork 1 5 3
+    ∷ []) ∷ []) (at (upto 22) (2 ∷ 0 ∷ 0 ∷ 0 ∷ 12 ∷ 39 ∷ 0 ∷ 0 ∷ 0 ∷ 10 ∷ 0 ∷ 0 ∷ 19 ∷ 0 ∷ 12 ∷ 0 ∷ 11 ∷ 0 ∷ 0 ∷ 0 ∷ 0
+    ∷ 20 ∷ [])) (registers 8 (0 ∷ 1 ∷ 1 ∷ 0 ∷ 4 ∷ 2 ∷ 0 ∷ 3 ∷ 77 ∷ 7 ∷ 77 ∷ 7 ∷ 77 ∷ 9 ∷ 77 ∷ 7 ∷ 77 ∷ 7 ∷ []))
+    (operands 2 (5 ∷ 6 ∷ absent ∷ 0 ∷ absent ∷ absent ∷ 999 ∷ 999 ∷ [])) (beside [] [] [])) 64 8256 800 (done 0 8 2)
 
 -- seed 204: done 0, rule 5 on barriers decides
 abbrev pub s204 : Row
@@ -358,5 +375,5 @@ s325 =
 
 abbrev pub rows2 : List Row
 rows2 =
-    s39 ∷ s40 ∷ s46 ∷ s47 ∷ s50 ∷ s51 ∷ s54 ∷ s57 ∷ s59 ∷ s65 ∷ s70 ∷ s95 ∷ s170 ∷ s173 ∷ s204 ∷ s211 ∷ s260 ∷ s292
-    ∷ s325 ∷ []
+    s40 ∷ s46 ∷ s47 ∷ s50 ∷ s51 ∷ s54 ∷ s57 ∷ s59 ∷ s65 ∷ s70 ∷ s95 ∷ s148 ∷ s170 ∷ s173 ∷ s183 ∷ s204 ∷ s211 ∷ s260
+    ∷ s292 ∷ s325 ∷ []

@@ -1,4 +1,4 @@
--- Pictures by seed and what the Rust makes of them, page 3: of the first 4000 seeds of the generator, those that show
+-- Pictures by seed and what the Rust makes of them (see proofs/Crossed), page 3: of the first 4000 seeds of the generator, those that show
 -- something new. Printed by
 -- `compare crossed` in tests/rust, and again by its compare.sh: not to be edited. Assumes nothing.
 use Rattle.std.specs.Prelude.{List, [], ◌∷◌, ◌++◌, replicate}
@@ -292,18 +292,6 @@ s855 =
     ∷ 4 ∷ 0 ∷ 0 ∷ 5 ∷ 1 ∷ 0 ∷ 4 ∷ 0 ∷ 0 ∷ 5 ∷ 1 ∷ 0 ∷ 4 ∷ 0 ∷ 0 ∷ 5 ∷ 1 ∷ 0 ∷ 4 ∷ 0 ∷ 0 ∷ 5 ∷ 1 ∷ 0 ∷ 4 ∷ 0 ∷ 0 ∷ 5
     ∷ 1 ∷ 0 ∷ 4 ∷ 0 ∷ 0 ∷ 9 ∷ 77 ∷ 9 ∷ 7 ∷ 7 ∷ [])) (operands 1 (1 ∷ [])) (beside [] [] []))
 
--- seed 859: a seventh block decides, done 0
-abbrev pub s859 : Row
-s859 =
-    stays (pic ((op Const 0 (8 ∷ []) [] (0 ∷ 256 ∷ []) ∷ op1 AddrOf 9 ∷ op DopeLen 0 (2 ∷ 9 ∷ []) [] (8 ∷ 2 ∷ 7 ∷ 5
-    ∷ 8 ∷ 6 ∷ 5 ∷ []) ∷ op2 Move 7 2 ∷ op3 Cmp 4 7 2 ∷ op3 Field 0 1 0 ∷ op Br 0 [] [] (3 ∷ 0 ∷ 5 ∷ 0 ∷ 2 ∷ 3 ∷ 8
-    ∷ []) ∷ []) ∷ (br 8 ∷ []) ∷ (op Output 0 (0 ∷ 0 ∷ []) [] (4 ∷ 2 ∷ 3 ∷ 2 ∷ 6 ∷ 4 ∷ []) ∷ op Case 0 (1 ∷ []) [] (95
-    ∷ []) ∷ []) ∷ (br 6 ∷ []) ∷ [] ∷ (op Br 0 [] [] (10 ∷ 3 ∷ 6 ∷ 3 ∷ 1 ∷ 4 ∷ 4 ∷ []) ∷ []) ∷ (op Br 0 [] [] (5 ∷ 3
-    ∷ 8 ∷ 2 ∷ 1 ∷ 3 ∷ 3 ∷ []) ∷ []) ∷ (op3 LGet 0 1 0 ∷ fork 8 9 2 ∷ []) ∷ (op CondBr 0 (8 ∷ []) [] (4 ∷ 7 ∷ 3 ∷ 4 ∷ 1
-    ∷ 0 ∷ 4 ∷ []) ∷ []) ∷ (op3 FCheck 0 1 1 ∷ op1 Ret 0 ∷ []) ∷ (br 1 ∷ []) ∷ (op3 Cat 1 1 1 ∷ []) ∷ []) (at
-    (upto 20) []) (registers 10 (replicate 5 0 ++ 1 ∷ 1 ∷ 0 ∷ 0 ∷ 5 ∷ 7 ∷ 77 ∷ 9 ∷ 77 ∷ [])) (operands 0 [])
-    (beside [] [] (2 ∷ 4 ∷ []))) 76 8304 800 (done 0 10 0)
-
 -- seed 1047: 2 members are too few, a constant just past a length decides, chain of 5, done 1, moves with replay,
 -- moves with vias, new Sig, rule 1 decides, rule 2 decides, target after x, target f, target renamed
 abbrev pub s1047 : Row
@@ -326,17 +314,6 @@ s1047 =
     ∷ range 11 6 ++ 3 ∷ 5 ∷ 8 ∷ 9 ∷ 10 ∷ range 17 6) (0 ∷ 4 ∷ 0 ∷ 0 ∷ 17 ∷ 0 ∷ 0 ∷ 36 ∷ 14 ∷ 0 ∷ 0 ∷ 0 ∷ 0 ∷ 30 ∷ 31
     ∷ 9 ∷ 11 ∷ replicate 5 0 ++ 33 ∷ [])) (registers 14 (1 ∷ 5 ∷ 0 ∷ 4 ∷ 5 ∷ 0 ∷ 0 ∷ 1 ∷ 5 ∷ 4 ∷ 0 ∷ 0 ∷ 0 ∷ 0 ∷ 7
     ∷ 77 ∷ [])) (operands 0 (0 ∷ 0 ∷ absent ∷ 0 ∷ 0 ∷ [])) (beside [] [] (6 ∷ [])))
-
--- seed 1056: a seventh block decides, done 0
-abbrev pub s1056 : Row
-s1056 =
-    stays (pic ((const 7 56 ∷ op AddrOf 1 (8 ∷ []) [] [] ∷ br 1 ∷ []) ∷ (op3 Cmp 3 7 7 ∷ op Cmp 0 (4 ∷ 3 ∷ 3 ∷ []) []
-    (5 ∷ 4 ∷ 6 ∷ 7 ∷ 2 ∷ 1 ∷ []) ∷ op3 Cmp 6 3 7 ∷ op2 Move 6 4 ∷ br 12 ∷ []) ∷ (fork 1 3 10 ∷ []) ∷ (op2 Output 1 1
-    ∷ op0 Unreachable ∷ []) ∷ (op Case 0 (1 ∷ []) [] (91 ∷ []) ∷ []) ∷ (br 7 ∷ []) ∷ (op3 Cat 0 0 0 ∷ []) ∷ (br 11
-    ∷ []) ∷ (br 5 ∷ []) ∷ (br 8 ∷ []) ∷ (op0 Ret ∷ []) ∷ (fork 1 2 4 ∷ []) ∷ (br 9 ∷ []) ∷ []) (at (upto 20) (6 ∷ 0
-    ∷ 0 ∷ 2 ∷ 0 ∷ 27 ∷ 0 ∷ 0 ∷ 0 ∷ 0 ∷ 43 ∷ 0 ∷ 0 ∷ 0 ∷ 0 ∷ 46 ∷ 0 ∷ 49 ∷ 0 ∷ 38 ∷ [])) (registers 9 (1 ∷ 0 ∷ 0 ∷ 0
-    ∷ 0 ∷ 1 ∷ 0 ∷ 0 ∷ 0 ∷ 7 ∷ 7 ∷ 9 ∷ [])) (operands 0 (999 ∷ absent ∷ [])) (beside [] [] (3 ∷ 2 ∷ []))) 76 8304 800
-    (done 0 9 0)
 
 -- seed 1073: a register reused, chain of 1, done 4, empty target, moves with vias, moves without replay, new Sig,
 -- target after x, target before x, target t
@@ -364,7 +341,40 @@ s1073 =
     ∷ 1 ∷ 4 ∷ 0 ∷ 0 ∷ 0 ∷ 0 ∷ 3 ∷ 1 ∷ 4 ∷ 0 ∷ 0 ∷ 0 ∷ 0 ∷ 3 ∷ 1 ∷ 4 ∷ 0 ∷ 0 ∷ 0 ∷ 0 ∷ 3 ∷ 1 ∷ 4 ∷ 0 ∷ 0 ∷ 0 ∷ 0 ∷ 3
     ∷ 9 ∷ 77 ∷ [])) (operands 0 (absent ∷ absent ∷ absent ∷ 0 ∷ absent ∷ [])) (beside [] [] []))
 
+-- seed 1183: a register reused, chain of 1, done 8, moves with vias, moves without replay, new Sig, new list, target
+-- after x, target before x, target t
+abbrev pub s1183 : Row
+s1183 =
+    moves (pic ((const 6 40 ∷ op Case 0 (0 ∷ []) [] (94 ∷ []) ∷ []) ∷ (op Alloc 0 (5 ∷ 6 ∷ []) [] (6 ∷ 2 ∷ 2 ∷ 3 ∷ 5
+    ∷ 4 ∷ 4 ∷ []) ∷ op Cat 0 (5 ∷ 6 ∷ 6 ∷ []) (0 ∷ 4 ∷ []) (32982 ∷ 8 ∷ 2 ∷ 5 ∷ 2 ∷ 5 ∷ 2 ∷ []) ∷ op3 Pos 1 0 1
+    ∷ op CallNative 1 (4 ∷ []) (0 ∷ 1 ∷ []) (3 ∷ 8 ∷ 7 ∷ 7 ∷ 0 ∷ 7 ∷ 1 ∷ []) ∷ op Store 3 (5 ∷ 5 ∷ []) [] []
+    ∷ op4 Select 2 6 6 6 ∷ op4 Select 3 2 2 6 ∷ op3 Index 4 4 6 ∷ op2 Alloc 4 2 ∷ op MakeDope 0 (4 ∷ []) (4 ∷ []) []
+    ∷ op DopeLen 0 (5 ∷ 5 ∷ []) [] (1 ∷ 3 ∷ 5 ∷ 3 ∷ 0 ∷ 2 ∷ 2 ∷ []) ∷ op2 SigReadScalar 5 5 ∷ fork 6 3 5 ∷ [])
+    ∷ (op ConstF 0 (0 ∷ []) [] (1867957611 ∷ 2715938008 ∷ []) ∷ []) ∷ (fork 0 6 2 ∷ []) ∷ (op0 Cover ∷ [])
+    ∷ (op1 Now 1 ∷ op Ret 0 [] [] (6 ∷ 0 ∷ 1 ∷ 2 ∷ 2 ∷ 5 ∷ 4 ∷ []) ∷ []) ∷ (fork 0 1 4 ∷ []) ∷ []) (at (upto 21)
+    (replicate 6 0 ++ 40 ∷ 0 ∷ 0 ∷ 0 ∷ 1 ∷ 13 ∷ 14 ∷ 27 ∷ 0 ∷ 38 ∷ 4 ∷ 0 ∷ 18 ∷ 0 ∷ 9 ∷ [])) (registers 7 (0 ∷ 5 ∷ 4
+    ∷ 0 ∷ 1 ∷ 0 ∷ 0 ∷ 9 ∷ 77 ∷ 77 ∷ 9 ∷ 9 ∷ 9 ∷ 7 ∷ 7 ∷ 7 ∷ 7 ∷ 77 ∷ 9 ∷ 9 ∷ 9 ∷ 7 ∷ 7 ∷ 9 ∷ 77 ∷ 9 ∷ 9 ∷ 9 ∷ 7 ∷ 9
+    ∷ 7 ∷ 77 ∷ 9 ∷ 7 ∷ 9 ∷ 77 ∷ 9 ∷ 7 ∷ 7 ∷ 77 ∷ 9 ∷ 77 ∷ 77 ∷ 9 ∷ 7 ∷ 7 ∷ 9 ∷ 9 ∷ 9 ∷ 7 ∷ 9 ∷ 7 ∷ 9 ∷ 77 ∷ 7 ∷ []))
+    (operands 4 (5 ∷ 5 ∷ 6 ∷ 5 ∷ 0 ∷ 999 ∷ 999 ∷ 999 ∷ 0 ∷ 999 ∷ 999 ∷ 0 ∷ 0 ∷ absent ∷ absent ∷ absent ∷ 0 ∷ 999 ∷ 0
+    ∷ 999 ∷ absent ∷ absent ∷ 0 ∷ 0 ∷ absent ∷ absent ∷ 999 ∷ absent ∷ 0 ∷ replicate 6 999 ++ absent ∷ 999 ∷ 999 ∷ 999
+    ∷ 0 ∷ 0 ∷ absent ∷ 0 ∷ absent ∷ [])) (beside [] [] [])) 138 8552 800 (done 8 55 44) ((1 ∷ 1 ∷ 3 ∷ 11 ∷ 13 ∷ 9
+    ∷ []) ∷ (2 ∷ 3 ∷ 6 ∷ 11 ∷ 19 ∷ 14 ∷ []) ∷ (3 ∷ 6 ∷ 1 ∷ 11 ∷ 25 ∷ 19 ∷ []) ∷ (4 ∷ 1 ∷ 3 ∷ 11 ∷ 31 ∷ 24 ∷ []) ∷ (5
+    ∷ 3 ∷ 6 ∷ 11 ∷ 37 ∷ 29 ∷ []) ∷ (6 ∷ 6 ∷ 1 ∷ 11 ∷ 43 ∷ 34 ∷ []) ∷ (7 ∷ 1 ∷ 3 ∷ 11 ∷ 49 ∷ 39 ∷ []) ∷ (8 ∷ 3 ∷ 6 ∷ 11
+    ∷ 55 ∷ 44 ∷ []) ∷ [])
+    (pic ((const 6 40 ∷ op Case 0 (0 ∷ []) [] (94 ∷ []) ∷ []) ∷ (op3 Pos 1 0 1 ∷ fork 6 3 5 ∷ []) ∷ (op ConstF 0 (0
+    ∷ []) [] (1867957611 ∷ 2715938008 ∷ []) ∷ []) ∷ (fork 0 6 2 ∷ []) ∷ (op0 Cover ∷ []) ∷ (op1 Now 1 ∷ op Ret 0 [] []
+    (6 ∷ 0 ∷ 1 ∷ 2 ∷ 2 ∷ 5 ∷ 4 ∷ []) ∷ []) ∷ (op Alloc 0 (49 ∷ 6 ∷ []) [] (6 ∷ 2 ∷ 2 ∷ 3 ∷ 5 ∷ 4 ∷ 4 ∷ []) ∷ op Cat 0
+    (49 ∷ 6 ∷ 6 ∷ []) (39 ∷ 4 ∷ []) (32982 ∷ 8 ∷ 2 ∷ 5 ∷ 2 ∷ 5 ∷ 2 ∷ []) ∷ op CallNative 1 (50 ∷ []) (43 ∷ 1 ∷ []) (3
+    ∷ 8 ∷ 7 ∷ 7 ∷ 0 ∷ 7 ∷ 1 ∷ []) ∷ op Store 3 (49 ∷ 49 ∷ []) [] [] ∷ op4 Select 51 6 6 6 ∷ op4 Select 53 51 51 6
+    ∷ op3 Index 54 50 6 ∷ op2 Alloc 54 51 ∷ op MakeDope 0 (54 ∷ []) (4 ∷ []) [] ∷ op DopeLen 0 (53 ∷ 49 ∷ []) [] (1
+    ∷ 3 ∷ 5 ∷ 3 ∷ 0 ∷ 2 ∷ 2 ∷ []) ∷ op2 SigReadScalar 49 53 ∷ fork 0 1 4 ∷ []) ∷ []) (at (0 ∷ 1 ∷ 4 ∷ range 14 6 ++ 2
+    ∷ 3 ∷ range 5 9 ++ 20 ∷ []) (0 ∷ 0 ∷ 0 ∷ 0 ∷ 38 ∷ 4 ∷ 0 ∷ 18 ∷ 0 ∷ 0 ∷ 0 ∷ 0 ∷ 40 ∷ 0 ∷ 0 ∷ 0 ∷ 1 ∷ 13 ∷ 14 ∷ 27
+    ∷ 9 ∷ [])) (registers 55 (0 ∷ 5 ∷ 4 ∷ 0 ∷ 1 ∷ 0 ∷ 0 ∷ 0 ∷ 1 ∷ 4 ∷ 0 ∷ 0 ∷ 1 ∷ 0 ∷ 1 ∷ 4 ∷ 0 ∷ 0 ∷ 1 ∷ 0 ∷ 1 ∷ 4
+    ∷ 0 ∷ 0 ∷ 1 ∷ 0 ∷ 1 ∷ 4 ∷ 0 ∷ 0 ∷ 1 ∷ 0 ∷ 1 ∷ 4 ∷ 0 ∷ 0 ∷ 1 ∷ 0 ∷ 1 ∷ 4 ∷ 0 ∷ 0 ∷ 1 ∷ 0 ∷ 1 ∷ 4 ∷ 0 ∷ 0 ∷ 1 ∷ 0
+    ∷ 1 ∷ 4 ∷ 0 ∷ 0 ∷ 1 ∷ [])) (operands 44 (5 ∷ 5 ∷ 6 ∷ 5 ∷ 7 ∷ 7 ∷ 6 ∷ 7 ∷ 7 ∷ 13 ∷ 13 ∷ 6 ∷ 13 ∷ 13 ∷ 19 ∷ 19 ∷ 6
+    ∷ 19 ∷ 19 ∷ 25 ∷ 25 ∷ 6 ∷ 25 ∷ 25 ∷ 31 ∷ 31 ∷ 6 ∷ 31 ∷ 31 ∷ 37 ∷ 37 ∷ 6 ∷ 37 ∷ 37 ∷ 43 ∷ 43 ∷ 6 ∷ 43 ∷ 43 ∷ 49
+    ∷ 49 ∷ 6 ∷ 49 ∷ 49 ∷ [])) (beside [] [] []))
+
 abbrev pub rows3 : List Row
 rows3 =
-    s326 ∷ s327 ∷ s460 ∷ s497 ∷ s544 ∷ s577 ∷ s671 ∷ s690 ∷ s696 ∷ s739 ∷ s850 ∷ s855 ∷ s859 ∷ s1047 ∷ s1056 ∷ s1073
-    ∷ []
+    s326 ∷ s327 ∷ s460 ∷ s497 ∷ s544 ∷ s577 ∷ s671 ∷ s690 ∷ s696 ∷ s739 ∷ s850 ∷ s855 ∷ s1047 ∷ s1073 ∷ s1183 ∷ []

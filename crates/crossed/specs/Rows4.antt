@@ -1,50 +1,15 @@
--- Pictures by seed and what the Rust makes of them, page 4: of the first 4000 seeds of the generator, those that show
+-- Pictures by seed and what the Rust makes of them (see proofs/Crossed), page 4: of the first 4000 seeds of the generator, those that show
 -- something new. Printed by
 -- `compare crossed` in tests/rust, and again by its compare.sh: not to be edited. Assumes nothing.
 use Rattle.std.specs.Prelude.{List, [], ◌∷◌, ◌++◌, replicate}
 use Rattle.words.specs.Lists.{range, upto}
 use Rattle.model.specs.Kinds.{AddrOf, Alloc, Bin, BoolOp, BoundsLen, Br, CallNative, CallProt, Case, Cat}
-use Rattle.model.specs.Kinds.{Check, Cmp, CondBr, Const, ConstF, Cover, Deref, DopeLen, FCheck, FCmp}
-use Rattle.model.specs.Kinds.{Field, IToF, Index, LGet, LayoutOf, Load, MakeDope, Move, Now, Output}
-use Rattle.model.specs.Kinds.{Pos, Report, Ret, Select, SigRead, SigReadScalar, SigVal, Store, Suspend, Unreachable}
-use Rattle.model.specs.Kinds.{WaitOn}
+use Rattle.model.specs.Kinds.{Check, Cmp, CondBr, Const, Cover, Deref, DopeLen, FCheck, FCmp, Field}
+use Rattle.model.specs.Kinds.{IToF, Index, LGet, LayoutOf, Load, MakeDope, Move, Now, Output, Pos}
+use Rattle.model.specs.Kinds.{Report, Ret, Select, SigRead, SigReadScalar, SigVal, Store, Suspend, Unreachable, WaitOn}
 use Rattle.model.specs.Picture.{absent}
 use Rattle.model.specs.Build.{op}
 use Rattle.crossed.specs.Row.{Row, pic, at, registers, operands, beside, op0, op1, op2, op3, op4, br, fork, const, moves, stays, done, short}
-
--- seed 1183: a register reused, chain of 1, done 8, moves with vias, moves without replay, new Sig, new list, target
--- after x, target before x, target t
-abbrev pub s1183 : Row
-s1183 =
-    moves (pic ((const 6 40 ∷ op Case 0 (0 ∷ []) [] (94 ∷ []) ∷ []) ∷ (op Alloc 0 (5 ∷ 6 ∷ []) [] (6 ∷ 2 ∷ 2 ∷ 3 ∷ 5
-    ∷ 4 ∷ 4 ∷ []) ∷ op Cat 0 (5 ∷ 6 ∷ 6 ∷ []) (0 ∷ 4 ∷ []) (32982 ∷ 8 ∷ 2 ∷ 5 ∷ 2 ∷ 5 ∷ 2 ∷ []) ∷ op3 Pos 1 0 1
-    ∷ op CallNative 1 (4 ∷ []) (0 ∷ 1 ∷ []) (3 ∷ 8 ∷ 7 ∷ 7 ∷ 0 ∷ 7 ∷ 1 ∷ []) ∷ op Store 3 (5 ∷ 5 ∷ []) [] []
-    ∷ op4 Select 2 6 6 6 ∷ op4 Select 3 2 2 6 ∷ op3 Index 4 4 6 ∷ op2 Alloc 4 2 ∷ op MakeDope 0 (4 ∷ []) (4 ∷ []) []
-    ∷ op DopeLen 0 (5 ∷ 5 ∷ []) [] (1 ∷ 3 ∷ 5 ∷ 3 ∷ 0 ∷ 2 ∷ 2 ∷ []) ∷ op2 SigReadScalar 5 5 ∷ fork 6 3 5 ∷ [])
-    ∷ (op ConstF 0 (0 ∷ []) [] (1867957611 ∷ 2715938008 ∷ []) ∷ []) ∷ (fork 0 6 2 ∷ []) ∷ (op0 Cover ∷ [])
-    ∷ (op1 Now 1 ∷ op Ret 0 [] [] (6 ∷ 0 ∷ 1 ∷ 2 ∷ 2 ∷ 5 ∷ 4 ∷ []) ∷ []) ∷ (fork 0 1 4 ∷ []) ∷ []) (at (upto 21)
-    (replicate 6 0 ++ 40 ∷ 0 ∷ 0 ∷ 0 ∷ 1 ∷ 13 ∷ 14 ∷ 27 ∷ 0 ∷ 38 ∷ 4 ∷ 0 ∷ 18 ∷ 0 ∷ 9 ∷ [])) (registers 7 (0 ∷ 5 ∷ 4
-    ∷ 0 ∷ 1 ∷ 0 ∷ 0 ∷ 9 ∷ 77 ∷ 77 ∷ 9 ∷ 9 ∷ 9 ∷ 7 ∷ 7 ∷ 7 ∷ 7 ∷ 77 ∷ 9 ∷ 9 ∷ 9 ∷ 7 ∷ 7 ∷ 9 ∷ 77 ∷ 9 ∷ 9 ∷ 9 ∷ 7 ∷ 9
-    ∷ 7 ∷ 77 ∷ 9 ∷ 7 ∷ 9 ∷ 77 ∷ 9 ∷ 7 ∷ 7 ∷ 77 ∷ 9 ∷ 77 ∷ 77 ∷ 9 ∷ 7 ∷ 7 ∷ 9 ∷ 9 ∷ 9 ∷ 7 ∷ 9 ∷ 7 ∷ 9 ∷ 77 ∷ 7 ∷ []))
-    (operands 4 (5 ∷ 5 ∷ 6 ∷ 5 ∷ 0 ∷ 999 ∷ 999 ∷ 999 ∷ 0 ∷ 999 ∷ 999 ∷ 0 ∷ 0 ∷ absent ∷ absent ∷ absent ∷ 0 ∷ 999 ∷ 0
-    ∷ 999 ∷ absent ∷ absent ∷ 0 ∷ 0 ∷ absent ∷ absent ∷ 999 ∷ absent ∷ 0 ∷ replicate 6 999 ++ absent ∷ 999 ∷ 999 ∷ 999
-    ∷ 0 ∷ 0 ∷ absent ∷ 0 ∷ absent ∷ [])) (beside [] [] [])) 138 8552 800 (done 8 55 44) ((1 ∷ 1 ∷ 3 ∷ 11 ∷ 13 ∷ 9
-    ∷ []) ∷ (2 ∷ 3 ∷ 6 ∷ 11 ∷ 19 ∷ 14 ∷ []) ∷ (3 ∷ 6 ∷ 1 ∷ 11 ∷ 25 ∷ 19 ∷ []) ∷ (4 ∷ 1 ∷ 3 ∷ 11 ∷ 31 ∷ 24 ∷ []) ∷ (5
-    ∷ 3 ∷ 6 ∷ 11 ∷ 37 ∷ 29 ∷ []) ∷ (6 ∷ 6 ∷ 1 ∷ 11 ∷ 43 ∷ 34 ∷ []) ∷ (7 ∷ 1 ∷ 3 ∷ 11 ∷ 49 ∷ 39 ∷ []) ∷ (8 ∷ 3 ∷ 6 ∷ 11
-    ∷ 55 ∷ 44 ∷ []) ∷ [])
-    (pic ((const 6 40 ∷ op Case 0 (0 ∷ []) [] (94 ∷ []) ∷ []) ∷ (op3 Pos 1 0 1 ∷ fork 6 3 5 ∷ []) ∷ (op ConstF 0 (0
-    ∷ []) [] (1867957611 ∷ 2715938008 ∷ []) ∷ []) ∷ (fork 0 6 2 ∷ []) ∷ (op0 Cover ∷ []) ∷ (op1 Now 1 ∷ op Ret 0 [] []
-    (6 ∷ 0 ∷ 1 ∷ 2 ∷ 2 ∷ 5 ∷ 4 ∷ []) ∷ []) ∷ (op Alloc 0 (49 ∷ 6 ∷ []) [] (6 ∷ 2 ∷ 2 ∷ 3 ∷ 5 ∷ 4 ∷ 4 ∷ []) ∷ op Cat 0
-    (49 ∷ 6 ∷ 6 ∷ []) (39 ∷ 4 ∷ []) (32982 ∷ 8 ∷ 2 ∷ 5 ∷ 2 ∷ 5 ∷ 2 ∷ []) ∷ op CallNative 1 (50 ∷ []) (43 ∷ 1 ∷ []) (3
-    ∷ 8 ∷ 7 ∷ 7 ∷ 0 ∷ 7 ∷ 1 ∷ []) ∷ op Store 3 (49 ∷ 49 ∷ []) [] [] ∷ op4 Select 51 6 6 6 ∷ op4 Select 53 51 51 6
-    ∷ op3 Index 54 50 6 ∷ op2 Alloc 54 51 ∷ op MakeDope 0 (54 ∷ []) (4 ∷ []) [] ∷ op DopeLen 0 (53 ∷ 49 ∷ []) [] (1
-    ∷ 3 ∷ 5 ∷ 3 ∷ 0 ∷ 2 ∷ 2 ∷ []) ∷ op2 SigReadScalar 49 53 ∷ fork 0 1 4 ∷ []) ∷ []) (at (0 ∷ 1 ∷ 4 ∷ range 14 6 ++ 2
-    ∷ 3 ∷ range 5 9 ++ 20 ∷ []) (0 ∷ 0 ∷ 0 ∷ 0 ∷ 38 ∷ 4 ∷ 0 ∷ 18 ∷ 0 ∷ 0 ∷ 0 ∷ 0 ∷ 40 ∷ 0 ∷ 0 ∷ 0 ∷ 1 ∷ 13 ∷ 14 ∷ 27
-    ∷ 9 ∷ [])) (registers 55 (0 ∷ 5 ∷ 4 ∷ 0 ∷ 1 ∷ 0 ∷ 0 ∷ 0 ∷ 1 ∷ 4 ∷ 0 ∷ 0 ∷ 1 ∷ 0 ∷ 1 ∷ 4 ∷ 0 ∷ 0 ∷ 1 ∷ 0 ∷ 1 ∷ 4
-    ∷ 0 ∷ 0 ∷ 1 ∷ 0 ∷ 1 ∷ 4 ∷ 0 ∷ 0 ∷ 1 ∷ 0 ∷ 1 ∷ 4 ∷ 0 ∷ 0 ∷ 1 ∷ 0 ∷ 1 ∷ 4 ∷ 0 ∷ 0 ∷ 1 ∷ 0 ∷ 1 ∷ 4 ∷ 0 ∷ 0 ∷ 1 ∷ 0
-    ∷ 1 ∷ 4 ∷ 0 ∷ 0 ∷ 1 ∷ [])) (operands 44 (5 ∷ 5 ∷ 6 ∷ 5 ∷ 7 ∷ 7 ∷ 6 ∷ 7 ∷ 7 ∷ 13 ∷ 13 ∷ 6 ∷ 13 ∷ 13 ∷ 19 ∷ 19 ∷ 6
-    ∷ 19 ∷ 19 ∷ 25 ∷ 25 ∷ 6 ∷ 25 ∷ 25 ∷ 31 ∷ 31 ∷ 6 ∷ 31 ∷ 31 ∷ 37 ∷ 37 ∷ 6 ∷ 37 ∷ 37 ∷ 43 ∷ 43 ∷ 6 ∷ 43 ∷ 43 ∷ 49
-    ∷ 49 ∷ 6 ∷ 49 ∷ 49 ∷ [])) (beside [] [] []))
 
 -- seed 1223: a second writer decides, chain of 4, done 1, moves with replay, moves without vias, new Sig, rule 6
 -- decides, target before x, target t
@@ -317,20 +282,14 @@ s2658 =
     ∷ absent ∷ 999 ∷ 0 ∷ absent ∷ 0 ∷ 999 ∷ 999 ∷ absent ∷ absent ∷ 0 ∷ 999 ∷ absent ∷ 999 ∷ 0 ∷ 0
     ∷ replicate 9 absent ++ 0 ∷ 999 ∷ 0 ∷ 0 ∷ absent ∷ absent ∷ 999 ∷ absent ∷ 999 ∷ [])) (beside [] [] []))
 
--- seed 2998: chain of 2, done 1, moves with replay, moves without vias, new list, rule 1 decides, rule 2 decides,
--- rule 5 on origins decides, target before x, target t
+-- seed 2998: rule 5 on origins decides, short 0, short by a register, the start of the function decides
 abbrev pub s2998 : Row
 s2998 =
-    moves (pic ((const 9 39 ∷ br 1 ∷ []) ∷ (op2 LayoutOf 1 0 ∷ op2 Move 5 9 ∷ op3 Cmp 6 5 5 ∷ op Bin 4 (2 ∷ 5 ∷ 9
+    stays (pic ((const 9 39 ∷ br 1 ∷ []) ∷ (op2 LayoutOf 1 0 ∷ op2 Move 5 9 ∷ op3 Cmp 6 5 5 ∷ op Bin 4 (2 ∷ 5 ∷ 9
     ∷ []) [] [] ∷ op2 Alloc 8 5 ∷ op Cat 0 (8 ∷ 5 ∷ 9 ∷ []) (0 ∷ 2 ∷ []) [] ∷ br 4 ∷ []) ∷ (op3 Cat 1 1 1 ∷ [])
     ∷ (op2 Output 2 2 ∷ op2 Move 0 2 ∷ []) ∷ (fork 0 0 3 ∷ []) ∷ []) (at (upto 13) []) (registers 10 (0 ∷ 3 ∷ 0 ∷ 1
     ∷ 0 ∷ 0 ∷ 1 ∷ 1 ∷ 0 ∷ 1 ∷ 9 ∷ 9 ∷ 7 ∷ [])) (operands 2 (8 ∷ 8 ∷ 0 ∷ 999 ∷ 999 ∷ 0 ∷ 999 ∷ 999 ∷ absent ∷ []))
-    (beside [] [] (0 ∷ []))) 46 8184 800 (done 1 12 4) ((1 ∷ 1 ∷ 0 ∷ 3 ∷ 12 ∷ 4 ∷ []) ∷ [])
-    (pic ((op3 Cmp 10 5 5 ∷ op2 Alloc 11 5 ∷ op Cat 0 (11 ∷ 5 ∷ 9 ∷ []) (2 ∷ 2 ∷ []) [] ∷ const 9 39 ∷ br 1 ∷ [])
-    ∷ (op2 LayoutOf 1 0 ∷ op2 Move 5 9 ∷ op Bin 4 (2 ∷ 5 ∷ 9 ∷ []) [] [] ∷ br 4 ∷ []) ∷ (op3 Cat 1 1 1 ∷ [])
-    ∷ (op2 Output 2 2 ∷ op2 Move 0 2 ∷ []) ∷ (fork 0 0 3 ∷ []) ∷ []) (at (4 ∷ 6 ∷ 7 ∷ 0 ∷ 1 ∷ 2 ∷ 3 ∷ 5
-    ∷ range 8 5) []) (registers 12 (0 ∷ 3 ∷ 0 ∷ 1 ∷ 0 ∷ 0 ∷ 1 ∷ 1 ∷ 0 ∷ 1 ∷ 1 ∷ 0 ∷ 7 ∷ [])) (operands 4 (8 ∷ 8 ∷ 11
-    ∷ 11 ∷ 999 ∷ 0 ∷ 999 ∷ 999 ∷ absent ∷ [])) (beside [] [] (0 ∷ [])))
+    (beside [] [] (0 ∷ []))) 46 8184 800 (short 0 10 2)
 
 -- seed 3190: a second writer decides, done 0
 abbrev pub s3190 : Row
@@ -345,5 +304,5 @@ s3190 =
 
 abbrev pub rows4 : List Row
 rows4 =
-    s1183 ∷ s1223 ∷ s1246 ∷ s1287 ∷ s1602 ∷ s1674 ∷ s1720 ∷ s1981 ∷ s1984 ∷ s2097 ∷ s2190 ∷ s2380 ∷ s2573 ∷ s2658
-    ∷ s2998 ∷ s3190 ∷ []
+    s1223 ∷ s1246 ∷ s1287 ∷ s1602 ∷ s1674 ∷ s1720 ∷ s1981 ∷ s1984 ∷ s2097 ∷ s2190 ∷ s2380 ∷ s2573 ∷ s2658 ∷ s2998
+    ∷ s3190 ∷ []

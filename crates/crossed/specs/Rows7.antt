@@ -271,21 +271,94 @@ b54 =
     stays (pic [] (at [] []) (registers 9 (0 ∷ 0 ∷ 1 ∷ 0 ∷ 0 ∷ 8 ∷ 0 ∷ 0 ∷ 0 ∷ 77 ∷ [])) (operands 0 (77 ∷ []))
     (beside [] [] [])) 20 8080 800 (refused 9)
 
--- the target before x: 1
+-- block 0 is no target, though nothing else leads to it: 0
 abbrev pub b55 : Row
 b55 =
-    moves (pic ((op2 Output 2 1 ∷ op0 Ret ∷ []) ∷ (const 1 8 ∷ op2 Alloc 2 1 ∷ op3 Cmp 3 1 1 ∷ op3 Cmp 4 1 3
-    ∷ op3 Cmp 5 1 4 ∷ op3 Cmp 6 1 5 ∷ op3 Cmp 7 1 6 ∷ op3 Cmp 8 1 7 ∷ op3 Cat 2 1 1 ∷ fork 0 0 2 ∷ []) ∷ (op0 Ret
-    ∷ []) ∷ []) (at (upto 13) []) (registers 9 (0 ∷ 0 ∷ 1 ∷ replicate 6 0 ++ 77 ∷ 77 ∷ 77 ∷ 77 ∷ [])) (operands 0 (77
-    ∷ [])) (beside [] [] [])) 38 8152 800 (done 1 12 0) ((1 ∷ 1 ∷ 0 ∷ 8 ∷ 12 ∷ 0 ∷ []) ∷ [])
-    (pic ((op2 Alloc 9 1 ∷ op3 Cmp 10 1 1 ∷ op3 Cmp 11 1 10 ∷ op3 Cmp 10 1 11 ∷ op3 Cmp 11 1 10 ∷ op3 Cmp 10 1 11
-    ∷ op3 Cmp 11 1 10 ∷ op3 Cat 9 1 1 ∷ op2 Output 9 1 ∷ op0 Ret ∷ []) ∷ (const 1 8 ∷ fork 0 0 2 ∷ []) ∷ (op0 Ret
-    ∷ []) ∷ []) (at (range 3 8 ++ 0 ∷ 1 ∷ 2 ∷ 11 ∷ 12 ∷ []) []) (registers 12 (0 ∷ 0 ∷ 1 ∷ replicate 6 0 ++ 1 ∷ 0 ∷ 0
-    ∷ 77 ∷ [])) (operands 0 (77 ∷ [])) (beside [] [] []))
+    stays (pic ((op2 Output 2 1 ∷ op0 Ret ∷ []) ∷ (op0 Ret ∷ []) ∷ (const 1 8 ∷ op2 Alloc 2 1 ∷ op3 Cmp 3 1 1
+    ∷ op3 Cmp 4 1 3 ∷ op3 Cmp 5 1 4 ∷ op3 Cmp 6 1 5 ∷ op3 Cmp 7 1 6 ∷ op3 Cmp 8 1 7 ∷ op3 Cat 2 1 1 ∷ fork 0 0 1 ∷ [])
+    ∷ []) (at (upto 13) []) (registers 9 (0 ∷ 0 ∷ 1 ∷ replicate 6 0 ++ 77 ∷ [])) (operands 0 (77 ∷ []))
+    (beside [] [] [])) 32 8128 800 (done 0 9 0)
 
--- both branches before x: 1
+-- no chain goes on in block 0, though nothing else leads to it: 0
 abbrev pub b56 : Row
 b56 =
+    stays (pic ((op0 Cover ∷ fork 0 1 2 ∷ []) ∷ (op2 Output 2 1 ∷ op0 Ret ∷ []) ∷ (op0 Ret ∷ []) ∷ (const 1 8
+    ∷ op2 Alloc 2 1 ∷ op3 Cmp 3 1 1 ∷ op3 Cmp 4 1 3 ∷ op3 Cmp 5 1 4 ∷ op3 Cmp 6 1 5 ∷ op3 Cmp 7 1 6 ∷ op3 Cmp 8 1 7
+    ∷ op3 Cat 2 1 1 ∷ op0 Br ∷ []) ∷ []) (at (upto 15) []) (registers 9 (0 ∷ 0 ∷ 1 ∷ replicate 6 0 ++ 77 ∷ []))
+    (operands 0 (77 ∷ [])) (beside [] [] [])) 36 8144 800 (done 0 9 0)
+
+-- block 0 is t, and f the target: 1
+abbrev pub b57 : Row
+b57 =
+    moves (pic ((op0 Ret ∷ []) ∷ (const 1 8 ∷ op2 Alloc 2 1 ∷ op3 Cmp 3 1 1 ∷ op3 Cmp 4 1 3 ∷ op3 Cmp 5 1 4
+    ∷ op3 Cmp 6 1 5 ∷ op3 Cmp 7 1 6 ∷ op3 Cmp 8 1 7 ∷ op3 Cat 2 1 1 ∷ fork 0 0 2 ∷ []) ∷ (op2 Output 2 1 ∷ op0 Ret
+    ∷ []) ∷ []) (at (upto 13) []) (registers 9 (0 ∷ 0 ∷ 1 ∷ replicate 6 0 ++ 77 ∷ 77 ∷ 77 ∷ 77 ∷ [])) (operands 0 (77
+    ∷ [])) (beside [] [] [])) 38 8152 800 (done 1 12 0) ((1 ∷ 1 ∷ 2 ∷ 8 ∷ 12 ∷ 0 ∷ []) ∷ [])
+    (pic ((op0 Ret ∷ []) ∷ (const 1 8 ∷ fork 0 0 2 ∷ []) ∷ (op2 Alloc 9 1 ∷ op3 Cmp 10 1 1 ∷ op3 Cmp 11 1 10
+    ∷ op3 Cmp 10 1 11 ∷ op3 Cmp 11 1 10 ∷ op3 Cmp 10 1 11 ∷ op3 Cmp 11 1 10 ∷ op3 Cat 9 1 1 ∷ op2 Output 9 1 ∷ op0 Ret
+    ∷ []) ∷ []) (at (0 ∷ 1 ∷ 10 ∷ range 2 8 ++ 11 ∷ 12 ∷ []) []) (registers 12 (0 ∷ 0 ∷ 1 ∷ replicate 6 0 ++ 1 ∷ 0 ∷ 0
+    ∷ 77 ∷ [])) (operands 0 (77 ∷ [])) (beside [] [] []))
+
+-- block 0 comes back to itself: 0
+abbrev pub b58 : Row
+b58 =
+    stays (pic ((const 1 8 ∷ op2 Alloc 2 1 ∷ op3 Cmp 3 1 1 ∷ op3 Cmp 4 1 3 ∷ op3 Cmp 5 1 4 ∷ op3 Cmp 6 1 5
+    ∷ op3 Cmp 7 1 6 ∷ op3 Cmp 8 1 7 ∷ op3 Cat 2 1 1 ∷ op0 Br ∷ []) ∷ (op2 Output 2 1 ∷ op0 Ret ∷ []) ∷ (op0 Ret ∷ [])
+    ∷ []) (at (upto 13) []) (registers 9 (0 ∷ 0 ∷ 1 ∷ replicate 6 0 ++ 77 ∷ [])) (operands 0 (77 ∷ []))
+    (beside [] [] [])) 32 8128 800 (done 0 9 0)
+
+-- block 0 is x, and its target leads to it: 1
+abbrev pub b59 : Row
+b59 =
+    moves (pic ((const 1 8 ∷ op2 Alloc 2 1 ∷ op3 Cmp 3 1 1 ∷ op3 Cmp 4 1 3 ∷ op3 Cmp 5 1 4 ∷ op3 Cmp 6 1 5
+    ∷ op3 Cmp 7 1 6 ∷ op3 Cmp 8 1 7 ∷ op3 Cat 2 1 1 ∷ fork 0 1 2 ∷ []) ∷ (op2 Output 2 1 ∷ op0 Br ∷ []) ∷ (op0 Ret
+    ∷ []) ∷ []) (at (upto 13) []) (registers 9 (0 ∷ 0 ∷ 1 ∷ replicate 6 0 ++ 77 ∷ 77 ∷ 77 ∷ 77 ∷ [])) (operands 0 (77
+    ∷ [])) (beside [] [] [])) 38 8152 800 (done 1 12 0) ((1 ∷ 0 ∷ 1 ∷ 8 ∷ 12 ∷ 0 ∷ []) ∷ [])
+    (pic ((const 1 8 ∷ fork 0 1 2 ∷ []) ∷ (op2 Alloc 9 1 ∷ op3 Cmp 10 1 1 ∷ op3 Cmp 11 1 10 ∷ op3 Cmp 10 1 11
+    ∷ op3 Cmp 11 1 10 ∷ op3 Cmp 10 1 11 ∷ op3 Cmp 11 1 10 ∷ op3 Cat 9 1 1 ∷ op2 Output 9 1 ∷ op0 Br ∷ []) ∷ (op0 Ret
+    ∷ []) ∷ []) (at (0 ∷ 9 ∷ range 1 8 ++ 10 ∷ 11 ∷ 12 ∷ []) []) (registers 12 (0 ∷ 0 ∷ 1 ∷ replicate 6 0 ++ 1 ∷ 0 ∷ 0
+    ∷ 77 ∷ [])) (operands 0 (77 ∷ [])) (beside [] [] []))
+
+-- block 0 is x and the other branch: 1
+abbrev pub b60 : Row
+b60 =
+    moves (pic ((const 1 8 ∷ op2 Alloc 2 1 ∷ op3 Cmp 3 1 1 ∷ op3 Cmp 4 1 3 ∷ op3 Cmp 5 1 4 ∷ op3 Cmp 6 1 5
+    ∷ op3 Cmp 7 1 6 ∷ op3 Cmp 8 1 7 ∷ op3 Cat 2 1 1 ∷ op CondBr 0 (0 ∷ []) [] (1 ∷ []) ∷ []) ∷ (op2 Output 2 1
+    ∷ op0 Ret ∷ []) ∷ (op0 Ret ∷ []) ∷ []) (at (upto 13) []) (registers 9 (0 ∷ 0 ∷ 1 ∷ replicate 6 0 ++ 77 ∷ 77 ∷ 77
+    ∷ 77 ∷ [])) (operands 0 (77 ∷ [])) (beside [] [] [])) 38 8152 800 (done 1 12 0) ((1 ∷ 0 ∷ 1 ∷ 8 ∷ 12 ∷ 0 ∷ [])
+    ∷ [])
+    (pic ((const 1 8 ∷ op CondBr 0 (0 ∷ []) [] (1 ∷ []) ∷ []) ∷ (op2 Alloc 9 1 ∷ op3 Cmp 10 1 1 ∷ op3 Cmp 11 1 10
+    ∷ op3 Cmp 10 1 11 ∷ op3 Cmp 11 1 10 ∷ op3 Cmp 10 1 11 ∷ op3 Cmp 11 1 10 ∷ op3 Cat 9 1 1 ∷ op2 Output 9 1 ∷ op0 Ret
+    ∷ []) ∷ (op0 Ret ∷ []) ∷ []) (at (0 ∷ 9 ∷ range 1 8 ++ 10 ∷ 11 ∷ 12 ∷ []) []) (registers 12 (0 ∷ 0 ∷ 1
+    ∷ replicate 6 0 ++ 1 ∷ 0 ∷ 0 ∷ 77 ∷ [])) (operands 0 (77 ∷ [])) (beside [] [] []))
+
+-- block 0 is x, and a block that nothing reaches leads to it: 1
+abbrev pub b61 : Row
+b61 =
+    moves (pic ((const 1 8 ∷ op2 Alloc 2 1 ∷ op3 Cmp 3 1 1 ∷ op3 Cmp 4 1 3 ∷ op3 Cmp 5 1 4 ∷ op3 Cmp 6 1 5
+    ∷ op3 Cmp 7 1 6 ∷ op3 Cmp 8 1 7 ∷ op3 Cat 2 1 1 ∷ fork 0 1 2 ∷ []) ∷ (op2 Output 2 1 ∷ op0 Ret ∷ []) ∷ (op0 Ret
+    ∷ []) ∷ (op0 Br ∷ []) ∷ []) (at (upto 14) []) (registers 9 (0 ∷ 0 ∷ 1 ∷ replicate 6 0 ++ 77 ∷ 77 ∷ 77 ∷ 77 ∷ []))
+    (operands 0 (77 ∷ [])) (beside [] [] [])) 42 8168 800 (done 1 12 0) ((1 ∷ 0 ∷ 1 ∷ 8 ∷ 12 ∷ 0 ∷ []) ∷ [])
+    (pic ((const 1 8 ∷ fork 0 1 2 ∷ []) ∷ (op2 Alloc 9 1 ∷ op3 Cmp 10 1 1 ∷ op3 Cmp 11 1 10 ∷ op3 Cmp 10 1 11
+    ∷ op3 Cmp 11 1 10 ∷ op3 Cmp 10 1 11 ∷ op3 Cmp 11 1 10 ∷ op3 Cat 9 1 1 ∷ op2 Output 9 1 ∷ op0 Ret ∷ []) ∷ (op0 Ret
+    ∷ []) ∷ (op0 Br ∷ []) ∷ []) (at (0 ∷ 9 ∷ range 1 8 ++ 10 ∷ 11 ∷ 12 ∷ 13 ∷ []) []) (registers 12 (0 ∷ 0 ∷ 1
+    ∷ replicate 6 0 ++ 1 ∷ 0 ∷ 0 ∷ 77 ∷ [])) (operands 0 (77 ∷ [])) (beside [] [] []))
+
+-- the target before x: 1
+abbrev pub b62 : Row
+b62 =
+    moves (pic ((br 2 ∷ []) ∷ (op2 Output 2 1 ∷ op0 Ret ∷ []) ∷ (const 1 8 ∷ op2 Alloc 2 1 ∷ op3 Cmp 3 1 1
+    ∷ op3 Cmp 4 1 3 ∷ op3 Cmp 5 1 4 ∷ op3 Cmp 6 1 5 ∷ op3 Cmp 7 1 6 ∷ op3 Cmp 8 1 7 ∷ op3 Cat 2 1 1 ∷ fork 0 1 3 ∷ [])
+    ∷ (op0 Ret ∷ []) ∷ []) (at (upto 14) []) (registers 9 (0 ∷ 0 ∷ 1 ∷ replicate 6 0 ++ 77 ∷ 77 ∷ 77 ∷ 77 ∷ []))
+    (operands 0 (77 ∷ [])) (beside [] [] [])) 42 8168 800 (done 1 12 0) ((1 ∷ 2 ∷ 1 ∷ 8 ∷ 12 ∷ 0 ∷ []) ∷ [])
+    (pic ((br 2 ∷ []) ∷ (op2 Alloc 9 1 ∷ op3 Cmp 10 1 1 ∷ op3 Cmp 11 1 10 ∷ op3 Cmp 10 1 11 ∷ op3 Cmp 11 1 10
+    ∷ op3 Cmp 10 1 11 ∷ op3 Cmp 11 1 10 ∷ op3 Cat 9 1 1 ∷ op2 Output 9 1 ∷ op0 Ret ∷ []) ∷ (const 1 8 ∷ fork 0 1 3
+    ∷ []) ∷ (op0 Ret ∷ []) ∷ []) (at (0 ∷ range 4 8 ++ 1 ∷ 2 ∷ 3 ∷ 12 ∷ 13 ∷ []) []) (registers 12 (0 ∷ 0 ∷ 1
+    ∷ replicate 6 0 ++ 1 ∷ 0 ∷ 0 ∷ 77 ∷ [])) (operands 0 (77 ∷ [])) (beside [] [] []))
+
+-- both branches before x: 1
+abbrev pub b63 : Row
+b63 =
     moves (pic ((op0 Ret ∷ []) ∷ (op2 Output 2 1 ∷ op0 Ret ∷ []) ∷ (const 1 8 ∷ op2 Alloc 2 1 ∷ op3 Cmp 3 1 1
     ∷ op3 Cmp 4 1 3 ∷ op3 Cmp 5 1 4 ∷ op3 Cmp 6 1 5 ∷ op3 Cmp 7 1 6 ∷ op3 Cmp 8 1 7 ∷ op3 Cat 2 1 1 ∷ op CondBr 0 (0
     ∷ []) [] (1 ∷ []) ∷ []) ∷ []) (at (upto 13) []) (registers 9 (0 ∷ 0 ∷ 1 ∷ replicate 6 0 ++ 77 ∷ 77 ∷ 77 ∷ 77
@@ -294,83 +367,6 @@ b56 =
     ∷ op3 Cmp 10 1 11 ∷ op3 Cmp 11 1 10 ∷ op3 Cat 9 1 1 ∷ op2 Output 9 1 ∷ op0 Ret ∷ []) ∷ (const 1 8 ∷ op CondBr 0 (0
     ∷ []) [] (1 ∷ []) ∷ []) ∷ []) (at (0 ∷ range 4 8 ++ 1 ∷ 2 ∷ 3 ∷ 12 ∷ []) []) (registers 12 (0 ∷ 0 ∷ 1
     ∷ replicate 6 0 ++ 1 ∷ 0 ∷ 0 ∷ 77 ∷ [])) (operands 0 (77 ∷ [])) (beside [] [] []))
-
--- an empty target: 1
-abbrev pub b57 : Row
-b57 =
-    moves (pic ((const 1 8 ∷ op2 Alloc 2 1 ∷ op3 Cmp 3 1 1 ∷ op3 Cmp 4 1 3 ∷ op3 Cmp 5 1 4 ∷ op3 Cmp 6 1 5
-    ∷ op3 Cmp 7 1 6 ∷ op3 Cmp 8 1 7 ∷ op3 Cat 2 1 1 ∷ fork 0 1 2 ∷ []) ∷ [] ∷ (op0 Ret ∷ []) ∷ []) (at (upto 11) [])
-    (registers 9 (0 ∷ 0 ∷ 1 ∷ replicate 6 0 ++ 77 ∷ 77 ∷ 77 ∷ 77 ∷ [])) (operands 0 (77 ∷ []))
-    (beside [] [] [])) 38 8152 800 (done 1 12 0) ((1 ∷ 0 ∷ 1 ∷ 8 ∷ 12 ∷ 0 ∷ []) ∷ [])
-    (pic ((const 1 8 ∷ fork 0 1 2 ∷ []) ∷ (op2 Alloc 9 1 ∷ op3 Cmp 10 1 1 ∷ op3 Cmp 11 1 10 ∷ op3 Cmp 10 1 11
-    ∷ op3 Cmp 11 1 10 ∷ op3 Cmp 10 1 11 ∷ op3 Cmp 11 1 10 ∷ op3 Cat 9 1 1 ∷ []) ∷ (op0 Ret ∷ []) ∷ []) (at (0 ∷ 9
-    ∷ range 1 8 ++ 10 ∷ []) []) (registers 12 (0 ∷ 0 ∷ 1 ∷ replicate 6 0 ++ 1 ∷ 0 ∷ 0 ∷ 77 ∷ [])) (operands 0 (77
-    ∷ [])) (beside [] [] []))
-
--- an empty target before x: 1
-abbrev pub b58 : Row
-b58 =
-    moves (pic ([] ∷ (const 1 8 ∷ op2 Alloc 2 1 ∷ op3 Cmp 3 1 1 ∷ op3 Cmp 4 1 3 ∷ op3 Cmp 5 1 4 ∷ op3 Cmp 6 1 5
-    ∷ op3 Cmp 7 1 6 ∷ op3 Cmp 8 1 7 ∷ op3 Cat 2 1 1 ∷ fork 0 0 2 ∷ []) ∷ (op0 Ret ∷ []) ∷ []) (at (upto 11) [])
-    (registers 9 (0 ∷ 0 ∷ 1 ∷ replicate 6 0 ++ 77 ∷ 77 ∷ 77 ∷ 77 ∷ [])) (operands 0 (77 ∷ []))
-    (beside [] [] [])) 38 8152 800 (done 1 12 0) ((1 ∷ 1 ∷ 0 ∷ 8 ∷ 12 ∷ 0 ∷ []) ∷ [])
-    (pic ((op2 Alloc 9 1 ∷ op3 Cmp 10 1 1 ∷ op3 Cmp 11 1 10 ∷ op3 Cmp 10 1 11 ∷ op3 Cmp 11 1 10 ∷ op3 Cmp 10 1 11
-    ∷ op3 Cmp 11 1 10 ∷ op3 Cat 9 1 1 ∷ []) ∷ (const 1 8 ∷ fork 0 0 2 ∷ []) ∷ (op0 Ret ∷ []) ∷ []) (at (range 1 8 ++ 0
-    ∷ 9 ∷ 10 ∷ []) []) (registers 12 (0 ∷ 0 ∷ 1 ∷ replicate 6 0 ++ 1 ∷ 0 ∷ 0 ∷ 77 ∷ [])) (operands 0 (77 ∷ []))
-    (beside [] [] []))
-
--- the target is f: 1
-abbrev pub b59 : Row
-b59 =
-    moves (pic ((const 1 8 ∷ op2 Alloc 2 1 ∷ op3 Cmp 3 1 1 ∷ op3 Cmp 4 1 3 ∷ op3 Cmp 5 1 4 ∷ op3 Cmp 6 1 5
-    ∷ op3 Cmp 7 1 6 ∷ op3 Cmp 8 1 7 ∷ op3 Cat 2 1 1 ∷ fork 0 2 1 ∷ []) ∷ (op2 Output 2 1 ∷ op0 Ret ∷ []) ∷ (op0 Ret
-    ∷ []) ∷ []) (at (upto 13) []) (registers 9 (0 ∷ 0 ∷ 1 ∷ replicate 6 0 ++ 77 ∷ 77 ∷ 77 ∷ 77 ∷ [])) (operands 0 (77
-    ∷ [])) (beside [] [] [])) 38 8152 800 (done 1 12 0) ((1 ∷ 0 ∷ 1 ∷ 8 ∷ 12 ∷ 0 ∷ []) ∷ [])
-    (pic ((const 1 8 ∷ fork 0 2 1 ∷ []) ∷ (op2 Alloc 9 1 ∷ op3 Cmp 10 1 1 ∷ op3 Cmp 11 1 10 ∷ op3 Cmp 10 1 11
-    ∷ op3 Cmp 11 1 10 ∷ op3 Cmp 10 1 11 ∷ op3 Cmp 11 1 10 ∷ op3 Cat 9 1 1 ∷ op2 Output 9 1 ∷ op0 Ret ∷ []) ∷ (op0 Ret
-    ∷ []) ∷ []) (at (0 ∷ 9 ∷ range 1 8 ++ 10 ∷ 11 ∷ 12 ∷ []) []) (registers 12 (0 ∷ 0 ∷ 1 ∷ replicate 6 0 ++ 1 ∷ 0 ∷ 0
-    ∷ 77 ∷ [])) (operands 0 (77 ∷ [])) (beside [] [] []))
-
--- block 0 is the target and nothing leads to x: 1
-abbrev pub b60 : Row
-b60 =
-    moves (pic ((op2 Output 2 1 ∷ op0 Ret ∷ []) ∷ (op0 Ret ∷ []) ∷ (const 1 8 ∷ op2 Alloc 2 1 ∷ op3 Cmp 3 1 1
-    ∷ op3 Cmp 4 1 3 ∷ op3 Cmp 5 1 4 ∷ op3 Cmp 6 1 5 ∷ op3 Cmp 7 1 6 ∷ op3 Cmp 8 1 7 ∷ op3 Cat 2 1 1 ∷ fork 0 0 1 ∷ [])
-    ∷ []) (at (upto 13) []) (registers 9 (0 ∷ 0 ∷ 1 ∷ replicate 6 0 ++ 77 ∷ 77 ∷ 77 ∷ 77 ∷ [])) (operands 0 (77 ∷ []))
-    (beside [] [] [])) 38 8152 800 (done 1 12 0) ((1 ∷ 2 ∷ 0 ∷ 8 ∷ 12 ∷ 0 ∷ []) ∷ [])
-    (pic ((op2 Alloc 9 1 ∷ op3 Cmp 10 1 1 ∷ op3 Cmp 11 1 10 ∷ op3 Cmp 10 1 11 ∷ op3 Cmp 11 1 10 ∷ op3 Cmp 10 1 11
-    ∷ op3 Cmp 11 1 10 ∷ op3 Cat 9 1 1 ∷ op2 Output 9 1 ∷ op0 Ret ∷ []) ∷ (op0 Ret ∷ []) ∷ (const 1 8 ∷ fork 0 0 1
-    ∷ []) ∷ []) (at (range 4 8 ++ 0 ∷ 1 ∷ 2 ∷ 3 ∷ 12 ∷ []) []) (registers 12 (0 ∷ 0 ∷ 1 ∷ replicate 6 0 ++ 1 ∷ 0 ∷ 0
-    ∷ 77 ∷ [])) (operands 0 (77 ∷ [])) (beside [] [] []))
-
--- the chain goes on in block 0: 1
-abbrev pub b61 : Row
-b61 =
-    moves (pic ((op0 Cover ∷ fork 0 1 2 ∷ []) ∷ (op2 Output 2 1 ∷ op0 Ret ∷ []) ∷ (op0 Ret ∷ []) ∷ (const 1 8
-    ∷ op2 Alloc 2 1 ∷ op3 Cmp 3 1 1 ∷ op3 Cmp 4 1 3 ∷ op3 Cmp 5 1 4 ∷ op3 Cmp 6 1 5 ∷ op3 Cmp 7 1 6 ∷ op3 Cmp 8 1 7
-    ∷ op3 Cat 2 1 1 ∷ op0 Br ∷ []) ∷ []) (at (upto 15) []) (registers 9 (0 ∷ 0 ∷ 1 ∷ replicate 6 0 ++ 77 ∷ 77 ∷ 77
-    ∷ 77 ∷ [])) (operands 0 (77 ∷ [])) (beside [] [] [])) 42 8168 800 (done 1 12 0) ((1 ∷ 3 ∷ 1 ∷ 8 ∷ 12 ∷ 0 ∷ [])
-    ∷ [])
-    (pic ((op0 Cover ∷ fork 0 1 2 ∷ []) ∷ (op2 Alloc 9 1 ∷ op3 Cmp 10 1 1 ∷ op3 Cmp 11 1 10 ∷ op3 Cmp 10 1 11
-    ∷ op3 Cmp 11 1 10 ∷ op3 Cmp 10 1 11 ∷ op3 Cmp 11 1 10 ∷ op3 Cat 9 1 1 ∷ op2 Output 9 1 ∷ op0 Ret ∷ []) ∷ (op0 Ret
-    ∷ []) ∷ (const 1 8 ∷ op0 Br ∷ []) ∷ []) (at (0 ∷ 1 ∷ range 6 8 ++ 2 ∷ 3 ∷ 4 ∷ 5 ∷ 14 ∷ []) []) (registers 12 (0
-    ∷ 0 ∷ 1 ∷ replicate 6 0 ++ 1 ∷ 0 ∷ 0 ∷ 77 ∷ [])) (operands 0 (77 ∷ [])) (beside [] [] []))
-
--- the target has two predecessors: 0
-abbrev pub b62 : Row
-b62 =
-    stays (pic ((const 1 8 ∷ op2 Alloc 2 1 ∷ op3 Cmp 3 1 1 ∷ op3 Cmp 4 1 3 ∷ op3 Cmp 5 1 4 ∷ op3 Cmp 6 1 5
-    ∷ op3 Cmp 7 1 6 ∷ op3 Cmp 8 1 7 ∷ op3 Cat 2 1 1 ∷ fork 0 1 2 ∷ []) ∷ (op2 Output 2 1 ∷ op0 Ret ∷ []) ∷ (br 1 ∷ [])
-    ∷ []) (at (upto 13) []) (registers 9 (0 ∷ 0 ∷ 1 ∷ replicate 6 0 ++ 77 ∷ [])) (operands 0 (77 ∷ []))
-    (beside [] [] [])) 32 8128 800 (done 0 9 0)
-
--- the target leads to itself: 0
-abbrev pub b63 : Row
-b63 =
-    stays (pic ((const 1 8 ∷ op2 Alloc 2 1 ∷ op3 Cmp 3 1 1 ∷ op3 Cmp 4 1 3 ∷ op3 Cmp 5 1 4 ∷ op3 Cmp 6 1 5
-    ∷ op3 Cmp 7 1 6 ∷ op3 Cmp 8 1 7 ∷ op3 Cat 2 1 1 ∷ fork 0 1 2 ∷ []) ∷ (op2 Output 2 1 ∷ br 1 ∷ []) ∷ (op0 Ret ∷ [])
-    ∷ []) (at (upto 13) []) (registers 9 (0 ∷ 0 ∷ 1 ∷ replicate 6 0 ++ 77 ∷ [])) (operands 0 (77 ∷ []))
-    (beside [] [] [])) 32 8128 800 (done 0 9 0)
 
 abbrev pub rows7 : List Row
 rows7 =

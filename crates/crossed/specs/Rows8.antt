@@ -2,56 +2,107 @@
 -- `compare crossed` in tests/rust, and again by its compare.sh: not to be edited. Assumes nothing.
 use Rattle.std.specs.Prelude.{List, [], ◌∷◌, ◌++◌, replicate}
 use Rattle.words.specs.Lists.{range, upto}
-use Rattle.model.specs.Kinds.{AddrOf, Alloc, Bin, BoolOp, BoundsLen, Br, CallNative, Case, Cat, Cmp}
-use Rattle.model.specs.Kinds.{Const, ConstF, Cover, DopeLen, FCmp, Index, LayoutOf, Load, Move, Output}
-use Rattle.model.specs.Kinds.{Ret, Select, SigReadScalar}
-use Rattle.model.specs.Picture.{absent}
+use Rattle.model.specs.Kinds.{AddrOf, Alloc, Bin, BoolOp, BoundsLen, CallNative, Case, Cat, Cmp, ConstF}
+use Rattle.model.specs.Kinds.{Cover, DopeLen, FCmp, Index, LayoutOf, Load, Move, Output, Ret, Select}
+use Rattle.model.specs.Kinds.{SigReadScalar}
 use Rattle.model.specs.Build.{op}
 use Rattle.crossed.specs.Row.{Row, pic, at, registers, operands, beside, op0, op1, op2, op3, op4, br, fork, const, moves, stays, done}
 
--- the chain comes back to x: 0
+-- an empty target: 1
 abbrev pub b64 : Row
 b64 =
+    moves (pic ((const 1 8 ∷ op2 Alloc 2 1 ∷ op3 Cmp 3 1 1 ∷ op3 Cmp 4 1 3 ∷ op3 Cmp 5 1 4 ∷ op3 Cmp 6 1 5
+    ∷ op3 Cmp 7 1 6 ∷ op3 Cmp 8 1 7 ∷ op3 Cat 2 1 1 ∷ fork 0 1 2 ∷ []) ∷ [] ∷ (op0 Ret ∷ []) ∷ []) (at (upto 11) [])
+    (registers 9 (0 ∷ 0 ∷ 1 ∷ replicate 6 0 ++ 77 ∷ 77 ∷ 77 ∷ 77 ∷ [])) (operands 0 (77 ∷ []))
+    (beside [] [] [])) 38 8152 800 (done 1 12 0) ((1 ∷ 0 ∷ 1 ∷ 8 ∷ 12 ∷ 0 ∷ []) ∷ [])
+    (pic ((const 1 8 ∷ fork 0 1 2 ∷ []) ∷ (op2 Alloc 9 1 ∷ op3 Cmp 10 1 1 ∷ op3 Cmp 11 1 10 ∷ op3 Cmp 10 1 11
+    ∷ op3 Cmp 11 1 10 ∷ op3 Cmp 10 1 11 ∷ op3 Cmp 11 1 10 ∷ op3 Cat 9 1 1 ∷ []) ∷ (op0 Ret ∷ []) ∷ []) (at (0 ∷ 9
+    ∷ range 1 8 ++ 10 ∷ []) []) (registers 12 (0 ∷ 0 ∷ 1 ∷ replicate 6 0 ++ 1 ∷ 0 ∷ 0 ∷ 77 ∷ [])) (operands 0 (77
+    ∷ [])) (beside [] [] []))
+
+-- an empty target before x: 1
+abbrev pub b65 : Row
+b65 =
+    moves (pic ((br 2 ∷ []) ∷ [] ∷ (const 1 8 ∷ op2 Alloc 2 1 ∷ op3 Cmp 3 1 1 ∷ op3 Cmp 4 1 3 ∷ op3 Cmp 5 1 4
+    ∷ op3 Cmp 6 1 5 ∷ op3 Cmp 7 1 6 ∷ op3 Cmp 8 1 7 ∷ op3 Cat 2 1 1 ∷ fork 0 1 3 ∷ []) ∷ (op0 Ret ∷ []) ∷ []) (at
+    (upto 12) []) (registers 9 (0 ∷ 0 ∷ 1 ∷ replicate 6 0 ++ 77 ∷ 77 ∷ 77 ∷ 77 ∷ [])) (operands 0 (77 ∷ []))
+    (beside [] [] [])) 42 8168 800 (done 1 12 0) ((1 ∷ 2 ∷ 1 ∷ 8 ∷ 12 ∷ 0 ∷ []) ∷ [])
+    (pic ((br 2 ∷ []) ∷ (op2 Alloc 9 1 ∷ op3 Cmp 10 1 1 ∷ op3 Cmp 11 1 10 ∷ op3 Cmp 10 1 11 ∷ op3 Cmp 11 1 10
+    ∷ op3 Cmp 10 1 11 ∷ op3 Cmp 11 1 10 ∷ op3 Cat 9 1 1 ∷ []) ∷ (const 1 8 ∷ fork 0 1 3 ∷ []) ∷ (op0 Ret ∷ []) ∷ [])
+    (at (0 ∷ range 2 8 ++ 1 ∷ 10 ∷ 11 ∷ []) []) (registers 12 (0 ∷ 0 ∷ 1 ∷ replicate 6 0 ++ 1 ∷ 0 ∷ 0 ∷ 77 ∷ []))
+    (operands 0 (77 ∷ [])) (beside [] [] []))
+
+-- the target is f: 1
+abbrev pub b66 : Row
+b66 =
+    moves (pic ((const 1 8 ∷ op2 Alloc 2 1 ∷ op3 Cmp 3 1 1 ∷ op3 Cmp 4 1 3 ∷ op3 Cmp 5 1 4 ∷ op3 Cmp 6 1 5
+    ∷ op3 Cmp 7 1 6 ∷ op3 Cmp 8 1 7 ∷ op3 Cat 2 1 1 ∷ fork 0 2 1 ∷ []) ∷ (op2 Output 2 1 ∷ op0 Ret ∷ []) ∷ (op0 Ret
+    ∷ []) ∷ []) (at (upto 13) []) (registers 9 (0 ∷ 0 ∷ 1 ∷ replicate 6 0 ++ 77 ∷ 77 ∷ 77 ∷ 77 ∷ [])) (operands 0 (77
+    ∷ [])) (beside [] [] [])) 38 8152 800 (done 1 12 0) ((1 ∷ 0 ∷ 1 ∷ 8 ∷ 12 ∷ 0 ∷ []) ∷ [])
+    (pic ((const 1 8 ∷ fork 0 2 1 ∷ []) ∷ (op2 Alloc 9 1 ∷ op3 Cmp 10 1 1 ∷ op3 Cmp 11 1 10 ∷ op3 Cmp 10 1 11
+    ∷ op3 Cmp 11 1 10 ∷ op3 Cmp 10 1 11 ∷ op3 Cmp 11 1 10 ∷ op3 Cat 9 1 1 ∷ op2 Output 9 1 ∷ op0 Ret ∷ []) ∷ (op0 Ret
+    ∷ []) ∷ []) (at (0 ∷ 9 ∷ range 1 8 ++ 10 ∷ 11 ∷ 12 ∷ []) []) (registers 12 (0 ∷ 0 ∷ 1 ∷ replicate 6 0 ++ 1 ∷ 0 ∷ 0
+    ∷ 77 ∷ [])) (operands 0 (77 ∷ [])) (beside [] [] []))
+
+-- the target has two predecessors: 0
+abbrev pub b67 : Row
+b67 =
     stays (pic ((const 1 8 ∷ op2 Alloc 2 1 ∷ op3 Cmp 3 1 1 ∷ op3 Cmp 4 1 3 ∷ op3 Cmp 5 1 4 ∷ op3 Cmp 6 1 5
-    ∷ op3 Cmp 7 1 6 ∷ op3 Cmp 8 1 7 ∷ op3 Cat 2 1 1 ∷ op0 Br ∷ []) ∷ (op2 Output 2 1 ∷ op0 Ret ∷ []) ∷ (op0 Ret ∷ [])
+    ∷ op3 Cmp 7 1 6 ∷ op3 Cmp 8 1 7 ∷ op3 Cat 2 1 1 ∷ fork 0 1 2 ∷ []) ∷ (op2 Output 2 1 ∷ op0 Ret ∷ []) ∷ (br 1 ∷ [])
     ∷ []) (at (upto 13) []) (registers 9 (0 ∷ 0 ∷ 1 ∷ replicate 6 0 ++ 77 ∷ [])) (operands 0 (77 ∷ []))
     (beside [] [] [])) 32 8128 800 (done 0 9 0)
 
+-- the target leads to itself: 0
+abbrev pub b68 : Row
+b68 =
+    stays (pic ((const 1 8 ∷ op2 Alloc 2 1 ∷ op3 Cmp 3 1 1 ∷ op3 Cmp 4 1 3 ∷ op3 Cmp 5 1 4 ∷ op3 Cmp 6 1 5
+    ∷ op3 Cmp 7 1 6 ∷ op3 Cmp 8 1 7 ∷ op3 Cat 2 1 1 ∷ fork 0 1 2 ∷ []) ∷ (op2 Output 2 1 ∷ br 1 ∷ []) ∷ (op0 Ret ∷ [])
+    ∷ []) (at (upto 13) []) (registers 9 (0 ∷ 0 ∷ 1 ∷ replicate 6 0 ++ 77 ∷ [])) (operands 0 (77 ∷ []))
+    (beside [] [] [])) 32 8128 800 (done 0 9 0)
+
+-- the chain comes back to x: 0
+abbrev pub b69 : Row
+b69 =
+    stays (pic ((op0 Ret ∷ []) ∷ (const 1 8 ∷ op2 Alloc 2 1 ∷ op3 Cmp 3 1 1 ∷ op3 Cmp 4 1 3 ∷ op3 Cmp 5 1 4
+    ∷ op3 Cmp 6 1 5 ∷ op3 Cmp 7 1 6 ∷ op3 Cmp 8 1 7 ∷ op3 Cat 2 1 1 ∷ br 1 ∷ []) ∷ (op2 Output 2 1 ∷ op0 Ret ∷ [])
+    ∷ (op0 Ret ∷ []) ∷ []) (at (upto 14) []) (registers 9 (0 ∷ 0 ∷ 1 ∷ replicate 6 0 ++ 77 ∷ [])) (operands 0 (77
+    ∷ [])) (beside [] [] [])) 36 8144 800 (done 0 9 0)
+
 -- x ends in a Case: 0
-abbrev pub b65 : Row
-b65 =
+abbrev pub b70 : Row
+b70 =
     stays (pic ((const 1 8 ∷ op2 Alloc 2 1 ∷ op3 Cmp 3 1 1 ∷ op3 Cmp 4 1 3 ∷ op3 Cmp 5 1 4 ∷ op3 Cmp 6 1 5
     ∷ op3 Cmp 7 1 6 ∷ op3 Cmp 8 1 7 ∷ op3 Cat 2 1 1 ∷ op1 Case 0 ∷ []) ∷ (op2 Output 2 1 ∷ op0 Ret ∷ []) ∷ (op0 Ret
     ∷ []) ∷ []) (at (upto 13) []) (registers 9 (0 ∷ 0 ∷ 1 ∷ replicate 6 0 ++ 77 ∷ [])) (operands 0 (77 ∷ []))
     (beside [] [] [])) 32 8128 800 (done 0 9 0)
 
 -- the target leads to itself and writes what it reads: 0
-abbrev pub b66 : Row
-b66 =
+abbrev pub b71 : Row
+b71 =
     stays (pic ((const 1 8 ∷ op2 Alloc 2 1 ∷ op3 Cmp 3 1 1 ∷ op3 Cmp 4 1 3 ∷ op3 Cmp 5 1 4 ∷ op3 Cmp 6 1 5
     ∷ op3 Cmp 7 1 6 ∷ op3 Cmp 8 1 7 ∷ op3 Cat 2 1 1 ∷ fork 0 1 2 ∷ []) ∷ (op2 Output 2 1 ∷ const 2 5 ∷ br 1 ∷ [])
     ∷ (op0 Ret ∷ []) ∷ []) (at (upto 14) []) (registers 9 (0 ∷ 0 ∷ 1 ∷ replicate 6 0 ++ 77 ∷ [])) (operands 0 (77
     ∷ [])) (beside [] [] [])) 32 8128 800 (done 0 9 0)
 
 -- the target is x itself, the other has two predecessors: 0
-abbrev pub b67 : Row
-b67 =
-    stays (pic ((const 1 8 ∷ op2 Alloc 2 1 ∷ op3 Cmp 3 1 1 ∷ op3 Cmp 4 1 3 ∷ op3 Cmp 5 1 4 ∷ op3 Cmp 6 1 5
-    ∷ op3 Cmp 7 1 6 ∷ op3 Cmp 8 1 7 ∷ op3 Cat 2 1 1 ∷ fork 0 0 2 ∷ []) ∷ (op2 Output 2 1 ∷ br 2 ∷ []) ∷ (op0 Ret ∷ [])
-    ∷ []) (at (upto 13) []) (registers 9 (0 ∷ 0 ∷ 1 ∷ replicate 6 0 ++ 77 ∷ [])) (operands 0 (77 ∷ []))
-    (beside [] [] [])) 32 8128 800 (done 0 9 0)
+abbrev pub b72 : Row
+b72 =
+    stays (pic ((op0 Ret ∷ []) ∷ (const 1 8 ∷ op2 Alloc 2 1 ∷ op3 Cmp 3 1 1 ∷ op3 Cmp 4 1 3 ∷ op3 Cmp 5 1 4
+    ∷ op3 Cmp 6 1 5 ∷ op3 Cmp 7 1 6 ∷ op3 Cmp 8 1 7 ∷ op3 Cat 2 1 1 ∷ fork 0 1 3 ∷ []) ∷ (op2 Output 2 1 ∷ br 3 ∷ [])
+    ∷ (op0 Ret ∷ []) ∷ []) (at (upto 14) []) (registers 9 (0 ∷ 0 ∷ 1 ∷ replicate 6 0 ++ 77 ∷ [])) (operands 0 (77
+    ∷ [])) (beside [] [] [])) 36 8144 800 (done 0 9 0)
 
 -- the chain's second block has a second predecessor: 0
-abbrev pub b68 : Row
-b68 =
+abbrev pub b73 : Row
+b73 =
     stays (pic ((const 1 8 ∷ op2 Alloc 2 1 ∷ op3 Cmp 3 1 1 ∷ op3 Cmp 4 1 3 ∷ op3 Cmp 5 1 4 ∷ op3 Cmp 6 1 5
     ∷ op3 Cmp 7 1 6 ∷ op3 Cmp 8 1 7 ∷ op3 Cat 2 1 1 ∷ br 3 ∷ []) ∷ (op2 Output 2 1 ∷ op0 Ret ∷ []) ∷ (op0 Ret ∷ [])
     ∷ (op0 Cover ∷ fork 0 1 2 ∷ []) ∷ (br 3 ∷ []) ∷ []) (at (upto 16) []) (registers 9 (0 ∷ 0 ∷ 1
     ∷ replicate 6 0 ++ 77 ∷ [])) (operands 0 (77 ∷ [])) (beside [] [] [])) 40 8160 800 (done 0 9 0)
 
 -- a Br to the target in the middle of a block: 1
-abbrev pub b69 : Row
-b69 =
+abbrev pub b74 : Row
+b74 =
     moves (pic ((const 1 8 ∷ op2 Alloc 2 1 ∷ op3 Cmp 3 1 1 ∷ op3 Cmp 4 1 3 ∷ op3 Cmp 5 1 4 ∷ op3 Cmp 6 1 5
     ∷ op3 Cmp 7 1 6 ∷ op3 Cmp 8 1 7 ∷ op3 Cat 2 1 1 ∷ fork 0 1 2 ∷ []) ∷ (op2 Output 2 1 ∷ op0 Ret ∷ []) ∷ (br 1
     ∷ op0 Ret ∷ []) ∷ []) (at (upto 14) []) (registers 9 (0 ∷ 0 ∷ 1 ∷ replicate 6 0 ++ 77 ∷ 77 ∷ 77 ∷ 77 ∷ []))
@@ -62,8 +113,8 @@ b69 =
     ∷ replicate 6 0 ++ 1 ∷ 0 ∷ 0 ∷ 77 ∷ [])) (operands 0 (77 ∷ [])) (beside [] [] []))
 
 -- the target writes a member's register and reads it: 1
-abbrev pub b70 : Row
-b70 =
+abbrev pub b75 : Row
+b75 =
     moves (pic ((const 1 8 ∷ op2 Alloc 2 1 ∷ op3 Cmp 3 1 1 ∷ op3 Cmp 4 1 3 ∷ op3 Cmp 5 1 4 ∷ op3 Cmp 6 1 5
     ∷ op3 Cmp 7 1 6 ∷ op3 Cmp 8 1 7 ∷ op3 Cat 2 1 1 ∷ fork 0 1 2 ∷ []) ∷ (const 3 5 ∷ op2 Output 3 1 ∷ op2 Output 2 1
     ∷ op0 Ret ∷ []) ∷ (op0 Ret ∷ []) ∷ []) (at (upto 15) []) (registers 9 (0 ∷ 0 ∷ 1 ∷ replicate 6 0 ++ 77 ∷ 77 ∷ 77
@@ -75,8 +126,8 @@ b70 =
     ∷ 0 ∷ 1 ∷ replicate 6 0 ++ 1 ∷ 0 ∷ 0 ∷ 77 ∷ [])) (operands 0 (77 ∷ [])) (beside [] [] []))
 
 -- the target reads and writes a member's register at once: 1
-abbrev pub b71 : Row
-b71 =
+abbrev pub b76 : Row
+b76 =
     moves (pic ((const 1 8 ∷ op2 Alloc 2 1 ∷ op3 Cmp 3 1 1 ∷ op3 Cmp 4 1 3 ∷ op3 Cmp 5 1 4 ∷ op3 Cmp 6 1 5
     ∷ op3 Cmp 7 1 6 ∷ op3 Cmp 8 1 7 ∷ op3 Cat 2 1 1 ∷ fork 0 1 2 ∷ []) ∷ (op3 Index 2 2 1 ∷ op2 Output 2 1 ∷ op0 Ret
     ∷ []) ∷ (op0 Ret ∷ []) ∷ []) (at (upto 14) []) (registers 9 (0 ∷ 0 ∷ 1 ∷ replicate 6 0 ++ 77 ∷ 77 ∷ 77 ∷ 77 ∷ []))
@@ -87,8 +138,8 @@ b71 =
     ∷ replicate 6 0 ++ 1 ∷ 0 ∷ 0 ∷ 77 ∷ [])) (operands 0 (77 ∷ [])) (beside [] [] []))
 
 -- Sig results: 1
-abbrev pub b72 : Row
-b72 =
+abbrev pub b77 : Row
+b77 =
     moves (pic ((const 1 8 ∷ op2 Alloc 2 1 ∷ op3 Cmp 3 1 1 ∷ op3 Cmp 4 1 3 ∷ op3 Cmp 5 1 4 ∷ op3 Cmp 6 1 5
     ∷ op3 Cmp 7 1 6 ∷ op3 Cmp 8 1 7 ∷ op3 Cat 2 1 1 ∷ fork 0 1 2 ∷ []) ∷ (op2 Output 2 1 ∷ op0 Ret ∷ []) ∷ (op0 Ret
     ∷ []) ∷ []) (at (upto 13) []) (registers 9 (0 ∷ 0 ∷ 1 ∷ replicate 6 4 ++ replicate 6 77)) (operands 0 (77 ∷ []))
@@ -99,8 +150,8 @@ b72 =
     ∷ 4 ∷ 0 ∷ 77 ∷ [])) (operands 0 (77 ∷ [])) (beside [] [] []))
 
 -- results of three types, with vias: 1
-abbrev pub b73 : Row
-b73 =
+abbrev pub b78 : Row
+b78 =
     moves (pic ((const 1 8 ∷ op2 Alloc 2 1 ∷ op3 Cmp 3 1 1 ∷ op3 Cmp 4 1 3 ∷ op3 Cmp 5 1 4 ∷ op3 Cmp 6 1 5
     ∷ op3 Cmp 7 1 6 ∷ op3 Cmp 8 1 7 ∷ op3 Cat 2 1 1 ∷ fork 0 1 2 ∷ []) ∷ (op2 Output 2 1 ∷ op0 Ret ∷ []) ∷ (op0 Ret
     ∷ []) ∷ []) (at (upto 13) (upto 7 ++ upto 6)) (registers 9 (0 ∷ 0 ∷ 1 ∷ 4 ∷ 0 ∷ 7 ∷ 4 ∷ 0 ∷ 7 ∷ replicate 6 77))
@@ -112,8 +163,8 @@ b73 =
     (beside [] [] []))
 
 -- a sum with a Cmp: 1
-abbrev pub b74 : Row
-b74 =
+abbrev pub b79 : Row
+b79 =
     moves (pic ((const 1 8 ∷ op2 Alloc 2 1 ∷ op3 Cmp 9 0 0 ∷ op Bin 1 (8 ∷ 9 ∷ 1 ∷ []) [] [] ∷ op3 Cat 2 1 1
     ∷ fork 0 1 2 ∷ []) ∷ (op2 Output 2 1 ∷ op0 Ret ∷ []) ∷ (op0 Ret ∷ []) ∷ []) (at (upto 9) []) (registers 11 (0 ∷ 0
     ∷ 1 ∷ replicate 8 0 ++ 77 ∷ 77 ∷ 77 ∷ 77 ∷ [])) (operands 1 (1 ∷ 77 ∷ [])) (beside [] [] (1 ∷ []))) 42 8168 800
@@ -124,8 +175,8 @@ b74 =
     (beside [] [] (1 ∷ [])))
 
 -- a sum with an FCmp: 1
-abbrev pub b76 : Row
-b76 =
+abbrev pub b81 : Row
+b81 =
     moves (pic ((const 1 8 ∷ op2 Alloc 2 1 ∷ op3 FCmp 9 0 0 ∷ op Bin 1 (8 ∷ 9 ∷ 1 ∷ []) [] [] ∷ op3 Cat 2 1 1
     ∷ fork 0 1 2 ∷ []) ∷ (op2 Output 2 1 ∷ op0 Ret ∷ []) ∷ (op0 Ret ∷ []) ∷ []) (at (upto 9) []) (registers 11 (0 ∷ 0
     ∷ 1 ∷ replicate 8 0 ++ 77 ∷ 77 ∷ 77 ∷ 77 ∷ [])) (operands 1 (1 ∷ 77 ∷ [])) (beside [] [] (1 ∷ []))) 42 8168 800
@@ -136,8 +187,8 @@ b76 =
     (beside [] [] (1 ∷ [])))
 
 -- a sum with a Bool: 1
-abbrev pub b78 : Row
-b78 =
+abbrev pub b83 : Row
+b83 =
     moves (pic ((const 1 8 ∷ op2 Alloc 2 1 ∷ op3 BoolOp 9 0 0 ∷ op Bin 1 (8 ∷ 9 ∷ 1 ∷ []) [] [] ∷ op3 Cat 2 1 1
     ∷ fork 0 1 2 ∷ []) ∷ (op2 Output 2 1 ∷ op0 Ret ∷ []) ∷ (op0 Ret ∷ []) ∷ []) (at (upto 9) []) (registers 11 (0 ∷ 0
     ∷ 1 ∷ replicate 8 0 ++ 77 ∷ 77 ∷ 77 ∷ 77 ∷ [])) (operands 1 (1 ∷ 77 ∷ [])) (beside [] [] (1 ∷ []))) 42 8168 800
@@ -148,8 +199,8 @@ b78 =
     (beside [] [] (1 ∷ [])))
 
 -- a sum with a Not: 1
-abbrev pub b80 : Row
-b80 =
+abbrev pub b85 : Row
+b85 =
     moves (pic ((const 1 8 ∷ op2 Alloc 2 1 ∷ op BoolOp 1 (9 ∷ 0 ∷ []) [] [] ∷ op Bin 1 (8 ∷ 9 ∷ 1 ∷ []) [] []
     ∷ op3 Cat 2 1 1 ∷ fork 0 1 2 ∷ []) ∷ (op2 Output 2 1 ∷ op0 Ret ∷ []) ∷ (op0 Ret ∷ []) ∷ []) (at (upto 9) [])
     (registers 11 (0 ∷ 0 ∷ 1 ∷ replicate 8 0 ++ 77 ∷ 77 ∷ 77 ∷ 77 ∷ [])) (operands 1 (1 ∷ 77 ∷ [])) (beside [] [] (1
@@ -160,8 +211,8 @@ b80 =
     (beside [] [] (1 ∷ [])))
 
 -- a sum with a BoundsLen: 1
-abbrev pub b82 : Row
-b82 =
+abbrev pub b87 : Row
+b87 =
     moves (pic ((const 1 8 ∷ op2 Alloc 2 1 ∷ op4 BoundsLen 9 0 0 0 ∷ op Bin 1 (8 ∷ 9 ∷ 1 ∷ []) [] [] ∷ op3 Cat 2 1 1
     ∷ fork 0 1 2 ∷ []) ∷ (op2 Output 2 1 ∷ op0 Ret ∷ []) ∷ (op0 Ret ∷ []) ∷ []) (at (upto 9) []) (registers 11 (0 ∷ 0
     ∷ 1 ∷ replicate 8 0 ++ 77 ∷ 77 ∷ 77 ∷ 77 ∷ [])) (operands 1 (1 ∷ 77 ∷ [])) (beside [] [] (1 ∷ []))) 42 8168 800
@@ -172,8 +223,8 @@ b82 =
     (beside [] [] (1 ∷ [])))
 
 -- a sum with a DopeLen: 1
-abbrev pub b84 : Row
-b84 =
+abbrev pub b89 : Row
+b89 =
     moves (pic ((const 1 8 ∷ op2 Alloc 2 1 ∷ op AddrOf 4 (10 ∷ []) [] [] ∷ op2 DopeLen 9 10 ∷ op Bin 1 (8 ∷ 9 ∷ 1
     ∷ []) [] [] ∷ op3 Cat 2 1 1 ∷ fork 0 1 2 ∷ []) ∷ (op2 Output 2 1 ∷ op0 Ret ∷ []) ∷ (op0 Ret ∷ []) ∷ []) (at
     (upto 10) []) (registers 11 (0 ∷ 0 ∷ 1 ∷ replicate 8 0 ++ 77 ∷ 77 ∷ 77 ∷ 77 ∷ [])) (operands 1 (1 ∷ 77 ∷ []))
@@ -184,8 +235,8 @@ b84 =
     (operands 1 (1 ∷ 77 ∷ [])) (beside [] [] (1 ∷ [])))
 
 -- a sum with a word of a layout: 1
-abbrev pub b86 : Row
-b86 =
+abbrev pub b91 : Row
+b91 =
     moves (pic ((const 1 8 ∷ op2 Alloc 2 1 ∷ op AddrOf 4 (10 ∷ []) [] [] ∷ op2 LayoutOf 9 10 ∷ op Load 3 (9 ∷ 9
     ∷ []) [] [] ∷ op Bin 1 (8 ∷ 9 ∷ 1 ∷ []) [] [] ∷ op3 Cat 2 1 1 ∷ fork 0 1 2 ∷ []) ∷ (op2 Output 2 1 ∷ op0 Ret ∷ [])
     ∷ (op0 Ret ∷ []) ∷ []) (at (upto 11) []) (registers 11 (0 ∷ 0 ∷ 1 ∷ replicate 8 0 ++ 77 ∷ 77 ∷ 77 ∷ 77 ∷ []))
@@ -196,24 +247,24 @@ b86 =
     ∷ replicate 8 0 ++ 1 ∷ 0 ∷ 0 ∷ 77 ∷ [])) (operands 1 (1 ∷ 77 ∷ [])) (beside [] [] (1 ∷ [])))
 
 -- a sum with a word of the pool: 0
-abbrev pub b88 : Row
-b88 =
+abbrev pub b93 : Row
+b93 =
     stays (pic ((const 1 8 ∷ op2 Alloc 2 1 ∷ op AddrOf 4 (10 ∷ []) [] [] ∷ op Load 3 (9 ∷ 10 ∷ []) [] [] ∷ op Bin 1 (8
     ∷ 9 ∷ 1 ∷ []) [] [] ∷ op3 Cat 2 1 1 ∷ fork 0 1 2 ∷ []) ∷ (op2 Output 2 1 ∷ op0 Ret ∷ []) ∷ (op0 Ret ∷ []) ∷ [])
     (at (upto 10) []) (registers 11 (0 ∷ 0 ∷ 1 ∷ replicate 8 0 ++ 77 ∷ [])) (operands 1 (1 ∷ 77 ∷ [])) (beside [] []
     (1 ∷ []))) 36 8144 800 (done 0 11 1)
 
 -- a length and a word of the pool: 0
-abbrev pub b89 : Row
-b89 =
+abbrev pub b94 : Row
+b94 =
     stays (pic ((const 1 8 ∷ op2 Alloc 2 1 ∷ op AddrOf 4 (10 ∷ []) [] [] ∷ op Load 3 (9 ∷ 10 ∷ []) [] [] ∷ op Bin 3 (8
     ∷ 1 ∷ 9 ∷ []) [] [] ∷ op3 Cat 2 1 1 ∷ fork 0 1 2 ∷ []) ∷ (op2 Output 2 1 ∷ op0 Ret ∷ []) ∷ (op0 Ret ∷ []) ∷ [])
     (at (upto 10) []) (registers 11 (0 ∷ 0 ∷ 1 ∷ replicate 8 0 ++ 77 ∷ [])) (operands 1 (1 ∷ 77 ∷ [])) (beside [] []
     (1 ∷ []))) 36 8144 800 (done 0 11 1)
 
 -- a sum with a copy of a length: 1
-abbrev pub b90 : Row
-b90 =
+abbrev pub b95 : Row
+b95 =
     moves (pic ((const 1 8 ∷ op2 Alloc 2 1 ∷ op2 Move 9 1 ∷ op Bin 1 (8 ∷ 9 ∷ 1 ∷ []) [] [] ∷ op3 Cat 2 1 1
     ∷ fork 0 1 2 ∷ []) ∷ (op2 Output 2 1 ∷ op0 Ret ∷ []) ∷ (op0 Ret ∷ []) ∷ []) (at (upto 9) []) (registers 11 (0 ∷ 0
     ∷ 1 ∷ replicate 8 0 ++ 77 ∷ 77 ∷ 77 ∷ 77 ∷ [])) (operands 1 (1 ∷ 77 ∷ [])) (beside [] [] (1 ∷ []))) 42 8168 800
@@ -224,15 +275,15 @@ b90 =
     (beside [] [] (1 ∷ [])))
 
 -- a sum with a copy of another: 0
-abbrev pub b92 : Row
-b92 =
+abbrev pub b97 : Row
+b97 =
     stays (pic ((const 1 8 ∷ op2 Alloc 2 1 ∷ op2 Move 9 0 ∷ op Bin 1 (8 ∷ 9 ∷ 1 ∷ []) [] [] ∷ op3 Cat 2 1 1
     ∷ fork 0 1 2 ∷ []) ∷ (op2 Output 2 1 ∷ op0 Ret ∷ []) ∷ (op0 Ret ∷ []) ∷ []) (at (upto 9) []) (registers 11 (0 ∷ 0
     ∷ 1 ∷ replicate 8 0 ++ 77 ∷ [])) (operands 1 (1 ∷ 77 ∷ [])) (beside [] [] (1 ∷ []))) 36 8144 800 (done 0 11 1)
 
 -- a sum with one of two lengths: 1
-abbrev pub b94 : Row
-b94 =
+abbrev pub b99 : Row
+b99 =
     moves (pic ((const 1 8 ∷ op2 Alloc 2 1 ∷ op4 Select 9 0 1 1 ∷ op Bin 1 (8 ∷ 9 ∷ 1 ∷ []) [] [] ∷ op3 Cat 2 1 1
     ∷ fork 0 1 2 ∷ []) ∷ (op2 Output 2 1 ∷ op0 Ret ∷ []) ∷ (op0 Ret ∷ []) ∷ []) (at (upto 9) []) (registers 11 (0 ∷ 0
     ∷ 1 ∷ replicate 8 0 ++ 77 ∷ 77 ∷ 77 ∷ 77 ∷ [])) (operands 1 (1 ∷ 77 ∷ [])) (beside [] [] (1 ∷ []))) 42 8168 800
@@ -243,134 +294,81 @@ b94 =
     (beside [] [] (1 ∷ [])))
 
 -- a sum with a length or another: 0
-abbrev pub b96 : Row
-b96 =
+abbrev pub b101 : Row
+b101 =
     stays (pic ((const 1 8 ∷ op2 Alloc 2 1 ∷ op4 Select 9 0 1 0 ∷ op Bin 1 (8 ∷ 9 ∷ 1 ∷ []) [] [] ∷ op3 Cat 2 1 1
     ∷ fork 0 1 2 ∷ []) ∷ (op2 Output 2 1 ∷ op0 Ret ∷ []) ∷ (op0 Ret ∷ []) ∷ []) (at (upto 9) []) (registers 11 (0 ∷ 0
     ∷ 1 ∷ replicate 8 0 ++ 77 ∷ [])) (operands 1 (1 ∷ 77 ∷ [])) (beside [] [] (1 ∷ []))) 36 8144 800 (done 0 11 1)
 
 -- a sum with another or a length: 0
-abbrev pub b98 : Row
-b98 =
+abbrev pub b103 : Row
+b103 =
     stays (pic ((const 1 8 ∷ op2 Alloc 2 1 ∷ op4 Select 9 0 0 1 ∷ op Bin 1 (8 ∷ 9 ∷ 1 ∷ []) [] [] ∷ op3 Cat 2 1 1
     ∷ fork 0 1 2 ∷ []) ∷ (op2 Output 2 1 ∷ op0 Ret ∷ []) ∷ (op0 Ret ∷ []) ∷ []) (at (upto 9) []) (registers 11 (0 ∷ 0
     ∷ 1 ∷ replicate 8 0 ++ 77 ∷ [])) (operands 1 (1 ∷ 77 ∷ [])) (beside [] [] (1 ∷ []))) 36 8144 800 (done 0 11 1)
 
 -- a sum with a block made here: 0
-abbrev pub b100 : Row
-b100 =
+abbrev pub b105 : Row
+b105 =
     stays (pic ((const 1 8 ∷ op2 Alloc 2 1 ∷ op2 Alloc 9 1 ∷ op Bin 1 (8 ∷ 9 ∷ 1 ∷ []) [] [] ∷ op3 Cat 2 1 1
     ∷ fork 0 1 2 ∷ []) ∷ (op2 Output 2 1 ∷ op0 Ret ∷ []) ∷ (op0 Ret ∷ []) ∷ []) (at (upto 9) []) (registers 11 (0 ∷ 0
     ∷ 1 ∷ replicate 8 0 ++ 77 ∷ [])) (operands 1 (1 ∷ 77 ∷ [])) (beside [] [] (1 ∷ []))) 36 8144 800 (done 0 11 1)
 
 -- a sum with a kept block: 0
-abbrev pub b102 : Row
-b102 =
+abbrev pub b107 : Row
+b107 =
     stays (pic ((const 1 8 ∷ op2 Alloc 2 1 ∷ op2 Alloc 9 0 ∷ op Bin 1 (8 ∷ 9 ∷ 1 ∷ []) [] [] ∷ op3 Cat 2 1 1
     ∷ fork 0 1 2 ∷ []) ∷ (op2 Output 2 1 ∷ op0 Ret ∷ []) ∷ (op0 Ret ∷ []) ∷ []) (at (upto 9) []) (registers 11 (0 ∷ 0
     ∷ 1 ∷ replicate 8 0 ++ 77 ∷ [])) (operands 1 (1 ∷ 77 ∷ [])) (beside [] [] (1 ∷ []))) 36 8144 800 (done 0 11 1)
 
 -- a sum with a light native's block: 0
-abbrev pub b104 : Row
-b104 =
+abbrev pub b109 : Row
+b109 =
     stays (pic ((const 1 8 ∷ op2 Alloc 2 1 ∷ op CallNative 2 (9 ∷ []) (0 ∷ 1 ∷ []) [] ∷ op Bin 1 (8 ∷ 9 ∷ 1
     ∷ []) [] [] ∷ op3 Cat 2 1 1 ∷ fork 0 1 2 ∷ []) ∷ (op2 Output 2 1 ∷ op0 Ret ∷ []) ∷ (op0 Ret ∷ []) ∷ []) (at
     (upto 9) []) (registers 11 (0 ∷ 0 ∷ 1 ∷ replicate 8 0 ++ 77 ∷ [])) (operands 1 (1 ∷ 77 ∷ [])) (beside [] [] (1
     ∷ []))) 36 8144 800 (done 0 11 1)
 
 -- a sum with a layout: 0
-abbrev pub b106 : Row
-b106 =
+abbrev pub b111 : Row
+b111 =
     stays (pic ((const 1 8 ∷ op2 Alloc 2 1 ∷ op AddrOf 4 (10 ∷ []) [] [] ∷ op2 LayoutOf 9 10 ∷ op Bin 1 (8 ∷ 9 ∷ 1
     ∷ []) [] [] ∷ op3 Cat 2 1 1 ∷ fork 0 1 2 ∷ []) ∷ (op2 Output 2 1 ∷ op0 Ret ∷ []) ∷ (op0 Ret ∷ []) ∷ []) (at
     (upto 10) []) (registers 11 (0 ∷ 0 ∷ 1 ∷ replicate 8 0 ++ 77 ∷ [])) (operands 1 (1 ∷ 77 ∷ [])) (beside [] [] (1
     ∷ []))) 36 8144 800 (done 0 11 1)
 
 -- a sum with a signal's value: 0
-abbrev pub b108 : Row
-b108 =
+abbrev pub b113 : Row
+b113 =
     stays (pic ((const 1 8 ∷ op2 Alloc 2 1 ∷ op2 SigReadScalar 9 0 ∷ op Bin 1 (8 ∷ 9 ∷ 1 ∷ []) [] [] ∷ op3 Cat 2 1 1
     ∷ fork 0 1 2 ∷ []) ∷ (op2 Output 2 1 ∷ op0 Ret ∷ []) ∷ (op0 Ret ∷ []) ∷ []) (at (upto 9) []) (registers 11 (0 ∷ 0
     ∷ 1 ∷ replicate 8 0 ++ 77 ∷ [])) (operands 1 (1 ∷ 77 ∷ [])) (beside [] [] (1 ∷ []))) 36 8144 800 (done 0 11 1)
 
 -- a sum with a place behind a length: 0
-abbrev pub b110 : Row
-b110 =
+abbrev pub b115 : Row
+b115 =
     stays (pic ((const 1 8 ∷ op2 Alloc 2 1 ∷ op3 Index 9 1 1 ∷ op Bin 1 (8 ∷ 9 ∷ 1 ∷ []) [] [] ∷ op3 Cat 2 1 1
     ∷ fork 0 1 2 ∷ []) ∷ (op2 Output 2 1 ∷ op0 Ret ∷ []) ∷ (op0 Ret ∷ []) ∷ []) (at (upto 9) []) (registers 11 (0 ∷ 0
     ∷ 1 ∷ replicate 8 0 ++ 77 ∷ [])) (operands 1 (1 ∷ 77 ∷ [])) (beside [] [] (1 ∷ []))) 36 8144 800 (done 0 11 1)
 
 -- a sum with a word of a member's block: 0
-abbrev pub b112 : Row
-b112 =
+abbrev pub b117 : Row
+b117 =
     stays (pic ((const 1 8 ∷ op2 Alloc 2 1 ∷ op Load 3 (9 ∷ 2 ∷ []) [] [] ∷ op Bin 1 (8 ∷ 9 ∷ 1 ∷ []) [] []
     ∷ op3 Cat 2 1 1 ∷ fork 0 1 2 ∷ []) ∷ (op2 Output 2 1 ∷ op0 Ret ∷ []) ∷ (op0 Ret ∷ []) ∷ []) (at (upto 9) [])
     (registers 11 (0 ∷ 0 ∷ 1 ∷ replicate 8 0 ++ 77 ∷ [])) (operands 1 (1 ∷ 77 ∷ [])) (beside [] [] (1
     ∷ []))) 36 8144 800 (done 0 11 1)
 
 -- a sum with a float: 0
-abbrev pub b114 : Row
-b114 =
+abbrev pub b119 : Row
+b119 =
     stays (pic ((const 1 8 ∷ op2 Alloc 2 1 ∷ op ConstF 0 (9 ∷ []) [] (1 ∷ []) ∷ op Bin 1 (8 ∷ 9 ∷ 1 ∷ []) [] []
     ∷ op3 Cat 2 1 1 ∷ fork 0 1 2 ∷ []) ∷ (op2 Output 2 1 ∷ op0 Ret ∷ []) ∷ (op0 Ret ∷ []) ∷ []) (at (upto 9) [])
     (registers 11 (0 ∷ 0 ∷ 1 ∷ replicate 8 0 ++ 77 ∷ [])) (operands 1 (1 ∷ 77 ∷ [])) (beside [] [] (1
     ∷ []))) 36 8144 800 (done 0 11 1)
 
--- a quotient by 1: 1
-abbrev pub b116 : Row
-b116 =
-    moves (pic ((const 1 8 ∷ op2 Alloc 2 1 ∷ const 9 1 ∷ op Bin 4 (8 ∷ 1 ∷ 9 ∷ []) [] [] ∷ op3 Cat 2 1 1 ∷ fork 0 1 2
-    ∷ []) ∷ (op2 Output 2 1 ∷ op0 Ret ∷ []) ∷ (op0 Ret ∷ []) ∷ []) (at (upto 9) []) (registers 11 (0 ∷ 0 ∷ 1
-    ∷ replicate 8 0 ++ 77 ∷ 77 ∷ 77 ∷ [])) (operands 1 (1 ∷ 77 ∷ [])) (beside [] [] (1 ∷ []))) 40 8160 800
-    (done 1 13 1) ((1 ∷ 0 ∷ 1 ∷ 3 ∷ 13 ∷ 1 ∷ []) ∷ [])
-    (pic ((const 1 8 ∷ const 9 1 ∷ fork 0 1 2 ∷ []) ∷ (op2 Alloc 11 1 ∷ op Bin 4 (12 ∷ 1 ∷ 9 ∷ []) [] []
-    ∷ op3 Cat 11 1 1 ∷ op2 Output 11 1 ∷ op0 Ret ∷ []) ∷ (op0 Ret ∷ []) ∷ []) (at (0 ∷ 2 ∷ 5 ∷ 1 ∷ 3 ∷ 4 ∷ 6 ∷ 7 ∷ 8
-    ∷ []) []) (registers 13 (0 ∷ 0 ∷ 1 ∷ replicate 8 0 ++ 1 ∷ 0 ∷ 77 ∷ [])) (operands 1 (1 ∷ 77 ∷ [])) (beside [] []
-    (1 ∷ [])))
-
--- a quotient by 2^60: 1
-abbrev pub b117 : Row
-b117 =
-    moves (pic ((const 1 8 ∷ op2 Alloc 2 1 ∷ op Const 0 (9 ∷ []) [] (0 ∷ 268435456 ∷ []) ∷ op Bin 4 (8 ∷ 1 ∷ 9
-    ∷ []) [] [] ∷ op3 Cat 2 1 1 ∷ fork 0 1 2 ∷ []) ∷ (op2 Output 2 1 ∷ op0 Ret ∷ []) ∷ (op0 Ret ∷ []) ∷ []) (at
-    (upto 9) []) (registers 11 (0 ∷ 0 ∷ 1 ∷ replicate 8 0 ++ 77 ∷ 77 ∷ 77 ∷ [])) (operands 1 (1 ∷ 77 ∷ []))
-    (beside [] [] (1 ∷ []))) 40 8160 800 (done 1 13 1) ((1 ∷ 0 ∷ 1 ∷ 3 ∷ 13 ∷ 1 ∷ []) ∷ [])
-    (pic ((const 1 8 ∷ op Const 0 (9 ∷ []) [] (0 ∷ 268435456 ∷ []) ∷ fork 0 1 2 ∷ []) ∷ (op2 Alloc 11 1 ∷ op Bin 4 (12
-    ∷ 1 ∷ 9 ∷ []) [] [] ∷ op3 Cat 11 1 1 ∷ op2 Output 11 1 ∷ op0 Ret ∷ []) ∷ (op0 Ret ∷ []) ∷ []) (at (0 ∷ 2 ∷ 5 ∷ 1
-    ∷ 3 ∷ 4 ∷ 6 ∷ 7 ∷ 8 ∷ []) []) (registers 13 (0 ∷ 0 ∷ 1 ∷ replicate 8 0 ++ 1 ∷ 0 ∷ 77 ∷ [])) (operands 1 (1 ∷ 77
-    ∷ [])) (beside [] [] (1 ∷ [])))
-
--- a quotient by 0: 0
-abbrev pub b118 : Row
-b118 =
-    stays (pic ((const 1 8 ∷ op2 Alloc 2 1 ∷ op1 Const 9 ∷ op Bin 4 (8 ∷ 1 ∷ 9 ∷ []) [] [] ∷ op3 Cat 2 1 1
-    ∷ fork 0 1 2 ∷ []) ∷ (op2 Output 2 1 ∷ op0 Ret ∷ []) ∷ (op0 Ret ∷ []) ∷ []) (at (upto 9) []) (registers 11 (0 ∷ 0
-    ∷ 1 ∷ replicate 8 0 ++ 77 ∷ [])) (operands 1 (1 ∷ 77 ∷ [])) (beside [] [] (1 ∷ []))) 36 8144 800 (done 0 11 1)
-
--- a quotient by -1: 0
-abbrev pub b119 : Row
-b119 =
-    stays (pic ((const 1 8 ∷ op2 Alloc 2 1 ∷ op Const 0 (9 ∷ []) [] (absent ∷ absent ∷ []) ∷ op Bin 4 (8 ∷ 1 ∷ 9
-    ∷ []) [] [] ∷ op3 Cat 2 1 1 ∷ fork 0 1 2 ∷ []) ∷ (op2 Output 2 1 ∷ op0 Ret ∷ []) ∷ (op0 Ret ∷ []) ∷ []) (at
-    (upto 9) []) (registers 11 (0 ∷ 0 ∷ 1 ∷ replicate 8 0 ++ 77 ∷ [])) (operands 1 (1 ∷ 77 ∷ [])) (beside [] [] (1
-    ∷ []))) 36 8144 800 (done 0 11 1)
-
--- a quotient by a constant written twice: 0
-abbrev pub b120 : Row
-b120 =
-    stays (pic ((const 1 8 ∷ op2 Alloc 2 1 ∷ const 9 1 ∷ const 9 1 ∷ op Bin 4 (8 ∷ 1 ∷ 9 ∷ []) [] [] ∷ op3 Cat 2 1 1
-    ∷ fork 0 1 2 ∷ []) ∷ (op2 Output 2 1 ∷ op0 Ret ∷ []) ∷ (op0 Ret ∷ []) ∷ []) (at (upto 10) []) (registers 11 (0 ∷ 0
-    ∷ 1 ∷ replicate 8 0 ++ 77 ∷ [])) (operands 1 (1 ∷ 77 ∷ [])) (beside [] [] (1 ∷ []))) 36 8144 800 (done 0 11 1)
-
--- a quotient by a length: 0
-abbrev pub b121 : Row
-b121 =
-    stays (pic ((const 1 8 ∷ op2 Alloc 2 1 ∷ op3 Cmp 9 0 0 ∷ op Bin 4 (8 ∷ 1 ∷ 9 ∷ []) [] [] ∷ op3 Cat 2 1 1
-    ∷ fork 0 1 2 ∷ []) ∷ (op2 Output 2 1 ∷ op0 Ret ∷ []) ∷ (op0 Ret ∷ []) ∷ []) (at (upto 9) []) (registers 11 (0 ∷ 0
-    ∷ 1 ∷ replicate 8 0 ++ 77 ∷ [])) (operands 1 (1 ∷ 77 ∷ [])) (beside [] [] (1 ∷ []))) 36 8144 800 (done 0 11 1)
-
 abbrev pub rows8 : List Row
 rows8 =
-    b64 ∷ b65 ∷ b66 ∷ b67 ∷ b68 ∷ b69 ∷ b70 ∷ b71 ∷ b72 ∷ b73 ∷ b74 ∷ b76 ∷ b78 ∷ b80 ∷ b82 ∷ b84 ∷ b86 ∷ b88 ∷ b89
-    ∷ b90 ∷ b92 ∷ b94 ∷ b96 ∷ b98 ∷ b100 ∷ b102 ∷ b104 ∷ b106 ∷ b108 ∷ b110 ∷ b112 ∷ b114 ∷ b116 ∷ b117 ∷ b118 ∷ b119
-    ∷ b120 ∷ b121 ∷ []
+    b64 ∷ b65 ∷ b66 ∷ b67 ∷ b68 ∷ b69 ∷ b70 ∷ b71 ∷ b72 ∷ b73 ∷ b74 ∷ b75 ∷ b76 ∷ b77 ∷ b78 ∷ b79 ∷ b81 ∷ b83 ∷ b85
+    ∷ b87 ∷ b89 ∷ b91 ∷ b93 ∷ b94 ∷ b95 ∷ b97 ∷ b99 ∷ b101 ∷ b103 ∷ b105 ∷ b107 ∷ b109 ∷ b111 ∷ b113 ∷ b115 ∷ b117
+    ∷ b119 ∷ []

@@ -1,5 +1,6 @@
-//! Stored pictures with the Rust's results, for a program that replays them without the Rust: all bounds, every refusal, bytes
-//! that are not read, and generated pictures picked by what they show. The list is a file of little-endian words and bytes.
+//! Stored pictures with the Rust's results, or the plain check's where a block leads to block 0, for a program that replays them
+//! without the Rust: all bounds, every refusal, bytes that are not read, and generated pictures picked by what they show. The list is
+//! a file of little-endian words and bytes.
 
 use std::collections::BTreeSet;
 
@@ -24,7 +25,7 @@ const PICTURES: usize = 480;
 const SEEDS: u64 = 6000;
 
 /// What else is to be shown, beside rules, kinds and chains.
-const OTHERS: [&str; 14] = [
+const OTHERS: [&str; 15] = [
     "a register reused",
     "empty target",
     "target before x",
@@ -39,6 +40,7 @@ const OTHERS: [&str; 14] = [
     "gated",
     "a seventh block decides",
     "a second writer decides",
+    "the start of the function decides",
 ];
 
 pub struct Vector {
@@ -223,7 +225,7 @@ pub fn page(all: &[Vector]) -> String {
         file(all).len()
     );
     out += "For each picture: five little-endian words, the length of its bytes, the registers and operands lent, the number that `virdzeba_sink` must return, the length of the bytes that it must write at the result's head; then the picture's bytes, then those of the result. A word 0 ends the list. The result is lent 53,024 bytes.\n\n";
-    out += "The numbers and results are those of tests/rust: the Rust of the pass with its facts lengthened (docs/DIFFERENCES.md); refusals, room and bytes that are not read are judged from document 01. The pictures are the bounds of document 01, each damage of tests/rust to a small picture, bytes that are not read, and generated pictures picked by what they show: every rule that decides, every kind that moves, chains of one to six blocks and a seventh.\n\n";
+    out += "The numbers and results are those of tests/rust: the Rust of the pass with its facts lengthened (docs/DIFFERENCES.md), and the plain check where a block leads to block 0 (request 2026-02); refusals, room and bytes that are not read are judged from document 01. The pictures are the bounds of document 01, each damage of tests/rust to a small picture, bytes that are not read, and generated pictures picked by what they show: every rule that decides, every kind that moves, chains of one to six blocks and a seventh.\n\n";
     for (k, v) in all.iter().enumerate() {
         out += &format!("{k}. {}: {}\n", v.name, v.wanted.0);
     }

@@ -1,6 +1,6 @@
-//! The rows of crate `crossed`: small pictures and what the Rust makes of them, as antt that the definitions are computed
-//! against. Those of the generator are picked by what they show, so that every sort of round, target, shortage and refusal is
-//! among them; those at the bounds are taken as far as they are small.
+//! The rows of crate `crossed`: small pictures and what the Rust makes of them, or the plain check where a block leads to block 0,
+//! as antt that the definitions are computed against. Those of the generator are picked by what they show, so that every sort of
+//! round, target, shortage and refusal is among them; those at the bounds are taken as far as they are small.
 
 mod pages;
 mod pick;

@@ -28,7 +28,7 @@ impl Text {
 pub fn files(many: usize) -> Vec<(String, String)> {
     let seeds = format!("of the first {SEEDS} seeds of the generator, those that show\n-- something new");
     let sorts = [
-        (format!("Pictures by seed and what the Rust makes of them, page N: {seeds}"), picked(many)),
+        (format!("Pictures by seed and what the Rust makes of them (see proofs/Crossed), page N: {seeds}"), picked(many)),
         ("Refused pictures, page N: one for each way to damage a generated one, with tests/rust's judgement".into(), refused()),
         ("Pictures at the bounds of document 01, page N: what the Rust makes of them, and tests/rust's judgement of refused ones".into(), at_bounds()),
     ];
@@ -55,8 +55,9 @@ pub fn files(many: usize) -> Vec<(String, String)> {
 /// The proofs: a theorem for each page, since one declaration may only compute so much.
 fn proofs(pages: std::ops::RangeInclusive<usize>) -> String {
     let mut t = String::from(
-        "-- What the definitions give for pictures that the Rust has run: the same answers, lines and whole pictures, by computation,\n\
-         -- page by page. Printed with the pages by `compare crossed` in tests/rust. Assumes nothing.\n\
+        "-- What the definitions give for pictures that the Rust has run, or tests/rust's plain check where a block leads to block 0\n\
+         -- (request 2026-02): the same answers, lines and whole pictures, by computation, page by page. Printed with the pages by\n\
+         -- `compare crossed` in tests/rust. Assumes nothing.\n\
          use mathlib.Core.Path.{◌≡◌, refl}\n\
          use mathlib.Core.List.{map}\n\
          use Rattle.model.specs.Pass.{Outcome, sink}\n\

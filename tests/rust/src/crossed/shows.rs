@@ -85,6 +85,9 @@ pub fn decided(p: &Picture, lent: &Lent) -> BTreeSet<String> {
     if accept::gated(p) {
         return f;
     }
+    if lent.parts_from_document_01(&lent.wanted()) {
+        f.insert("the start of the function decides".into());
+    }
     let all = lent.overview(lent.entry);
     'blocks: for (x, look) in all.looks.iter().enumerate() {
         let Some(look) = look else { continue };
