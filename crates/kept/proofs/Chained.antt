@@ -9,8 +9,9 @@ use Rattle.words.proofs.Members.{in_split, one_in}
 use Rattle.model.specs.Picture.{Picture, goes, ending, end_succs, succs, preds, callers}
 use Rattle.model.specs.Analyse.{Facts}
 use Rattle.model.specs.Move.{Plan}
-use Rattle.laws.proofs.Blocks.{is_pred, sole_caller}
+use Rattle.laws.proofs.Blocks.{is_pred}
 use Rattle.laws.proofs.Chains.{Links, last_of_chain, links_apart, ends_succs}
+use Rattle.laws.proofs.Entry.{sole_caller}
 use Rattle.laws.proofs.Moving.{Moving, found, rest, into_out}
 use Rattle.walk.specs.Rules.{Sole, Linked, Chain, ChainSteps, last_block}
 

@@ -14,7 +14,7 @@ use Rattle.words.specs.Lists.{In, range, upto, concat, spans, mem}
 use Rattle.words.proofs.Bools.{or_left, or_right, not_false_T, false_T, eqb_self, lt?}
 use Rattle.words.proofs.Members.{in_range, in_filter, in_mem}
 use Rattle.words.proofs.Lists.{range_append, made_next, map_ext}
-use Rattle.model.specs.Picture.{Picture, inst, nblocks, starts, ends, size, places, End, stops, end_of, end_succs, succs, preds, callers}
+use Rattle.model.specs.Picture.{Picture, inst, nblocks, starts, ends, size, places, End, stops, end_of, end_succs, succs, preds}
 use Rattle.model.specs.Refusal.{gaps}
 
 -- ---- the first block, and the rest
@@ -150,22 +150,6 @@ pub is_pred : (P : Picture) (b c : ℕ) → In c (succs P b) → In b (preds P c
 is_pred P b c i =
     ⊎_elim (λ h. in_filter (λ y. mem c (succs P y)) b (upto (nblocks P)) (in_range b 0 (nblocks P) (omega arith) (omega arith)) (in_mem c (succs P b) i))
     (λ h. absurd (subst (In c) (succs_past P b h) i)) (lt? b (nblocks P))
-
--- THE ENTRY HAS A CALLER (request 2026-02): a block with one caller, to which a block goes, is not block 0, and that block is its one
--- predecessor
-pub sole_caller : (P : Picture) (p b : ℕ) → In b (succs P p) → length (callers P b) ≡ 1 → (b ≡ 0 → ⊥) × (preds P b ≡ p ∷ [])
-sole_caller P p zero i e = absurd (none_else (preds P zero) (is_pred P p zero i) e)
-  where
-    none_else : (l : List ℕ) → In p l → suc (length l) ≡ 1 → ⊥
-    none_else [] j e = j
-    none_else (x ∷ l) j e = omega arith
-sole_caller P p (suc b) i e = (λ z. absurd (omega (arith, z)), alone (preds P (suc b)) (is_pred P p (suc b) i) e)
-  where
-    alone : (l : List ℕ) → In p l → length l ≡ 1 → l ≡ p ∷ []
-    alone [] j e = absurd j
-    alone (x ∷ []) (inl h) e = ap (λ (z : ℕ). z ∷ []) (sym h)
-    alone (x ∷ []) (inr j) e = absurd j
-    alone (x ∷ y ∷ l) j e = absurd (omega arith)
 
 -- the last place of a block that is not empty
 pub last_place : (P : Picture) (b n : ℕ) → size P b ≡ suc n → (starts P b + n ≡ ends P b - 1) × In (ends P b - 1) (places P b)

@@ -10,6 +10,7 @@ pub mod Planned
 pub mod Rounds
 pub mod Ended
 pub mod Chains
+pub mod Entry
 pub mod Moving
 pub mod Reuse
 pub mod Given

@@ -8,7 +8,7 @@ use Rattle.model.specs.Pass.{ends_in, used}
 use Rattle.model.specs.Build.{op, Room, shows}
 use Rattle.model.specs.Move.{chain_places}
 use Rattle.model.specs.Marked.{Row, konst, alloc, cmp, cmps, sunk_cmps, cat, branch, jump, output, ret, lent, moves}
-use Rattle.model.specs.Small.{in1, in2, in3, in4, value, load, nat, Step, keep, send, held, still, once, shown, other, around, whole, steps, rests, three, three_to, two, two_to, ending, apart, replayed, answered, given}
+use Rattle.model.specs.Small.{in1, in2, in3, in4, value, load, nat, Step, keep, send, held, still, once, shown, other, around, whole, steps, rests, three, three_to, two, two_to, returns, apart, replayed, answered, given}
 
 -- x goes on to block 3
 abbrev onward : List Inst → List Inst
@@ -93,7 +93,7 @@ chains =
     -- a block that ends otherwise: in Ret, or empty; a chain that comes back, from block 1
     ∷ still (onward three ∷ around ++ (ret [] ∷ []) ∷ [])
     ∷ still (onward three ∷ around ++ [] ∷ [])
-    ∷ still (ending ∷ onward three ∷ other ∷ (jump 1 ∷ []) ∷ [])
+    ∷ still (returns ∷ onward three ∷ other ∷ (jump 1 ∷ []) ∷ [])
     -- without replay: eight Cmps in x, and a Cat of form 0 in the chain but not in x
     ∷ replayed [] (onward (three ++ three ++ two) ∷ around ++ (cat 0 0 0 ∷ branch 1 2 ∷ []) ∷ [])
     -- x in replay does not count, nor does a block behind the target
@@ -104,9 +104,9 @@ chains =
     ∷ rests two
     -- f is the target, and alone in replay; where both are targets, t is tried first
     ∷ once 1 (keep (konst 8) ∷ three_to 9 ++ keep (branch 2 1) ∷ []) around (shown 9) (other ∷ [])
-    ∷ once 1 (steps (three_to 9)) (ending ∷ ending ∷ apart ∷ []) ending (ending ∷ apart ∷ [])
+    ∷ once 1 (steps (three_to 9)) (returns ∷ returns ∷ apart ∷ []) returns (returns ∷ apart ∷ [])
     -- a target is not in the chain: t is x itself, which is block 1
-    ∷ still (ending ∷ whole three ∷ other ∷ [])
+    ∷ still (returns ∷ whole three ∷ other ∷ [])
     -- the target has a second predecessor, which is itself: it reads r3, writes it, and goes to itself
     ∷ still (whole three ∷ (output 3 ∷ cmp 3 1 ∷ branch 1 3 ∷ []) ∷ other ∷ (ret [] ∷ []) ∷ [])
     -- rule 1: a value that a kept position reads, in x and further on in the chain; six drop out one after another

@@ -141,9 +141,9 @@ three = cmp 3 1 ∷ two
 abbrev pub three_to : ℕ → List Step
 three_to d = cmp_to d ∷ two_to d
 
--- a block that reads nothing, and one with a Cat, block 3, that nothing else leads to
-abbrev pub ending : List Inst
-ending = ret [] ∷ []
+-- a block that only returns, and one with a Cat, block 3, that nothing else leads to
+abbrev pub returns : List Inst
+returns = ret [] ∷ []
 
 abbrev pub apart : List Inst
 apart = cat 0 0 0 ∷ jump 3 ∷ []

@@ -112,14 +112,16 @@ struct Design {
     sizes: [usize; 3],
 }
 
-/// The designs from a seed on.
+/// The designs from a seed on; not those of which the Rust makes other rounds, since a block leads to block 0.
 fn designs(seed: u64) -> Vec<Design> {
     let of = |seed: u64| {
         let p = bare(seed, Size::Large);
-        let rounds = if accept::gated(&p) { 0 } else { Lent::new(&p).expect("few types").wanted().rounds.len() };
-        Design { seed, rounds, sizes: sizes(&p) }
+        let lent = Lent::new(&p).expect("few types");
+        let wanted = lent.wanted();
+        let rounds = if accept::gated(&p) { 0 } else { wanted.rounds.len() };
+        (!lent.parts_from_document_01(&wanted)).then(|| Design { seed, rounds, sizes: sizes(&p) })
     };
-    (seed..seed + SEEDS).map(of).collect()
+    (seed..seed + SEEDS).filter_map(of).collect()
 }
 
 /// Of those with so many rounds at least, the one nearest to a size.
