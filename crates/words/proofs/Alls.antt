@@ -4,17 +4,14 @@ use mathlib.Core.Path.{◌≡◌, refl, sym, ap, ◌∙◌, subst}
 use mathlib.Core.Bool.{Bool, true, false, not, ◌&&◌, ◌||◌, or-false}
 use mathlib.Core.List.{List, [], ◌∷◌, ◌++◌, map}
 use Prim.Native.Nat.{ℕ, suc, ◌+◌, ◌≤◌, ◌<◌}
-use native.Mathlib.Nat.{zero-add}
 use native.Mathlib.Numerals.{add-one}
 use native.Mathlib.Omega.{arith}
 use lib.Dec.{T, eqb}
 use lib.ListN.{length, get_or, drop, drop_of_length-le}
 use lib.Seq.{drop-cons}
 use borrow.Author.Count.{below_more}
-use borrow.Author.Tests.{not-true}
 use Rattle.words.specs.Lists.{range, upto, all, any, mem}
-use Rattle.words.proofs.Bools.{T_true, true_T, clash, or_mono, and_mono, bool_ext, not_true_is_false}
-use Rattle.words.proofs.Lists.{range_snoc}
+use Rattle.words.proofs.Bools.{T_true, true_T, or_mono, and_mono, bool_ext}
 use Rattle.words.proofs.Members.{all_in, all_of, any_in, any_no, no_any, in_range, range_in, in_get_or, in_index}
 
 -- ---- a range
@@ -58,11 +55,6 @@ module _ {A : Type 0} (f : A → Bool) where
       (λ t. all_range (λ i. f (get_or xs i d)) 0 (length xs) (λ q a b. all_in f (get_or xs q d) xs t (in_get_or d xs q (omega arith))))
       (λ t. all_of f xs (λ a i. let z = in_index d a xs i in
       subst (λ (y : A). T (f y)) z.2 (all_in (λ i. f (get_or xs i d)) z.0 (upto (length xs)) t (in_range z.0 0 (length xs) (omega arith) (let h = z.1 in omega arith)))))
-
-pub any_more : (f : ℕ → Bool) (k : ℕ) → any f (upto (k + 1)) ≡ (any f (upto k) || f k)
-any_more f k =
-    ap (λ (n : ℕ). any f (upto n)) (add-one k) ∙ ap (any f) (range_snoc 0 k) ∙ any_append f (upto k) ((0 + k) ∷ [])
-    ∙ ap (λ (b : Bool). any f (upto k) || b) (or-false (f (0 + k)) ∙ ap f (zero-add k))
 
 pub mem_append : (r : ℕ) (xs ys : List ℕ) → mem r (xs ++ ys) ≡ (mem r xs || mem r ys)
 mem_append r = any_append (λ x. eqb r x)
@@ -110,11 +102,8 @@ module _ (f : ℕ → Bool) where
   one_more : (v : Bool) (i : ℕ) → ((k : ℕ) → k < i → f k ≡ v) → f i ≡ v → (k : ℕ) → k < i + 1 → f k ≡ v
   one_more v i h e k l = below_more (λ (j : ℕ). f j ≡ v) i h e k l
 
-  -- An early `false` of a loop over the numbers below n, where f's contract says r ≡ f i.
-  pub loop_no : {n i : ℕ} {r : Bool} → i < n → r ≡ f i → not r ≡ true → false ≡ all f (upto n)
-  loop_no {n} {i} {r} k e h = sym (not_true_is_false (all f (upto n)) (λ t. clash (all_at n t i k) (sym e ∙ not-true r h)))
-
-  -- An early `true` of one, and a turn more, where the invariant is any f (upto i) ≡ false.
+  -- An early `true` of a loop over the numbers below n, where f's contract says r ≡ f i, and a turn more, where the invariant is
+  -- any f (upto i) ≡ false.
   pub find_yes : {n i : ℕ} {r : Bool} → i < n → r ≡ f i → r ≡ true → true ≡ any f (upto n)
   find_yes {n} {i} {r} k e h = sym (T_true (any f (upto n)) (any_in f i (upto n) (in_range i 0 n (omega arith) (omega arith)) (true_T (f i) (sym e ∙ h))))
 
