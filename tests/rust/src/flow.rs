@@ -1,5 +1,6 @@
-//! The port's predecessors and live-in held against the Rust's `find_preds` and `liveness`, bit for bit: generated pictures,
-//! and damaged ones, of which the port leaves the slice that it is to write as it was. Then the times of both.
+//! The port's predecessors and live-in held against the Rust's `find_preds`, with the start of the function as one of block 0
+//! (request 2026-02), and `liveness`, bit for bit: generated pictures, and damaged ones, of which the port leaves the slice that it
+//! is to write as it was. Then the times of both.
 
 use std::collections::BTreeMap;
 
@@ -95,7 +96,7 @@ impl Stats {
             }
             self.blocks += 1;
             *self.preds.entry(many).or_default() += 1;
-            self.back += usize::from(preds.iter().any(|&c| c as usize >= b));
+            self.back += usize::from(preds.iter().any(|&c| (b..p.nblocks()).contains(&(c as usize))));
         }
     }
 
