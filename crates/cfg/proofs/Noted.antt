@@ -1,4 +1,5 @@
--- The two words of a block after every block has told where it goes are those of `model`'s predecessors. Assumes nothing.
+-- The two words of a block after every block has told where it goes are those of `model`'s callers: the predecessors, and the start of the
+-- function for block 0. Assumes nothing.
 use mathlib.Core.Path.{◌≡◌, refl, sym, ap, ap₂, ◌∙◌, subst}
 use mathlib.Core.Logic.{inl, inr, ⊎_elim}
 use mathlib.Core.Bool.{Bool, true, false, not, cond, ◌&&◌, ◌||◌, or-false}
