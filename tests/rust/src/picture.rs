@@ -139,3 +139,28 @@ impl Picture {
         Work { w64: 4 * b * k.div_ceil(64) + 2 * k, w32: 8 * k + 16 * b + 8000, records: 800 }
     }
 }
+
+#[cfg(test)]
+mod tests {
+    use super::*;
+    use crate::kinds::{RET, STMT};
+
+    /// The last instruction decides, of any block: its own, one that nothing reaches, a Case by its table.
+    #[test]
+    fn who_leads_to_block_0() {
+        let to = |kind: u32, words: &[u32]| Record::new(kind, 0, &[], (0, 0), words);
+        let led = |blocks: &[Vec<Record>]| {
+            let mut p = Picture::of_blocks(blocks);
+            (p.pairs, p.targets) = (vec![1, 2, 3, 1], vec![0, 1, 0, 1, 0]);
+            p.leads_to_entry()
+        };
+        let ret = || vec![to(RET, &[])];
+        assert!(led(&[vec![to(BR, &[0])]]), "itself");
+        assert!(led(&[ret(), vec![to(BR, &[0])]]), "a block that nothing reaches");
+        assert!(led(&[ret(), vec![to(COND_BR, &[0, 1])]]) && led(&[ret(), vec![to(COND_BR, &[1, 0])]]), "either branch");
+        assert!(led(&[ret(), vec![to(CASE, &[0])]]), "a table's second target");
+        assert!(!led(&[ret(), vec![to(CASE, &[1])]]) && !led(&[ret(), vec![to(CASE, &[2])]]), "another table, or none");
+        assert!(!led(&[ret(), vec![to(BR, &[0]), to(STMT, &[])]]), "a branch in the middle");
+        assert!(!led(&[ret(), Vec::new()]) && !led(&[]), "an empty block, and no block");
+    }
+}

@@ -5,10 +5,11 @@ use std::collections::BTreeMap;
 
 use crate::accept;
 use crate::boundary;
+use crate::copies::{copies, spread};
 use crate::damage::DAMAGES;
 use crate::driver::{Entry, Facts, Trace};
 use crate::facts::{VALUES, single};
-use crate::generate::{entered, picture};
+use crate::generate::{Size, bare, bare_entered, entered, picture};
 use crate::kinds::KINDS;
 use crate::oracle::Lent;
 use crate::picture::Picture;
@@ -27,6 +28,7 @@ pub enum Source {
     Damaged,
     Boundary,
     Single,
+    Large,
 }
 
 #[derive(Default)]
@@ -67,6 +69,13 @@ pub fn plaincheck(n: usize, seed: u64, plain: impl Plain) -> Stats {
                 p.replay = vec![1];
                 stats.check(Source::Single, &p, &format!("{} at form {form}, register {first}", kind.name), &plain);
             }
+        }
+    }
+    for k in 0..n.div_ceil(200) {
+        let mut rnd = Random::new(seed.wrapping_mul(1_000_003).wrapping_add(k as u64) ^ 0x91A1_A000);
+        let one = if rnd.chance(50) { bare(rnd.word(), Size::Large) } else { bare_entered(rnd.word(), Size::Large) };
+        for (what, p) in [("copies", copies(&one, rnd.from_to(1000, 8000), 4)), ("registers spread", spread(&one, rnd.from_to(60, 2000), &mut rnd))] {
+            stats.check(Source::Large, &p, &format!("large {k}, {what}"), &plain);
         }
     }
     for k in 0..n {
@@ -131,7 +140,7 @@ impl Stats {
             }
         };
         want(self.faults.is_empty(), "no fault");
-        want(self.pictures.len() == 5, "generated, entered and damaged pictures, those at the bounds, and each kind alone");
+        want(self.pictures.len() == 6, "generated, entered, damaged and large pictures, those at the bounds, and each kind alone");
         want(self.rounds[0] > 0 && self.rounds[1] > 0, "rounds");
         want(self.entered > 0, "pictures where a block leads to block 0");
         want(self.changed > 0, "pictures where the request changes the rounds");
