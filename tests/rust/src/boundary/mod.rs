@@ -24,15 +24,15 @@ pub struct Boundary {
 
 type Blocks = Vec<Vec<Record>>;
 
-fn op(kind: u32, slots: &[u32]) -> Record {
+pub fn op(kind: u32, slots: &[u32]) -> Record {
     Record::new(kind, 0, slots, (0, 0), &[])
 }
 
-fn br(to: u32) -> Record {
+pub fn br(to: u32) -> Record {
     Record::new(BR, 0, &[], (0, 0), &[to])
 }
 
-fn fork(t: u32, f: u32) -> Record {
+pub fn fork(t: u32, f: u32) -> Record {
     Record::new(COND_BR, 0, &[0], (0, 0), &[t, f])
 }
 

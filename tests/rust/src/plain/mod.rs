@@ -10,7 +10,7 @@ mod known;
 mod legal;
 mod memory;
 mod moves;
-mod roles;
+pub mod roles;
 
 use crate::picture::Picture;
 use chain::Chain;

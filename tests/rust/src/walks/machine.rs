@@ -2,8 +2,8 @@
 
 use std::ops::Range;
 
-use crate::kinds::{Slot, slots};
-use crate::picture::{ABSENT, Picture, Record};
+use crate::picture::{Picture, Record};
+use crate::plain::roles::{reads, writing};
 
 /// A write: which run of the walk, and which slot of it.
 #[derive(Clone, Copy, PartialEq, Eq, Debug)]
@@ -33,27 +33,9 @@ pub struct Played {
     pub begin: Vec<usize>,
 }
 
-fn reads(p: &Picture, r: &Record) -> Vec<u32> {
-    let mut out: Vec<u32> = Vec::new();
-    for (role, &reg) in slots(r.kind(), r.form()).iter().zip(r.slots()) {
-        match role {
-            Slot::Use | Slot::MaybeUse if reg != ABSENT => out.push(reg),
-            Slot::Use | Slot::MaybeUse | Slot::Def | Slot::MaybeDef | Slot::Off => {}
-        }
-    }
-    out.extend_from_slice(p.list_of(r));
-    out
-}
-
+/// The registers that a record writes, each with its slot.
 fn writes(r: &Record) -> Vec<(usize, u32)> {
-    let mut out = Vec::new();
-    for (k, (role, &reg)) in slots(r.kind(), r.form()).iter().zip(r.slots()).enumerate() {
-        match role {
-            Slot::Def | Slot::MaybeDef if reg != ABSENT => out.push((k, reg)),
-            Slot::Def | Slot::MaybeDef | Slot::Use | Slot::MaybeUse | Slot::Off => {}
-        }
-    }
-    out
+    writing(r).into_iter().map(|slot| (slot, r.slots()[slot])).collect()
 }
 
 impl Code {

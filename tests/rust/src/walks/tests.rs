@@ -2,24 +2,13 @@
 
 use super::machine::{Code, Write};
 use super::*;
+use crate::boundary::{br, fork, op};
 use crate::fact::Fact;
 use crate::generate::Size;
 use crate::kinds::*;
 use crate::listing::listing;
 use crate::oracle::oracle_with_work;
 use crate::picture::Record;
-
-fn op(kind: u32, slots: &[u32]) -> Record {
-    Record::new(kind, 0, slots, (0, 0), &[])
-}
-
-fn br(to: u32) -> Record {
-    Record::new(BR, 0, &[], (0, 0), &[to])
-}
-
-fn fork(t: u32, f: u32) -> Record {
-    Record::new(COND_BR, 0, &[0], (0, 0), &[t, f])
-}
 
 fn lay(blocks: &[Vec<Record>], regs: u32) -> Picture {
     let mut p = Picture::of_blocks(blocks);
