@@ -77,7 +77,7 @@ pub struct Stats {
 pub const VALUES: u32 = 8;
 /// Two that it may write, and one more.
 const WRITTEN: u32 = VALUES;
-const REGS: u32 = VALUES + 3;
+pub const REGS: u32 = VALUES + 3;
 
 fn op(kind: u32, slots: &[u32]) -> Record {
     Record::new(kind, 0, slots, (0, 0), &[])

@@ -8,11 +8,11 @@ use crate::boundary;
 use crate::copies::{copies, spread};
 use crate::damage::DAMAGES;
 use crate::driver::{Entry, Facts, Trace};
-use crate::facts::{VALUES, single};
+use crate::facts::{REGS, VALUES, single};
 use crate::generate::{Size, bare, bare_entered, entered, picture};
-use crate::kinds::KINDS;
+use crate::kinds::{KINDS, LOAD};
 use crate::oracle::Lent;
-use crate::picture::Picture;
+use crate::picture::{Picture, Record};
 use crate::plain::{Requests, Round};
 use crate::random::Random;
 use crate::selfcheck::size_of;
@@ -65,9 +65,7 @@ pub fn plaincheck(n: usize, seed: u64, plain: impl Plain) -> Stats {
     for (k, kind) in KINDS.iter().enumerate() {
         for form in kind.forms.0..=kind.forms.1 {
             for first in 0..VALUES {
-                let mut p = single(k as u32, form, first, (first + 3) % VALUES);
-                p.replay = vec![1];
-                stats.check(Source::Single, &p, &format!("{} at form {form}, register {first}", kind.name), &plain);
+                stats.check(Source::Single, &alone(k as u32, form, first), &format!("{} at form {form}, register {first}", kind.name), &plain);
             }
         }
     }
@@ -160,6 +158,15 @@ impl Stats {
             println!("fault: {f}");
         }
     }
+}
+
+/// An instruction of a kind and form, behind members that it may stop: an image, a new block and a read of it, a Cat.
+fn alone(kind: u32, form: u32, first: u32) -> Picture {
+    let p = single(kind, form, first, (first + 3) % VALUES);
+    let mut blocks = p.blocks();
+    blocks[0].insert(8, Record::new(LOAD, 3, &[REGS - 2, 5], (0, 0), &[]));
+    let of = Picture::of_blocks(&blocks);
+    Picture { bounds: of.bounds, recs: of.recs, locs: of.locs, replay: vec![1], ..p }
 }
 
 /// The first thing in which these rounds are not the Rust's.
