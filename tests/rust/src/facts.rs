@@ -12,6 +12,7 @@ use crate::driver::{Entry, Search, Told};
 use crate::fact::Fact;
 use crate::generate::{entered, picture};
 use crate::kinds::{self, KINDS, Slot};
+use crate::missing::Missing;
 use crate::oracle::Lent;
 use crate::picture::{ABSENT, Picture, Record, Work};
 use crate::random::Random;
@@ -242,13 +243,8 @@ impl Stats {
 
     /// What is missing, if the comparison is to be worth its while.
     pub fn missing(&self) -> Vec<String> {
-        let mut out = Vec::new();
-        let mut want = |ok: bool, what: String| {
-            if !ok {
-                out.push(what);
-            }
-        };
-        want(self.faults.is_empty(), "no fault".to_string());
+        let mut out = Missing::default();
+        out.want(self.faults.is_empty(), "no fault");
         for (many, what) in [
             (self.moves, "moves"),
             (self.none, "searches without a move"),
@@ -262,24 +258,24 @@ impl Stats {
             (self.refused, "refused pictures"),
             (self.to_the_end, "members that the target reads"),
         ] {
-            want(many > 0, what.to_string());
+            out.want(many > 0, what);
         }
         for (k, name) in SORTS.iter().enumerate() {
-            want(self.origins[k] > 0, format!("a value of origin {name}"));
-            want(self.written[k] > 0, format!("memory written of origin {name}"));
-            want(self.read[k] > 0, format!("memory read of origin {name}"));
+            out.want(self.origins[k] > 0, &format!("a value of origin {name}"));
+            out.want(self.written[k] > 0, &format!("memory written of origin {name}"));
+            out.want(self.read[k] > 0, &format!("memory read of origin {name}"));
         }
-        want(self.classes.iter().all(|n| *n > 0), "all three classes".to_string());
-        want(self.registers.iter().all(|n| *n > 0), "registers of all facts".to_string());
+        out.want(self.classes.iter().all(|n| *n > 0), "all three classes");
+        out.want(self.registers.iter().all(|n| *n > 0), "registers of all facts");
         for (k, name) in FLAGS.iter().enumerate() {
-            want(self.flags[k] > 0, format!("a position with {name}"));
+            out.want(self.flags[k] > 0, &format!("a position with {name}"));
         }
         for (k, kind) in KINDS.iter().enumerate() {
             for form in kind.forms.0..=kind.forms.1 {
-                want(self.arms.contains_key(&(k as u32, form)), format!("a position of {} at form {form}", kind.name));
+                out.want(self.arms.contains_key(&(k as u32, form)), &format!("a position of {} at form {form}", kind.name));
             }
         }
-        out
+        out.0
     }
 
     pub fn print(&self) {

@@ -10,6 +10,7 @@ use crate::damage::DAMAGES;
 use crate::driver::{Entry, Flow, Pass};
 use crate::generate::{Size, picture};
 use crate::kinds::{BR, RET, STMT};
+use crate::missing::Missing;
 use crate::oracle::Lent;
 use crate::picture::{Picture, Record};
 use crate::port;
@@ -116,17 +117,12 @@ impl Stats {
 
     /// What is missing, if the comparison is to be worth its while.
     pub fn missing(&self) -> Vec<String> {
-        let mut out = Vec::new();
-        let mut want = |ok: bool, what: &str| {
-            if !ok {
-                out.push(what.to_string());
-            }
-        };
-        want(self.faults.is_empty(), "no fault");
-        want(self.pictures > 0 && self.refused > 0, "accepted and refused pictures");
-        want((0..=2).all(|n| self.preds.contains_key(&n)), "blocks of none, one and more predecessors");
-        want(self.live > 0 && self.back > 0, "registers that are live, and edges that go back");
-        out
+        let mut out = Missing::default();
+        out.want(self.faults.is_empty(), "no fault");
+        out.want(self.pictures > 0 && self.refused > 0, "accepted and refused pictures");
+        out.want((0..=2).all(|n| self.preds.contains_key(&n)), "blocks of none, one and more predecessors");
+        out.want(self.live > 0 && self.back > 0, "registers that are live, and edges that go back");
+        out.0
     }
 
     pub fn print(&self) {

@@ -11,6 +11,7 @@ use crate::damage::DAMAGES;
 use crate::driver::Trace;
 use crate::fact::Fact;
 use crate::generate::{Size, bare, bare_entered};
+use crate::missing::Missing;
 use crate::oracle::{Answer, Lent, Outcome, oracle, oracle_with_work};
 use crate::picture::{Picture, Work};
 use crate::random::Random;
@@ -195,22 +196,17 @@ impl Stats {
 
     /// What is missing, if the comparison is to be worth its while.
     pub fn missing(&self) -> Vec<String> {
-        let mut out = Vec::new();
-        let mut want = |ok: bool, what: &str| {
-            if !ok {
-                out.push(what.to_string());
-            }
-        };
-        want(self.faults.is_empty(), "no fault");
-        want(self.tally.chains.keys().any(|&n| n > 1) && self.tally.moved > 0, "rounds, and chains of several blocks");
-        want(self.entered > 0 && self.parted > 0, "pictures where a block leads to block 0, and where that changes the rounds");
-        want(self.tally.after_one.iter().all(|n| *n > 0), "of pictures after one round: targets before x, empty ones, Sig, long shared lists");
-        want(self.tally.short_registers > 0 && self.tally.short_operands > 0, "Short by one register and by one operand");
-        want(self.short_work.iter().all(|n| *n > 0), "work slices a word short, and 799 records");
-        want(self.records.iter().all(|n| *n > 0), "800 records, and more");
-        want([0, 1, 8, 210].iter().all(|n| self.runs.contains_key(n)), "Done with 0, 1 and 8 rounds, refusal 10");
-        want(self.most[0] > 30000, "a picture of more than 30,000 instructions that moves");
-        out
+        let mut out = Missing::default();
+        out.want(self.faults.is_empty(), "no fault");
+        out.want(self.tally.chains.keys().any(|&n| n > 1) && self.tally.moved > 0, "rounds, and chains of several blocks");
+        out.want(self.entered > 0 && self.parted > 0, "pictures where a block leads to block 0, and where that changes the rounds");
+        out.want(self.tally.after_one.iter().all(|n| *n > 0), "of pictures after one round: targets before x, empty ones, Sig, long shared lists");
+        out.want(self.tally.short_registers > 0 && self.tally.short_operands > 0, "Short by one register and by one operand");
+        out.want(self.short_work.iter().all(|n| *n > 0), "work slices a word short, and 799 records");
+        out.want(self.records.iter().all(|n| *n > 0), "800 records, and more");
+        out.want([0, 1, 8, 210].iter().all(|n| self.runs.contains_key(n)), "Done with 0, 1 and 8 rounds, refusal 10");
+        out.want(self.most[0] > 30000, "a picture of more than 30,000 instructions that moves");
+        out.0
     }
 
     pub fn print(&self) {

@@ -22,6 +22,7 @@ pub mod large;
 pub mod listing;
 #[cfg(feature = "port")]
 pub mod live;
+pub mod missing;
 pub mod opt;
 pub mod oracle;
 pub mod picture;

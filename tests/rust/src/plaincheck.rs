@@ -11,6 +11,7 @@ use crate::driver::{Entry, Facts, Trace};
 use crate::facts::{REGS, VALUES, single};
 use crate::generate::{Size, bare, bare_entered, entered, picture};
 use crate::kinds::{KINDS, LOAD};
+use crate::missing::Missing;
 use crate::oracle::Lent;
 use crate::picture::{Picture, Record};
 use crate::plain::{Requests, Round};
@@ -131,21 +132,16 @@ impl Stats {
 
     /// What is missing, if the comparison is to be worth its while.
     pub fn missing(&self) -> Vec<String> {
-        let mut out = Vec::new();
-        let mut want = |ok: bool, what: &str| {
-            if !ok {
-                out.push(what.to_string());
-            }
-        };
-        want(self.faults.is_empty(), "no fault");
-        want(self.pictures.len() == 6, "generated, entered, damaged and large pictures, those at the bounds, and each kind alone");
-        want(self.rounds[0] > 0 && self.rounds[1] > 0, "rounds");
-        want(self.entered > 0, "pictures where a block leads to block 0");
-        want(self.changed > 0, "pictures where the request changes the rounds");
-        want(self.target > 0, "block 0 refused as a target");
-        want(self.part > 0, "block 0 refused as a later part of a chain");
-        want(self.begun > 0, "block 0 as a beginning though a block leads to it");
-        out
+        let mut out = Missing::default();
+        out.want(self.faults.is_empty(), "no fault");
+        out.want(self.pictures.len() == 6, "generated, entered, damaged and large pictures, those at the bounds, and each kind alone");
+        out.want(self.rounds[0] > 0 && self.rounds[1] > 0, "rounds");
+        out.want(self.entered > 0, "pictures where a block leads to block 0");
+        out.want(self.changed > 0, "pictures where the request changes the rounds");
+        out.want(self.target > 0, "block 0 refused as a target");
+        out.want(self.part > 0, "block 0 refused as a later part of a chain");
+        out.want(self.begun > 0, "block 0 as a beginning though a block leads to it");
+        out.0
     }
 
     pub fn print(&self) {

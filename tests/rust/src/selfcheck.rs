@@ -8,6 +8,7 @@ use crate::bytes;
 use crate::damage::DAMAGES;
 use crate::driver::{Entry, Facts, Pass, Trace};
 use crate::generate::{Size, picture};
+use crate::missing::Missing;
 use crate::oracle::{Answer, Lent, oracle, oracle_with_work};
 use crate::picture::{Picture, Work};
 use crate::random::Random;
@@ -178,17 +179,12 @@ fn check(stats: &mut Stats, p: &Picture, name: &str) {
 impl Stats {
     /// What is missing, if the pictures are to be worth their while.
     pub fn missing(&self) -> Vec<String> {
-        let mut out = self.tally.missing();
-        let mut want = |ok: bool, what: &str| {
-            if !ok {
-                out.push(what.to_string());
-            }
-        };
-        want(self.faults.is_empty(), "no fault");
-        want(self.past_gates > 0, "gates");
-        want(self.run_compared > 0, "pictures without replay");
-        want((0..=9).all(|c| self.damages.contains_key(&c)), "damages for causes 1 to 9 and at their bounds");
-        out
+        let mut out = Missing(self.tally.missing());
+        out.want(self.faults.is_empty(), "no fault");
+        out.want(self.past_gates > 0, "gates");
+        out.want(self.run_compared > 0, "pictures without replay");
+        out.want((0..=9).all(|c| self.damages.contains_key(&c)), "damages for causes 1 to 9 and at their bounds");
+        out.0
     }
 
     pub fn print(&self) {

@@ -5,6 +5,7 @@ use std::collections::{BTreeMap, BTreeSet};
 use crate::accept;
 use crate::driver::Trace;
 use crate::kinds::{self, KINDS};
+use crate::missing::Missing;
 use crate::oracle::Answer;
 use crate::picture::Picture;
 
@@ -100,24 +101,19 @@ impl Tally {
 
     /// What is missing, if the pictures are to be worth their while.
     pub fn missing(&self) -> Vec<String> {
-        let mut out = Vec::new();
-        let mut want = |ok: bool, what: &str| {
-            if !ok {
-                out.push(what.to_string());
-            }
-        };
+        let mut out = Missing::default();
         let forms: usize = KINDS.iter().map(|k| (k.forms.1 - k.forms.0 + 1) as usize).sum();
-        want(3 * self.moved >= self.pictures, "a third of the pictures with a round");
-        want((0..=8).all(|n| self.rounds.contains_key(&n)), "every number of rounds from 0 to 8");
-        want((1..=6).all(|n| self.chains.contains_key(&n)), "chains of 1 to 6 blocks");
-        want(self.short_registers > 0 && self.short_operands > 0, "Short by one register and by one operand");
-        want(self.target_before > 0 && self.empty_target > 0, "targets before x and empty ones");
-        want(self.same_branches > 0 && self.middle_branches > 0, "equal branches and branches in the middle");
-        want(self.sig_registers > 0 && self.lists_appended > 0 && self.long_lists > 0, "new Sig registers, new and long lists");
-        want(self.with_vias > 0 && self.with_replay > 0, "vias and replay");
-        want(self.seen.len() == forms, "every kind and form");
-        want(self.moved_kinds.len() == 20, "every kind that can move among the members");
-        out
+        out.want(3 * self.moved >= self.pictures, "a third of the pictures with a round");
+        out.want((0..=8).all(|n| self.rounds.contains_key(&n)), "every number of rounds from 0 to 8");
+        out.want((1..=6).all(|n| self.chains.contains_key(&n)), "chains of 1 to 6 blocks");
+        out.want(self.short_registers > 0 && self.short_operands > 0, "Short by one register and by one operand");
+        out.want(self.target_before > 0 && self.empty_target > 0, "targets before x and empty ones");
+        out.want(self.same_branches > 0 && self.middle_branches > 0, "equal branches and branches in the middle");
+        out.want(self.sig_registers > 0 && self.lists_appended > 0 && self.long_lists > 0, "new Sig registers, new and long lists");
+        out.want(self.with_vias > 0 && self.with_replay > 0, "vias and replay");
+        out.want(self.seen.len() == forms, "every kind and form");
+        out.want(self.moved_kinds.len() == 20, "every kind that can move among the members");
+        out.0
     }
 
     pub fn print(&self) {

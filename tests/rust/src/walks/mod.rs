@@ -17,6 +17,7 @@ use crate::accept;
 use crate::boundary::boundaries;
 use crate::driver::{Entry, Facts, Trace};
 use crate::generate::{entered, picture};
+use crate::missing::Missing;
 use crate::oracle::{Lent, Outcome};
 use crate::picture::Picture;
 use crate::random::Random;
@@ -185,26 +186,21 @@ impl Stats {
 
     /// What is missing, if the pictures are to be worth their while.
     pub fn missing(&self) -> Vec<String> {
-        let mut out = Vec::new();
-        let mut want = |ok: bool, what: &str| {
-            if !ok {
-                out.push(what.to_string());
-            }
-        };
-        want(self.faults.is_empty(), "no fault");
-        want(3 * self.moved >= self.pictures, "a third of the pictures with a round");
-        want(self.at_bounds > 0, "pictures at the bounds");
-        want(3 * self.entered_moved >= self.entered, "a third of those whose block 0 is led to with a round");
-        want(self.rounds > 0 && self.pairs > self.pictures, "rounds");
-        want(self.runs > 0 && self.reads > 0 && self.unmatched > 0, "runs, reads and unmatched runs");
-        want(self.longest == 60, "walks of 60 blocks");
-        want(self.all > 0 && self.all < self.pictures, "pictures with few walks and with many");
-        want(self.past_target > 0 && self.past_later > 0 && self.breaks > 0, "block 0 passed as a target and as a later part");
-        want(self.breaks < self.led, "pictures where block 0 is led to and not passed");
+        let mut out = Missing::default();
+        out.want(self.faults.is_empty(), "no fault");
+        out.want(3 * self.moved >= self.pictures, "a third of the pictures with a round");
+        out.want(self.at_bounds > 0, "pictures at the bounds");
+        out.want(3 * self.entered_moved >= self.entered, "a third of those whose block 0 is led to with a round");
+        out.want(self.rounds > 0 && self.pairs > self.pictures, "rounds");
+        out.want(self.runs > 0 && self.reads > 0 && self.unmatched > 0, "runs, reads and unmatched runs");
+        out.want(self.longest == 60, "walks of 60 blocks");
+        out.want(self.all > 0 && self.all < self.pictures, "pictures with few walks and with many");
+        out.want(self.past_target > 0 && self.past_later > 0 && self.breaks > 0, "block 0 passed as a target and as a later part");
+        out.want(self.breaks < self.led, "pictures where block 0 is led to and not passed");
         for (what, many) in SORTS.iter().zip(self.sorts) {
-            want(many > 0, &format!("block 0 {what}"));
+            out.want(many > 0, &format!("block 0 {what}"));
         }
-        out
+        out.0
     }
 
     pub fn print(&self) {
