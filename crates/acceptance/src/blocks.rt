@@ -3,7 +3,7 @@ ghost use Rattle.std.specs.Prelude.{◌≡◌};
 ghost use Rattle.model.specs.Refusal.{gaps};
 
 // Do the blocks not lie end to end from 0 to n?
-pub(crate) fn gaps(bounds: &[u32], n: usize) -> bool
+pub fn gaps(bounds: &[u32], n: usize) -> bool
     ensures { result ≡ gaps 0 n bounds.now }
 {
     let mut at = 0u32;

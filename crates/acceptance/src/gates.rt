@@ -14,7 +14,7 @@ use inst::record::Record;
 const BUDGET: usize = 2097152;
 
 // Record p is a Cat of form 0. (It makes the record itself: the closure below would have to say what it asks of p.)
-fn plain_cat(recs: &[u32], p: usize) -> bool
+pub fn plain_cat(recs: &[u32], p: usize) -> bool
     requires { Within recs.now p }
     ensures { result ≡ plain_cat (inst recs.now p) }
 {

@@ -22,7 +22,7 @@ const PAIRS: usize = 65536;
 const TARGETS: usize = 65536;
 
 // 1: more of anything than may be lent, or more in use than is.
-pub(crate) fn too_large(lent: Lent) -> bool
+pub fn too_large(lent: Lent) -> bool
     ensures { result ≡ too_large (picture lent.entry []) }
 {
     (BLOCKS < lent.bounds.len() / 2)
@@ -36,7 +36,7 @@ pub(crate) fn too_large(lent: Lent) -> bool
 }
 
 // 2: records, vias, bounds or pairs are not as many words as they must be.
-pub(crate) fn uneven(lent: Lent) -> bool
+pub fn uneven(lent: Lent) -> bool
     requires { length lent.locs.now ≤ 32768 }
     ensures { result ≡ uneven (picture lent.entry []) }
 {
@@ -49,7 +49,7 @@ pub(crate) fn uneven(lent: Lent) -> bool
 }
 
 // 10: the two work slices or the list of records are too short.
-pub(crate) fn too_short(lent: Lent, room: Room) -> bool
+pub fn too_short(lent: Lent, room: Room) -> bool
     requires { (length lent.bounds.now / 2 ≤ 4096) × (length lent.types.now ≤ 65536) }
     ensures { let P = picture lent.entry [] in result ≡ (ltb room.w64 (work64 P) || ltb room.w32 (work32 P) || ltb room.records records) }
 {

@@ -23,7 +23,7 @@ use inst::table::Row;
 use regfacts::flags::is_length;
 
 // What the arm of record g asks, at position p; x has what it reads.
-pub(crate) fn ask(recs: &[u32], regs: &[u64], x: Firsts, g: usize, p: u32, count: usize) -> Input
+pub fn ask(recs: &[u32], regs: &[u64], x: Firsts, g: usize, p: u32, count: usize) -> Input
     requires { Ranged count p regs.now × Within recs.now g × Below count x }
     ensures { (result.p ≡ p) × ((ops : List ℕ) (G : Facts) (past : List Fact) → Heads (reads ops (inst recs.now g)) (writes (inst recs.now g)) x → length past ≡ p → Marked G past count regs.now → Asked G past ops (inst recs.now g) result) }
 {
@@ -56,7 +56,7 @@ fn placed(e: Effect, quiet: bool, native: bool) -> u32
 }
 
 // What record g does, by the row of its kind and what it asks.
-pub(crate) fn judge(recs: &[u32], g: usize, m: Row, y: Input) -> Effect
+pub fn judge(recs: &[u32], g: usize, m: Row, y: Input) -> Effect
     requires { Known recs.now g × (m.0 ≡ packed (kind (inst recs.now g)) (form (inst recs.now g))) }
     ensures { Low y.p (inst recs.now g) result × ((ops : List ℕ) (G : Facts) (past : List Fact) (R : ℕ) → R ≤ 65536 → Good recs.now ops R g → Asked G past ops (inst recs.now g) y → Judged result (fact G ops past (inst recs.now g))) }
 {

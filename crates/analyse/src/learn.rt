@@ -60,7 +60,7 @@ fn fact_of(g: usize, e: Effect, suspends: bool, x: Firsts) -> Fact
 }
 
 // Position p: record g.
-pub(crate) fn learn_one(code: &Code, regs: &mut [u64], g: usize, p: u32, count: usize) -> Fact
+pub fn learn_one(code: &Code, regs: &mut [u64], g: usize, p: u32, count: usize) -> Fact
     requires { Ranged count p regs.old × Learnable code.now.recs.now code.now.ops.now count g × (p + 1 < 1000) }
     ensures { Learned code.now.recs.now code.now.ops.now regs.old regs.new p count g result }
 {

@@ -19,9 +19,9 @@ pub(crate) const POSITIONS: u64 = 1024;
 pub const LEFT: u64 = FLAGS * POSITIONS;
 
 // In what it left, whether that is a length stands over where it points by this, and whether it points to a layout by the next.
-pub(crate) const LENGTH: u64 = 2048;
+pub const LENGTH: u64 = 2048;
 
-pub(crate) const LAYOUT: u64 = 2 * LENGTH;
+pub const LAYOUT: u64 = 2 * LENGTH;
 
 // What a register's word says, where there is a writer.
 fn left_in(v: u64) -> Value
@@ -36,7 +36,7 @@ fn left_in(v: u64) -> Value
 }
 
 // What is known of the value of register r, if that is one.
-pub(crate) fn value_of(regs: &[u64], r: Option<Reg>) -> Value
+pub fn value_of(regs: &[u64], r: Option<Reg>) -> Value
     requires { Among (length regs.now) r }
     ensures { (count n : ℕ) → Among count r → Ranged count n regs.now → (result.org < 4 + 2 * n) × ((G : Facts) (past : List Fact) → length past ≡ n → Marked G past count regs.now → Valued G past (word_of r) result) }
 {
@@ -59,7 +59,7 @@ pub(crate) fn value_of(regs: &[u64], r: Option<Reg>) -> Value
 }
 
 // Is register r a constant above 0?
-pub(crate) fn is_divisor(regs: &[u64], r: Option<Reg>) -> bool
+pub fn is_divisor(regs: &[u64], r: Option<Reg>) -> bool
     requires { Among (length regs.now) r }
     ensures { (G : Facts) (count : ℕ) → Among count r → count ≤ 65536 → Seen G count regs.now → result ≡ when_some positive (known_of G (word_of r)).konst }
 {

@@ -15,7 +15,7 @@ use model::ABSENT;
 use regfacts::flags::FLAGS;
 
 // No register has a writer yet.
-pub(crate) fn forget(regs: &mut [u64], count: usize)
+pub fn forget(regs: &mut [u64], count: usize)
     requires { count ≤ length regs.old }
     ensures { Forgot count regs.old regs.new }
 {
@@ -26,7 +26,7 @@ pub(crate) fn forget(regs: &mut [u64], count: usize)
 
 // What goes over the flags of a register that position p writes: p and 1, where the value points, whether it is a length, and
 // whether it points to a layout.
-pub(crate) fn stamp(p: u32, org: u32, len: bool, layout: bool) -> u64
+pub fn stamp(p: u32, org: u32, len: bool, layout: bool) -> u64
     requires { (p < 1000) × (org < 2048) }
     ensures { (result ≡ stamp p org len layout) × (result < 16777216) }
 {
@@ -44,7 +44,7 @@ fn marked(v: u64, d: u64) -> u64
 }
 
 // All that a record writes; x has the first two of that.
-pub(crate) fn mark_record(slots: &Slots, regs: &mut [u64], x: Firsts, d: u64)
+pub fn mark_record(slots: &Slots, regs: &mut [u64], x: Firsts, d: u64)
     requires { (d < 16777216) × Fits slots.now.recs.now (length regs.old) slots.now.p × (x.d0 ≡ get_or (writes (inst slots.now.recs.now slots.now.p)) 0 absent) × (x.d1 ≡ get_or (writes (inst slots.now.recs.now slots.now.p)) 1 absent) }
     ensures { Written (marked d) (inst slots.now.recs.now slots.now.p) regs.old regs.new }
 {

@@ -37,7 +37,7 @@ fn seek(bounds: &[u32], c: Chain, from: Cursor) -> Cursor
 }
 
 // At the first position.
-pub(crate) fn first(bounds: &[u32], c: Chain) -> Cursor
+pub fn first(bounds: &[u32], c: Chain) -> Cursor
     requires { Laid bounds.now c }
     ensures { Standing bounds.now c result × ((P : Picture) → P.bounds ≡ bounds.now → chain_places P (blocks_of c) ≡ left_of P (blocks_of c) result.k result.g result.past) }
 {
@@ -51,7 +51,7 @@ pub(crate) fn first(bounds: &[u32], c: Chain) -> Cursor
 }
 
 // From a position to the next.
-pub(crate) fn next(bounds: &[u32], c: Chain, at: Cursor) -> Cursor
+pub fn next(bounds: &[u32], c: Chain, at: Cursor) -> Cursor
     requires { Laid bounds.now c × Standing bounds.now c at × (at.g < at.past) }
     ensures { Standing bounds.now c result × ((P : Picture) → P.bounds ≡ bounds.now → left_of P (blocks_of c) at.k at.g at.past ≡ at.g ∷ left_of P (blocks_of c) result.k result.g result.past) }
 {

@@ -13,7 +13,7 @@ use inst::record::Record;
 use inst::table::{Row, Shape};
 
 // A branch to no block. (A Case goes by its table, whose targets are looked at with all others.)
-pub(crate) fn bad_branch(row: Row, rec: Record, blocks: usize) -> bool
+pub fn bad_branch(row: Row, rec: Record, blocks: usize) -> bool
     requires known { Known rec.recs.now rec.p }
     requires row { row.0 ≡ packed (kind (shown rec)) (form (shown rec)) }
     ensures { result ≡ bad_branch blocks (shown rec.entry) }

@@ -13,7 +13,7 @@ use inst::table::Row;
 
 // A list past the operands in use, or on a kind without one.
 #[tactic(auto, using(crate::proofs::Looked::has_one, crate::proofs::Looked::has_none))]
-pub(crate) fn bad_list(row: Row, rec: Record, opers: usize) -> bool
+pub fn bad_list(row: Row, rec: Record, opers: usize) -> bool
     requires { row.0 ≡ packed (kind (shown rec)) (form (shown rec)) }
     ensures { result ≡ bad_list opers (shown rec.entry) }
 {
@@ -26,7 +26,7 @@ pub(crate) fn bad_list(row: Row, rec: Record, opers: usize) -> bool
 }
 
 // Is one of these words m or more?
-pub(crate) fn any_from(xs: &[u32], m: usize) -> bool
+pub fn any_from(xs: &[u32], m: usize) -> bool
     ensures { result ≡ list_any (λ x. leb m x) xs.now }
 {
     xs.iter().any(|x| m <= *x as usize)

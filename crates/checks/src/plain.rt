@@ -48,7 +48,7 @@ fn usual(rec: Record, regs: u32, uses: u32) -> bool
 }
 
 // Is nothing found in a record?
-fn plain(t: &Table, rec: Record, regs: u32) -> bool
+pub fn plain(t: &Table, rec: Record, regs: u32) -> bool
     ensures { result ≡ plain regs (shown rec.entry) }
 {
     let k = rec.kind();
@@ -65,7 +65,7 @@ fn plain(t: &Table, rec: Record, regs: u32) -> bool
 // Past such records: of n, all from p up to the answer are so, and the next one, if there is one, is not. (A loop: in
 // `(p..n).find(..)` the closure has to say that record q is whole, and the check found no proof of what is found.)
 #[tactic(auto, using(crate::proofs::Freed::skip_none, crate::proofs::Freed::skip_more, crate::proofs::Freed::skip_stop, crate::proofs::Freed::skip_end, crate::proofs::Given::within))]
-pub(crate) fn skip(t: &Table, recs: &[u32], n: usize, regs: u32, p: usize) -> usize
+pub fn skip(t: &Table, recs: &[u32], n: usize, regs: u32, p: usize) -> usize
     requires { (16 * n ≤ length recs.now) × (p ≤ n) }
     ensures { Skipped regs recs.now n p result }
 {

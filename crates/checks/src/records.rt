@@ -22,7 +22,7 @@ const CAT_LIST: usize = 33;
 
 // 4: its kind, form or scalars are not allowed.
 #[tactic(auto, using(crate::proofs::Looked::no_kind, crate::proofs::Looked::kind_by))]
-pub(crate) fn bad_kind(t: &Table, rec: Record) -> bool
+pub fn bad_kind(t: &Table, rec: Record) -> bool
     ensures { result ≡ bad_kind (shown rec.entry) }
 {
     let k = rec.kind();
@@ -74,7 +74,7 @@ fn half_part(rec: Record) -> bool
 
 // 5: a slot is no register below R, or wrongly absent or present.
 #[tactic(auto, using(crate::proofs::Slots::uses_are), unfolding(crate::specs::Causes::bad_regs))]
-pub(crate) fn bad_regs_at(row: Row, rec: Record, regs: u32) -> bool
+pub fn bad_regs_at(row: Row, rec: Record, regs: u32) -> bool
     requires { row.0 ≡ packed (kind (shown rec)) (form (shown rec)) }
     ensures { result ≡ bad_regs regs (shown rec.entry) }
 {
@@ -82,7 +82,7 @@ pub(crate) fn bad_regs_at(row: Row, rec: Record, regs: u32) -> bool
 }
 
 // 8: a Cat's list is over 33.
-pub(crate) fn long_cat(rec: Record) -> bool
+pub fn long_cat(rec: Record) -> bool
     ensures { result ≡ long_cat (shown rec.entry) }
 {
     (rec.kind() == CAT) & (CAT_LIST < rec.list_len())

@@ -47,7 +47,7 @@ pub fn memory(o: u32) -> u32
 }
 
 // Where a word read from o points: into o, if that is an image.
-pub(crate) fn inside(o: u32) -> u32
+pub fn inside(o: u32) -> u32
     ensures { (org_at result ≡ inside (org_at o)) × (result ≤ o) }
 {
     if (4 <= o) & (o % 2 == 1) {
@@ -57,14 +57,14 @@ pub(crate) fn inside(o: u32) -> u32
 }
 
 // Is a word read from o a length: is o a block, and its maker a layout?
-pub(crate) fn is_sized(o: u32, layout: bool) -> bool
+pub fn is_sized(o: u32, layout: bool) -> bool
     ensures { result ≡ sized (λ k. layout) (org_at o) }
 {
     (4 <= o) & (o % 2 == 0) & layout
 }
 
 // The origin that two share, or Unknown.
-pub(crate) fn agree(a: u32, b: u32) -> u32
+pub fn agree(a: u32, b: u32) -> u32
     ensures { (org_at result ≡ cond (same_org (org_at a) (org_at b)) (org_at a) Unknown) × (result ≤ a) }
 {
     if a == b {

@@ -141,7 +141,7 @@ pub fn live_in(bits: &mut [u64], func: &Func<'_>, regs: usize)
 }
 
 // Word i of the row of live-in of each of these blocks. (A loop: as a fold, what its closure asks of each block was not proved.)
-pub(crate) fn gather(bits: &[u64], succs: Succs<'_>, grid: Grid, i: usize) -> u64
+pub fn gather(bits: &[u64], succs: Succs<'_>, grid: Grid, i: usize) -> u64
     requires { (i < grid.width) × (grid.blocks * grid.width ≤ length bits.now) × (succs.count ≡ grid.blocks) }
     ensures { result ≡ gathered bits.now grid.width i 0 succs.entry.list.now }
 {

@@ -29,7 +29,7 @@ pub enum Constant {
 
 // The 64 bits of words 9 and 10.
 #[tactic(auto, unfolding(crate::specs::Constant::bits_of))]
-fn bits(rec: Record) -> u64
+pub fn bits(rec: Record) -> u64
     ensures { result ≡ bits_of (shown rec.entry) }
 {
     let low = rec.payload(0);
@@ -38,7 +38,7 @@ fn bits(rec: Record) -> u64
 }
 
 // Are these the bits of a float that is no number? (`f64::from_bits` asks that they are not, so no float can be asked.)
-fn is_nan(n: u64) -> bool
+pub fn is_nan(n: u64) -> bool
     ensures { result ≡ nan_bits binary64 n }
 {
     (n % SIGN / FRACTION == NO_NUMBER) & (n % FRACTION != 0)

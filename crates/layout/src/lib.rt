@@ -28,9 +28,9 @@ pub const BOUNDS: usize = 2 * BLOCKS;
 pub const RECS: usize = 16 * INSTS;
 
 // The eight counts, in words and in bytes; the bytes of the largest picture.
-pub(crate) const HEAD: usize = 8;
+pub const HEAD: usize = 8;
 
-pub(crate) const HEAD_BYTES: usize = 4 * HEAD;
+pub const HEAD_BYTES: usize = 4 * HEAD;
 
 pub const PICTURE_BYTES: usize = 4
     * (HEAD + BOUNDS + RECS + INSTS + VIAS + REGISTERS + OPERANDS + PAIRS + TARGETS + REPLAY);

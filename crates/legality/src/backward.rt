@@ -14,7 +14,7 @@ use summary::notes::Lasts;
 use summary::stamps::{Stamp, put_reads, put_writes};
 
 // q and 1, if q is kept.
-pub(crate) fn kept_at(member: bool, q: usize) -> u64
+pub fn kept_at(member: bool, q: usize) -> u64
     requires { q < 800 }
     ensures { result ≡ kept_word member q }
 {

@@ -34,7 +34,7 @@ fn read_ok(st: &[u64], r: Option<Reg>, p: usize) -> bool
 }
 
 // Rule 3: each register that position p reads has its writer in the set, or is written by no kept position after p.
-pub(crate) fn rule3(code: &Code, f: Fact, st: &[u64], p: usize) -> bool
+pub fn rule3(code: &Code, f: Fact, st: &[u64], p: usize) -> bool
     requires { Readable code.now.recs.now code.now.ops.now (length st.now) f × (p < 800) }
     ensures { result ≡ all (read_test st.now p) (reads code.now.ops.now (inst code.now.recs.now f.rec)) }
 {
@@ -46,7 +46,7 @@ pub(crate) fn rule3(code: &Code, f: Fact, st: &[u64], p: usize) -> bool
 }
 
 // Rule 4: no kept position after p may suspend.
-pub(crate) fn rule4(lasts: &Lasts, p: usize) -> bool
+pub fn rule4(lasts: &Lasts, p: usize) -> bool
     requires { p < 800 }
     ensures { result ≡ leb lasts.now.suspension (p + 1) }
 {
@@ -54,7 +54,7 @@ pub(crate) fn rule4(lasts: &Lasts, p: usize) -> bool
 }
 
 // Rule 6: the memory that the position of fact f writes is Temp of a member.
-pub(crate) fn rule6(lasts: &Lasts, f: Fact) -> bool
+pub fn rule6(lasts: &Lasts, f: Fact) -> bool
     requires { f.wrote ≤ 2004 }
     ensures { result ≡ own_test lasts.now.writes f.wrote }
 {
@@ -63,10 +63,10 @@ pub(crate) fn rule6(lasts: &Lasts, f: Fact) -> bool
 
 // What rule 5 asks: of each register in use what was known of it before round 1, and what is stamped of it; what the kept positions do.
 #[derive(Clone, Copy)]
-pub(crate) struct Kept<'a> {
-    pub(crate) regs: &'a [u32],
-    pub(crate) st: &'a [u64],
-    pub(crate) lasts: &'a Lasts,
+pub struct Kept<'a> {
+    pub regs: &'a [u32],
+    pub st: &'a [u64],
+    pub lasts: &'a Lasts,
     ghost near: { Near st.now },
     ghost alike: { length regs.now ≡ length st.now },
 }
@@ -163,7 +163,7 @@ impl Kept<'_> {
 
     // Rule 5: after p no kept barrier if p creates, writes memory, or reads other than Ro or Heap; no kept write that may alias what p
     // reads; and p's reads are Ro, Frame, Img or Temp.
-    pub(crate) fn rule5(&self, code: &Code, f: Fact, p: usize) -> bool
+    pub fn rule5(&self, code: &Code, f: Fact, p: usize) -> bool
         requires { Good code.now.recs.now code.now.ops.now (length self.now.st.now) f.rec × (p < 800) × ((f.from ≤ 2004) ⊎ (f.from ≡ 4294967295)) }
         ensures { result ≡ memory_test code.now.recs.now code.now.ops.now self.now.regs.now self.now.st.now self.now.lasts.now.writes f self.now.lasts.now.barrier p }
     {

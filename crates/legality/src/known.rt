@@ -11,7 +11,7 @@ use summary::notes::Lasts;
 use summary::stamps::{Stamp, put_def, put_uses};
 
 // The step at position q, of fact f, whatever the records of which f has all.
-pub(crate) fn back_known(f: Fact, st: &mut [u64], lasts: &mut Lasts, q: usize) -> bool
+pub fn back_known(f: Fact, st: &mut [u64], lasts: &mut Lasts, q: usize) -> bool
     requires { (length st.old ≤ 65536) × Small f × (q < 800) }
     ensures { (recs ops : List ℕ) → Written recs (length st.old) f.rec f.def f.more → Readable recs ops (length st.old) f → f.more ≡ false → Backed recs ops f q st.old lasts.old st.new lasts.new result }
 {

@@ -2,7 +2,7 @@
 #![tactic(auto)]
 
 pub mod rules; // rules.rt: rules 1 and 2
-mod kept; // kept.rt: rules 3 to 6, against what the kept positions do
+pub mod kept; // kept.rt: rules 3 to 6, against what the kept positions do
 pub mod forward; // forward.rt: the sweep by rules 3 to 6
 pub mod backward; // backward.rt: the sweep by rule 1, which makes the notes
 mod known; // known.rt: the step of the sweep backward where the fact has all

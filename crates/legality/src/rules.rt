@@ -42,7 +42,7 @@ fn free(st: &[u64], r: Option<Reg>) -> bool
 }
 
 // Rule 1 for the register that fact f has as written.
-pub(crate) fn def_free(f: Fact, st: &[u64]) -> bool
+pub fn def_free(f: Fact, st: &[u64]) -> bool
     requires { length st.now ≤ 65536 }
     ensures { result ≡ all (λ x. leb (get_or st.now x 0) 1023) (own_def (length st.now) f) }
 {
@@ -50,7 +50,7 @@ pub(crate) fn def_free(f: Fact, st: &[u64]) -> bool
 }
 
 // Rule 1: nothing that the position of fact f writes is awaited, that is, read further on by a kept position with no write in between.
-pub(crate) fn rule1(code: &Code, f: Fact, st: &[u64]) -> bool
+pub fn rule1(code: &Code, f: Fact, st: &[u64]) -> bool
     requires { Written code.now.recs.now (length st.now) f.rec f.def f.more }
     ensures { result ≡ all (λ x. leb (get_or st.now x 0) 1023) (writes (inst code.now.recs.now f.rec)) }
 {
@@ -82,7 +82,7 @@ pub fn unneeded_slots(slots: &Slots, asked: &Elsewhere<'_>, p: usize) -> bool
 }
 
 // Rule 2: no register needed elsewhere is written at p and by none after it.
-pub(crate) fn rule2(code: &Code, f: Fact, asked: &Elsewhere<'_>, p: usize) -> bool
+pub fn rule2(code: &Code, f: Fact, asked: &Elsewhere<'_>, p: usize) -> bool
     requires { Written code.now.recs.now (length asked.now.regs.now) f.rec f.def f.more × (p < 800) × (asked.now.at ≤ length asked.now.bits.now) }
     ensures { result ≡ all (result_test asked.now.regs.now asked.now.bits.now asked.now.at p) (writes (inst code.now.recs.now f.rec)) }
 {

@@ -23,7 +23,7 @@ fn take_one(xs: &mut [u32], saved: &mut [u32], goes: bool, e: usize, s: usize, w
 // The marked ones of the records are saved, and the others go down. Returns the words saved: a number beside the array, which the
 // places after need as well; a slice of it would keep the array lent and be asked for its length. (An `ArrayVec` would write blanks
 // over what it held for each segment, and takes a record only by `try_extend_from_slice`, whose refusal had to be met each time.)
-pub(crate) fn gather(xs: &mut [u32], saved: &mut [u32], chain: &[u32], r: Records) -> usize
+pub fn gather(xs: &mut [u32], saved: &mut [u32], chain: &[u32], r: Records) -> usize
     requires { (r.w * (r.lo + r.m) ≤ length xs.old) × (r.w * r.m ≤ length saved.old) × (10 * r.m ≤ length chain.now) }
     ensures { Gathered r.w chain.now r.lo xs.old xs.new saved.old saved.new r.m result }
 {

@@ -3,8 +3,8 @@
 #![tactic(auto)]
 
 pub mod bounds; // where the blocks lie after
-mod gather; // the members of a segment saved, the others closed up
+pub mod gather; // the members of a segment saved, the others closed up
 pub mod marks; // how many members there are
 pub mod moving; // records, locs and vias of all members
-mod records; // which records
-mod segment; // a segment's members at the target's head
+pub mod records; // which records
+pub mod segment; // a segment's members at the target's head

@@ -2,8 +2,8 @@
 
 // m records from record lo on, of w words each: those of that block, or a segment of them.
 #[derive(Clone, Copy, Debug, PartialEq, Eq)]
-pub(crate) struct Records {
-    pub(crate) lo: usize,
-    pub(crate) m: usize,
-    pub(crate) w: usize,
+pub struct Records {
+    pub lo: usize,
+    pub m: usize,
+    pub w: usize,
 }

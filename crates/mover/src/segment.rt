@@ -10,10 +10,10 @@ use crate::gather::gather;
 use crate::records::Records;
 
 // The most records of a segment.
-pub(crate) const SEGMENT: usize = 64;
+pub const SEGMENT: usize = 64;
 
 // The marked ones of the records go before word e, which is behind them. Returns how many words went.
-pub(crate) fn sink(xs: &mut [u32], saved: &mut [u32], chain: &[u32], r: Records, e: usize) -> usize
+pub fn sink(xs: &mut [u32], saved: &mut [u32], chain: &[u32], r: Records, e: usize) -> usize
     requires { Ask r.w r.lo r.m r.m e chain.now saved.old xs.old × (r.w * (r.lo + r.m) ≤ e) }
     ensures { (result ≡ length (cells r.w xs.old (gone chain.now r.lo r.m))) × (xs.new ≡ sunk r.w chain.now r.lo r.m e xs.old) }
 {
@@ -28,7 +28,7 @@ pub(crate) fn sink(xs: &mut [u32], saved: &mut [u32], chain: &[u32], r: Records,
 }
 
 // The same for a word e in front of them.
-pub(crate) fn raise(xs: &mut [u32], saved: &mut [u32], chain: &[u32], r: Records, e: usize) -> usize
+pub fn raise(xs: &mut [u32], saved: &mut [u32], chain: &[u32], r: Records, e: usize) -> usize
     requires { Ask r.w r.lo r.m r.m e chain.now saved.old xs.old × (e ≤ r.w * r.lo) }
     ensures { (result ≡ length (cells r.w xs.old (gone chain.now r.lo r.m))) × (xs.new ≡ raised r.w chain.now r.lo r.m e xs.old) }
 {

@@ -48,7 +48,7 @@ impl Pool {
 
     // Those held whose last reader is before p become free ("once its last reader is before the present member"). Where there are none,
     // those held are not looked at again.
-    pub(crate) fn release(&mut self, p: u32)
+    pub fn release(&mut self, p: u32)
         ensures { Released p self.old self.new }
     {
         let before = self.free.len();
@@ -59,7 +59,7 @@ impl Pool {
     }
 
     // The place of the topmost free word of type ty.
-    pub(crate) fn find(&self, ty: u32) -> Option<usize>
+    pub fn find(&self, ty: u32) -> Option<usize>
         ensures { Top ty self.now result }
     {
         last_of(self.free.as_slice(), ty)

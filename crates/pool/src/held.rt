@@ -6,21 +6,21 @@ use arrayvec::ArrayVec;
 use model::RECORDS;
 
 // Where the last reader stands in a word, over register and type.
-pub(crate) const UNTIL: u32 = 1048576;
+pub const UNTIL: u32 = 1048576;
 
 // The pool: the registers held, in order, and those free, last freed last; `next` was never given. No more are in it than a chain has
 // positions.
 #[derive(Drop)]
-pub(crate) struct Pool {
-    pub(crate) held: ArrayVec<u32, RECORDS>,
-    pub(crate) free: ArrayVec<u32, RECORDS>,
-    pub(crate) next: u32,
+pub struct Pool {
+    pub held: ArrayVec<u32, RECORDS>,
+    pub free: ArrayVec<u32, RECORDS>,
+    pub next: u32,
     ghost few: { length held.items + length free.items ≤ 800 },
 }
 
 impl Pool {
     // Nothing is held or free, and `next` is the first to be given.
-    pub(crate) fn new(next: u32) -> Pool
+    pub fn new(next: u32) -> Pool
         ensures { (result.held.items ≡ []) × (result.free.items ≡ []) × (result.next ≡ next) }
     {
         Pool {

@@ -4,7 +4,7 @@
 #![tactic(auto)]
 
 pub mod allot; // every member's turn
-mod free; // the registers that are free
-mod held; // the pool
-mod turn; // one member's turn
+pub mod free; // the registers that are free
+pub mod held; // the pool
+pub mod turn; // one member's turn
 pub mod types; // the new registers' types

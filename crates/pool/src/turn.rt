@@ -11,10 +11,10 @@ use inst::index::Reg;
 
 // A member's position, its last use, and the register that it writes, if any.
 #[derive(Clone, Copy)]
-pub(crate) struct Member {
-    pub(crate) at: u32,
-    pub(crate) until: u32,
-    pub(crate) def: Option<Reg>,
+pub struct Member {
+    pub at: u32,
+    pub until: u32,
+    pub def: Option<Reg>,
 }
 
 impl Pool {
@@ -38,7 +38,7 @@ impl Pool {
 
     // The turn of member m: registers whose last reader is before it become free; then it gets its own, if it writes one. That one is a
     // word and no `Reg`: a new one is not below the count in use, and until its type is written nothing goes by it.
-    pub(crate) fn turn(&mut self, m: Member, types: &[u32]) -> Option<u32>
+    pub fn turn(&mut self, m: Member, types: &[u32]) -> Option<u32>
         requires room { (in_pool self.old < 800) × (m.until < 4096) × (self.old.next < 131000) }
         requires among { Among (length types.now) m.def × ((word_of m.def ≡ absent → ⊥) → get_or types.now (word_of m.def) 0 < 8) }
         ensures { Turn m.at m.until (word_of m.def) types.now self.old self.new (unwrap_or result absent) }

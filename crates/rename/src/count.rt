@@ -43,7 +43,7 @@ fn count_pass(code: &Code, q: usize, names: &mut [u64], k: Part) -> usize
 }
 
 // The positions of x.
-pub(crate) fn count_x(code: &Code, walk: &Walk, names: &mut [u64]) -> usize
+pub fn count_x(code: &Code, walk: &Walk, names: &mut [u64]) -> usize
     requires { Exists (λ u. CountX u walk.now.from walk.now.inside names.old code.now.recs.now code.now.ops.now walk.now.w.now) }
     ensures { CountedX walk.now.from walk.now.inside names.old names.new code.now.recs.now code.now.ops.now walk.now.w.now result }
 {
@@ -66,7 +66,7 @@ fn count_own(code: &Code, q: usize, names: &mut [u64]) -> usize
 }
 
 // The target's records s, behind n operands that were counted before.
-pub(crate) fn count_target(code: &Code, s: &Range<usize>, names: &mut [u64], n: usize) -> usize
+pub fn count_target(code: &Code, s: &Range<usize>, names: &mut [u64], n: usize) -> usize
     requires { Exists (λ u. CountOwn u s.now.start s.now.end names.old code.now.recs.now code.now.ops.now) × (n ≤ 4294967295 * 65536) }
     ensures { (result ≡ n + length (appended code.now.ops.now (target_jobs (named names.old) code.now.recs.now s.now.start s.now.end))) × (result ≤ 4294967295 * 131072) }
 {

@@ -4,10 +4,10 @@
 #![tactic(auto)]
 
 pub mod all; // the whole walk, counted or done
-mod count; // what it would append
-mod lists; // a record's list
-mod names; // the names
+pub mod count; // what it would append
+pub mod lists; // a record's list
+pub mod names; // the names
 pub mod parts; // what is walked
-mod remake; // one record
-mod slots; // its slots
-mod walk; // the walk that renames
+pub mod remake; // one record
+pub mod slots; // its slots
+pub mod walk; // the walk that renames

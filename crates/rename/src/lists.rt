@@ -16,7 +16,7 @@ fn renamed(w: u32, names: &[u64]) -> u32
 }
 
 // Does this list of operands change?
-pub(crate) fn changes(list: &[u32], names: &[u64]) -> bool
+pub fn changes(list: &[u32], names: &[u64]) -> bool
     ensures { result ≡ list_changes names.now list.now }
 {
     list.iter().any(|w| renamed(*w, names) != *w)
@@ -24,7 +24,7 @@ pub(crate) fn changes(list: &[u32], names: &[u64]) -> bool
 
 // The new names of the n operands from s on, stored from o on. (By number, since both lie in one slice: taken apart there for an
 // iterator over both it is longer.)
-pub(crate) fn append(ops: &mut [u32], s: usize, n: usize, o: usize, names: &[u64])
+pub fn append(ops: &mut [u32], s: usize, n: usize, o: usize, names: &[u64])
     requires { (s + n ≤ o) × (o + n ≤ length ops.old) }
     ensures { Appended s o names.now ops.old ops.new n }
 {

@@ -24,7 +24,7 @@ fn low(x: u64) -> u32
 }
 
 // w, or x where w is absent.
-pub(crate) fn or(w: u32, x: u32) -> u32
+pub fn or(w: u32, x: u32) -> u32
     ensures { result ≡ reg_or w x }
 {
     if w == ABSENT {
@@ -34,7 +34,7 @@ pub(crate) fn or(w: u32, x: u32) -> u32
 }
 
 // The new name of r.
-pub(crate) fn name(names: &[u64], r: Reg) -> u32
+pub fn name(names: &[u64], r: Reg) -> u32
     requires { r.0 < length names.now }
     ensures { result ≡ named names.now r.0 }
 {
@@ -42,7 +42,7 @@ pub(crate) fn name(names: &[u64], r: Reg) -> u32
 }
 
 // Register r, if it is one, has the name nw.
-pub(crate) fn put(names: &mut [u64], r: Option<Reg>, nw: u32)
+pub fn put(names: &mut [u64], r: Option<Reg>, nw: u32)
     requires { Among (length names.old) r }
     ensures { names.new ≡ put_name names.old (word_of r) nw }
 {
@@ -50,14 +50,14 @@ pub(crate) fn put(names: &mut [u64], r: Option<Reg>, nw: u32)
 }
 
 // No register has a new name.
-pub(crate) fn clear(names: &mut [u64])
+pub fn clear(names: &mut [u64])
     ensures { names.new ≡ replicate (length names.old) 4294967295 }
 {
     names.fill(NONE);
 }
 
 // The registers that a record writes keep their names from now on.
-pub(crate) fn forget(slots: &Slots, names: &mut [u64])
+pub fn forget(slots: &Slots, names: &mut [u64])
     requires few { length names.old ≤ 4294967295 }
     requires by_index { (s : ℕ) → s < 5 → (write_at (inst slots.now.recs.now slots.now.p) s ≡ 4294967295 → ⊥) → write_at (inst slots.now.recs.now slots.now.p) s < length names.old }
     ensures { Forgot (inst slots.now.recs.now slots.now.p) names.old names.new }

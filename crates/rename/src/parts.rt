@@ -9,10 +9,10 @@ use std::ops::Range;
 // A position of x: whether it is a member, the register that it writes, and the word of the one that it gets in its place. That one is no
 // `Reg`: it is written, and nothing goes by it.
 #[derive(Clone, Copy, Debug, PartialEq, Eq)]
-pub(crate) struct Part {
-    pub(crate) goes: bool,
-    pub(crate) def: Option<Reg>,
-    pub(crate) new: u32,
+pub struct Part {
+    pub goes: bool,
+    pub def: Option<Reg>,
+    pub new: u32,
 }
 
 // What is walked: x's first `inside` records from `from` on; then the chain's other positions, of `places` in all, whose words are w; and
@@ -27,7 +27,7 @@ pub struct Walk<'a> {
 }
 
 // Position p, where names has `count` words.
-pub(crate) fn part_at(w: &[u32], p: usize, count: usize) -> Part
+pub fn part_at(w: &[u32], p: usize, count: usize) -> Part
     requires { 10 * p + 10 ≤ length w.now }
     ensures { Parted w.now p count result.goes result.def result.new }
 {

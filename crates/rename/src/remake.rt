@@ -10,7 +10,7 @@ use inst::record::Record;
 // Record p, where o operands are in use. Returns how many are in use then. (Inlined always, with its slots: else the names are put into
 // memory for each record, and taken out again.)
 #[inline(always)]
-pub(crate) fn remake(
+pub fn remake(
     recs: &mut [u32],
     p: usize,
     uses: u32,

@@ -13,9 +13,9 @@ use model::ABSENT;
 // absent. (It is a position's word as it stands. An `Option<u32>` could still hold the absent word, and each contract had to rule that
 // out.)
 #[derive(Clone, Copy)]
-pub(crate) struct Anew<'a> {
-    pub(crate) names: &'a [u64],
-    pub(crate) new: u32,
+pub struct Anew<'a> {
+    pub names: &'a [u64],
+    pub new: u32,
 }
 
 // A slot's word after, by what the slot does.
@@ -37,7 +37,7 @@ fn slot_word(r: Option<Reg>, does: u32, anew: Anew) -> u32
 
 // The five slots of record p, whose slots do what `uses` says.
 #[inline(always)]
-pub(crate) fn rename_slots(recs: &mut [u32], p: usize, uses: u32, anew: Anew)
+pub fn rename_slots(recs: &mut [u32], p: usize, uses: u32, anew: Anew)
     requires used { Used recs.old p uses × (length anew.names.now ≤ 4294967295) }
     requires by_index { (s : ℕ) → s < 5 → (get_or recs.old (16 * p + 2 + s) 0 ≡ 4294967295 → ⊥) → get_or recs.old (16 * p + 2 + s) 0 < length anew.names.now }
     ensures { Slotted p uses anew.entry.names.now anew.entry.new recs.old recs.new 5 }

@@ -47,7 +47,7 @@ fn pass(
 }
 
 // The positions of x, where u operands are in use. Returns how many are then.
-pub(crate) fn pass_all(
+pub fn pass_all(
     t: &Table,
     recs: &mut [u32],
     walk: &Walk,
@@ -67,7 +67,7 @@ pub(crate) fn pass_all(
 }
 
 // The chain's other positions, all kept.
-pub(crate) fn skip_all(code: &Code, walk: &Walk, names: &mut [u64])
+pub fn skip_all(code: &Code, walk: &Walk, names: &mut [u64])
     requires { Exists (λ u. AskRest u walk.now.inside walk.now.places names.old code.now.recs.now walk.now.w.now) }
     ensures { PassedRest walk.now.inside (walk.now.places - walk.now.inside) names.old names.new code.now.recs.now walk.now.w.now }
 {
@@ -91,7 +91,7 @@ fn own(t: &Table, recs: &mut [u32], q: usize, ops: &mut [u32], o: usize, names: 
 }
 
 // The target's records s, where o operands are in use. Returns how many are then.
-pub(crate) fn own_all(
+pub fn own_all(
     t: &Table,
     recs: &mut [u32],
     s: &Range<usize>,
