@@ -11,7 +11,6 @@ use borrow.Author.Tests.{lt-ltb, le-ltb, ltb-true, ltb-false}
 use lib.Dec.{ltb}
 use lib.ListN.{get_or, length, take, drop, length-drop, length-append, drop_of_length-le}
 use lib.Seq.{drop-cons}
-use Rattle.std.specs.declared.ops.Range.{Range}
 use Rattle.words.specs.Lists.{In, range}
 use Rattle.words.proofs.Lists.{length_range}
 use Rattle.words.proofs.Members.{in_split, range_in}
@@ -19,6 +18,7 @@ use Rattle.words.proofs.Bools.{left_true, right_true, lt?}
 use Rattle.model.specs.Picture.{Picture}
 use Rattle.model.specs.Move.{chain_places}
 use Rattle.chains.specs.declared.chain.Chain.{Chain}
+use Rattle.chains.specs.declared.places.Part.{Part}
 use Rattle.chains.specs.Chain.{blocks_of, Sound}
 use Rattle.chains.specs.Places.{start_in, end_past, Pair, Laid, kept_in, IsPart}
 use Rattle.chains.proofs.Struct.{blocks_long}
@@ -52,11 +52,11 @@ module _ (P : Picture) {bounds : List ℕ} (e : P.bounds ≡ bounds) (bs : List 
       ∙ ap (λ (l : List ℕ). kept l (get_or bs k 0) (length bs - (k + 1)) ++ chain_places P (drop (k + 1) bs)) e
 
   -- as the records of a part
-  pub part_step : (r : Range ℕ) → IsPart bounds bs k r → k < length bs → chain_places P (drop k bs) ≡ range r.start (r.end - r.start) ++ chain_places P (drop (k + 1) bs)
+  pub part_step : (r : Part) → IsPart bounds bs k r → k < length bs → chain_places P (drop k bs) ≡ range r.from (r.past - r.from) ++ chain_places P (drop (k + 1) bs)
   part_step r i h =
-      let m : kept_in bounds (get_or bs k 0) (length bs - (k + 1)) ≡ r.end - r.start = omega (arith, i.past) in
+      let m : kept_in bounds (get_or bs k 0) (length bs - (k + 1)) ≡ r.past - r.from = omega (arith, i.past) in
       places_step h ∙ ap (λ (n : ℕ). range (start_in bounds (get_or bs k 0)) n ++ chain_places P (drop (k + 1) bs)) m
-      ∙ ap (λ (s : ℕ). range s (r.end - r.start) ++ chain_places P (drop (k + 1) bs)) (sym i.from)
+      ∙ ap (λ (s : ℕ). range s (r.past - r.from) ++ chain_places P (drop (k + 1) bs)) (sym i.from)
 
 -- ---- each position is a record before the end of one of the blocks
 
@@ -114,14 +114,14 @@ module _ {bounds : List ℕ} {c : Chain} {k : ℕ} (s : Laid bounds c) (h : k < 
   outer l = ap (λ (t : Bool). cond t (end_past bounds b - start_in bounds b - 1) (end_past bounds b - start_in bounds b)) (le-ltb 0 (length bs - (k + 1)) l)
 
   module _ {x y : ℕ} (ex : x ≡ start_in bounds b) (ey : y ≡ end_past bounds b) (ly : y < 4294967296) where
-    pub part_inner : ltb (k + 1) c.count && ltb x y ≡ true → IsPart bounds bs k (record { start = x; end = y - 1 })
+    pub part_inner : ltb (k + 1) c.count && ltb x y ≡ true → IsPart bounds bs k (record { from = x; past = y - 1 })
     part_inner t =
         let l : k + 1 < c.count = ltb-true (k + 1) c.count (left_true (ltb (k + 1) c.count) (ltb x y) t) in
         let m : x < y = ltb-true x y (right_true (ltb (k + 1) c.count) (ltb x y) t) in
         let i = inner (omega (arith, more, l)) in
         record { from = ex; past = omega (arith, ex, ey, i, m); fits = omega (arith, ey); low = omega arith }
 
-    pub part_outer : ltb (k + 1) c.count && ltb x y ≡ false → IsPart bounds bs k (record { start = x; end = y })
+    pub part_outer : ltb (k + 1) c.count && ltb x y ≡ false → IsPart bounds bs k (record { from = x; past = y })
     part_outer t = record { from = ex; past = go (lt? 0 (length bs - (k + 1))); fits = omega (arith, ey); low = omega arith }
       where
         o : start_in bounds b ≤ end_past bounds b
@@ -142,14 +142,14 @@ module _ (bounds bs : List ℕ) where
     pub low : n ≤ k * 4294967296
     pub same : (P : Picture) → P.bounds ≡ bounds → n + length (chain_places P (drop k bs)) ≡ length (chain_places P bs)
 
-  pub counted_more : {n k : ℕ} (r : Range ℕ) → Counted n k → k < length bs → IsPart bounds bs k r → Counted (n + (r.end - r.start)) (k + 1)
+  pub counted_more : {n k : ℕ} (r : Part) → Counted n k → k < length bs → IsPart bounds bs k r → Counted (n + (r.past - r.from)) (k + 1)
   counted_more {n} {k} r c h i = record {
     upto = omega arith;
     low = omega (arith, c.low, i.low);
     same = λ P e.
         let s = c.same P e in
-        let t = ap length (part_step P e bs k r i h) ∙ length-append (range r.start (r.end - r.start)) (chain_places P (drop (k + 1) bs)) in
-        let u = length_range r.start (r.end - r.start) in
+        let t = ap length (part_step P e bs k r i h) ∙ length-append (range r.from (r.past - r.from)) (chain_places P (drop (k + 1) bs)) in
+        let u = length_range r.from (r.past - r.from) in
         omega (arith, s, t, u);
   }
 

@@ -9,11 +9,11 @@ use lib.Dec.{leb, ltb}
 use borrow.Author.Tests.{le-leb, leb-true, ltb-true, ltb-false}
 use Rattle.words.proofs.Bools.{left_true, right_true}
 use lib.ListN.{length, drop, drop_of_length-le}
-use Rattle.std.specs.declared.ops.Range.{Range}
 use Rattle.words.specs.Lists.{range}
 use Rattle.model.specs.Picture.{Picture}
 use Rattle.model.specs.Move.{chain_places}
 use Rattle.chains.specs.declared.chain.Chain.{Chain}
+use Rattle.chains.specs.declared.places.Part.{Part}
 use Rattle.chains.specs.declared.cursor.Cursor.{Cursor}
 use Rattle.chains.specs.Chain.{blocks_of}
 use Rattle.chains.specs.Places.{Laid, IsPart}
@@ -34,11 +34,11 @@ one_left P bs k g past h =
     ∙ ap (λ (m : ℕ). g ∷ (range m (past - (g + 1)) ++ chain_places P (drop (k + 1) bs))) (sym (add-one g))
 
 -- a block with all its positions
-block_left : (P : Picture) {bounds bs : List ℕ} (k : ℕ) (x : Range ℕ) → P.bounds ≡ bounds → IsPart bounds bs k x → k < length bs → chain_places P (drop k bs) ≡ left_of P bs k x.start x.end
+block_left : (P : Picture) {bounds bs : List ℕ} (k : ℕ) (x : Part) → P.bounds ≡ bounds → IsPart bounds bs k x → k < length bs → chain_places P (drop k bs) ≡ left_of P bs k x.from x.past
 unfolding left_of
 block_left P {bounds} {bs} k x e i h = part_step P e bs k x i h
 
-block_inside : {bounds : List ℕ} {c : Chain} {k : ℕ} (x : Range ℕ) → k < c.count → IsPart bounds (blocks_of c) k x → Inside bounds c k x.start x.end
+block_inside : {bounds : List ℕ} {c : Chain} {k : ℕ} (x : Part) → k < c.count → IsPart bounds (blocks_of c) k x → Inside bounds c k x.from x.past
 block_inside x h i = record { block = h; order = omega (arith, i.past); fits = i.fits }
 
 -- ---- over blocks
@@ -50,7 +50,7 @@ pub record Seeking (bounds : List ℕ) (c : Chain) (k₀ g₀ past₀ k g past :
 pub seeking_none : {bounds : List ℕ} {c : Chain} {k g past : ℕ} → Inside bounds c k g past → Seeking bounds c k g past k g past
 seeking_none i = record { inside = i; same = λ P e. refl }
 
-pub seeking_more : {bounds : List ℕ} {c : Chain} {k₀ g₀ past₀ k g past : ℕ} (x : Range ℕ) → Laid bounds c → Seeking bounds c k₀ g₀ past₀ k g past → past ≤ g → k + 1 < c.count → IsPart bounds (blocks_of c) (k + 1) x → Seeking bounds c k₀ g₀ past₀ (k + 1) x.start x.end
+pub seeking_more : {bounds : List ℕ} {c : Chain} {k₀ g₀ past₀ k g past : ℕ} (x : Part) → Laid bounds c → Seeking bounds c k₀ g₀ past₀ k g past → past ≤ g → k + 1 < c.count → IsPart bounds (blocks_of c) (k + 1) x → Seeking bounds c k₀ g₀ past₀ (k + 1) x.from x.past
 seeking_more {bounds} {c} {k₀} {g₀} {past₀} {k} {g} {past} x s q h l i = record {
   inside = block_inside x l i;
   same = λ P e. q.same P e ∙ none_left P (blocks_of c) k g past h ∙ block_left P (k + 1) x e i (rw (blocks_long s.few) l);
@@ -73,7 +73,7 @@ stands {c = c} x s t = (record { inside = s.inside; ended = no_more x c.count t 
 
 -- ---- the first, and the next
 
-pub first_left : (P : Picture) {bounds : List ℕ} {c : Chain} (x : Range ℕ) → Laid bounds c → P.bounds ≡ bounds → IsPart bounds (blocks_of c) 0 x → chain_places P (blocks_of c) ≡ left_of P (blocks_of c) 0 x.start x.end
+pub first_left : (P : Picture) {bounds : List ℕ} {c : Chain} (x : Part) → Laid bounds c → P.bounds ≡ bounds → IsPart bounds (blocks_of c) 0 x → chain_places P (blocks_of c) ≡ left_of P (blocks_of c) 0 x.from x.past
 first_left P x s e i = block_left P 0 x e i (rw (blocks_long s.few) s.few.least)
 
 pub next_left : (P : Picture) (bs : List ℕ) (x : Cursor) → x.g < x.past → left_of P bs x.k x.g x.past ≡ x.g ∷ left_of P bs x.k (x.g + 1) x.past

@@ -1,7 +1,7 @@
 -- 01, "A round": the positions of a chain, inner Brs dropped, as parts of the records. Assumes nothing.
 use Rattle.std.specs.Prelude.{◌≡◌, cond, List, ℕ, ◌+◌, ◌*◌, ◌-◌, ◌≤◌, ◌<◌, ltb, get_or, length}
-use Rattle.std.specs.declared.ops.Range.{Range}
 use Rattle.chains.specs.declared.chain.Chain.{Chain}
+use Rattle.chains.specs.declared.places.Part.{Part}
 use Rattle.chains.specs.Chain.{blocks_of, Few}
 
 abbrev pub start_in : List ℕ → ℕ → ℕ
@@ -25,8 +25,8 @@ abbrev pub kept_in : List ℕ → ℕ → ℕ → ℕ
 kept_in bounds b more = let n = end_past bounds b - start_in bounds b in cond (ltb 0 more) (n - 1) n
 
 -- the positions in the k-th of these blocks
-pub record IsPart (bounds bs : List ℕ) (k : ℕ) (r : Range ℕ) : Type 0 where
-  pub from : r.start ≡ start_in bounds (get_or bs k 0)
-  pub past : r.end ≡ r.start + kept_in bounds (get_or bs k 0) (length bs - (k + 1))
-  pub fits : r.end ≤ end_past bounds (get_or bs k 0)
-  pub low : r.end < 4294967296
+pub record IsPart (bounds bs : List ℕ) (k : ℕ) (r : Part) : Type 0 where
+  pub from : r.from ≡ start_in bounds (get_or bs k 0)
+  pub past : r.past ≡ r.from + kept_in bounds (get_or bs k 0) (length bs - (k + 1))
+  pub fits : r.past ≤ end_past bounds (get_or bs k 0)
+  pub low : r.past < 4294967296

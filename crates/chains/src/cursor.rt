@@ -29,8 +29,8 @@ fn seek(bounds: &[u32], c: Chain, from: Cursor) -> Cursor
         let part = part_of(bounds, c, k);
         at = Cursor {
             k,
-            g: part.start,
-            past: part.end,
+            g: part.from,
+            past: part.past,
         };
     }
     at
@@ -44,8 +44,8 @@ pub fn first(bounds: &[u32], c: Chain) -> Cursor
     let part = part_of(bounds, c, 0);
     let from = Cursor {
         k: 0,
-        g: part.start,
-        past: part.end,
+        g: part.from,
+        past: part.past,
     };
     seek(bounds, c, from)
 }

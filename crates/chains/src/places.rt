@@ -6,10 +6,16 @@ ghost use Rattle.chains.specs.Chain.{blocks_of};
 ghost use Rattle.chains.specs.Places.{Laid, IsPart};
 
 use crate::chain::Chain;
-use std::ops::Range;
+
+// The records from one number up to another.
+#[derive(Clone, Copy, Debug, PartialEq, Eq)]
+pub struct Part {
+    pub from: usize,
+    pub past: usize,
+}
 
 // The positions in the k-th block: all, or all but the Br where another block follows.
-pub fn part_of(bounds: &[u32], c: Chain, k: u32) -> Range<usize>
+pub fn part_of(bounds: &[u32], c: Chain, k: u32) -> Part
     requires { Laid bounds.now c × (k < c.count) }
     ensures { IsPart bounds.now (blocks_of c) k result }
 {
@@ -17,9 +23,12 @@ pub fn part_of(bounds: &[u32], c: Chain, k: u32) -> Range<usize>
     let s = b.start(bounds);
     let e = b.past(bounds);
     if (k + 1 < c.count) & (s < e) {
-        return s..e - 1;
+        return Part {
+            from: s,
+            past: e - 1,
+        };
     }
-    s..e
+    Part { from: s, past: e }
 }
 
 // How many positions the chain has.
@@ -30,7 +39,7 @@ pub fn chain_len(bounds: &[u32], c: Chain) -> usize
     let mut n = 0;
     for k in 0..c.count {
         let part = part_of(bounds, c, k);
-        n += part.end - part.start;
+        n += part.past - part.from;
     }
     n
 }
