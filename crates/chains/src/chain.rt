@@ -116,12 +116,12 @@ impl Chain {
 }
 
 // How block b ends: the table of roles tells it of its last record, alike at each form.
-pub fn end_of(table: &Table, bounds: &[u32], recs: &[u32], b: BlockId) -> Ending
-    requires { Block bounds.now recs.now b.0 }
-    ensures { result ≡ ending_of (end_in bounds.now recs.now b.0) }
+pub fn end_of(table: &Table, bounds: &[u32], recs: &[u32], b: usize) -> Ending
+    requires { Block bounds.now recs.now b }
+    ensures { result ≡ ending_of (end_in bounds.now recs.now b) }
 {
-    let s = b.start(bounds);
-    let e = b.past(bounds);
+    let s = bounds[2 * b] as usize;
+    let e = bounds[2 * b + 1] as usize;
     if e <= s {
         return Ending::Stops;
     }
@@ -147,7 +147,7 @@ pub fn find_chain(
 {
     let mut c = Chain::start(x);
     for _i in 0..6u32 {
-        match end_of(table, bounds, recs, c.last()) {
+        match end_of(table, bounds, recs, c.last().at()) {
             Ending::Goes(to) => c = c.next(preds, to, blocks)?,
             Ending::Parts(t, f) => return c.ends(t, f, blocks),
             Ending::Stops => return None,
