@@ -41,6 +41,6 @@ pub fn apply(
     let walk = m.walk(bounds, w);
     add_types(types, c.regs, w, m.inside);
     rename_all(t, recs, &walk, ops, c.opers, names);
-    move_all(recs, locs, vias, w, walk.from, m.inside, walk.target.start);
+    move_all(recs, locs, vias, w, walk.from, m.inside, walk.target.from);
     move_bounds(bounds, m.from, m.into, count(w, m.inside));
 }

@@ -2,7 +2,7 @@
 ghost use Rattle.std.specs.Prelude.{◌≡◌, ◌+◌, ◌*◌, ◌<◌, length, get_or};
 
 use inst::index::BlockId;
-use rename::parts::Walk;
+use rename::parts::{Span, Walk};
 
 // From and into which block; the positions of the chain that are in the first one, but for its last, and of the whole chain; how
 // many of them move.
@@ -21,15 +21,18 @@ impl Move {
         requires { (2 * self.from.0 + 1 < length bounds.now) × (2 * self.into.0 + 1 < length bounds.now) }
         ensures from { result.from ≡ get_or bounds.now (2 * self.from.0) 0 }
         ensures inside { (result.inside ≡ self.inside) × (result.places ≡ self.places) }
-        ensures start { result.target.start ≡ get_or bounds.now (2 * self.into.0) 0 }
-        ensures end { result.target.end ≡ get_or bounds.now (2 * self.into.0 + 1) 0 }
+        ensures start { result.target.from ≡ get_or bounds.now (2 * self.into.0) 0 }
+        ensures end { result.target.past ≡ get_or bounds.now (2 * self.into.0 + 1) 0 }
         ensures words { result.w.now ≡ w.now }
     {
         Walk {
             from: self.from.start(bounds),
             inside: self.inside,
             places: self.places,
-            target: self.into.start(bounds)..self.into.past(bounds),
+            target: Span {
+                from: self.into.start(bounds),
+                past: self.into.past(bounds),
+            },
             w,
         }
     }

@@ -55,8 +55,12 @@ unfoldable pub rd_rest : (ℕ → ℕ) → List ℕ → List ℕ → ℕ → ℕ
 rd_rest rd w xs a zero r = rd r
 rd_rest rd w xs a (suc k) r = pick (mem r (writes (inst xs (get_or w (10 * (a + k)) 0)))) r (rd_rest rd w xs a k r)
 
+-- does this mark say that its position goes?
+abbrev pub marked : ℕ → Bool
+marked m = not (eqb m 0)
+
 abbrev pub goes : List ℕ → ℕ → Bool
-goes w p = not (eqb (mark_at w p) 0)
+goes w p = marked (mark_at w p)
 
 -- the members among the first p positions: where they stand, and what becomes of them
 abbrev pub gone_places : List ℕ → ℕ → ℕ → List ℕ
@@ -71,8 +75,9 @@ gone_jobs rd w xs lo p = map (gone_job rd w xs lo) (filter (goes w) (upto p))
 -- ---- one position
 
 -- what its words say, of count registers
-pub record Parted (w : List ℕ) (p count : ℕ) (gone : Bool) (def : Option Reg) (new : ℕ) : Type 0 where
-  pub goes_is : gone ≡ goes w p
+pub record Parted (w : List ℕ) (p count mark : ℕ) (def : Option Reg) (new : ℕ) : Type 0 where
+  pub mark_is : mark ≡ mark_at w p
+  pub goes_is : marked mark ≡ goes w p
   pub def_is : def ≡ reg_of (wrote_at w p) count
   pub new_is : new ≡ new_at w p
 

@@ -14,13 +14,13 @@ use inst::table::Table;
 
 // How many operands the move would append.
 pub fn count_all(code: &Code, walk: &Walk, names: &mut [u64]) -> usize
-    requires { Exists (λ u. AskAll u walk.now.from walk.now.inside walk.now.places walk.now.target.start walk.now.target.end (length names.old) code.now.recs.now code.now.ops.now walk.now.w.now) }
-    ensures { (result ≡ length (appended code.now.ops.now (all_jobs walk.now.w.now code.now.recs.now walk.now.from walk.now.inside walk.now.places walk.now.target.start walk.now.target.end))) × (result ≤ 4294967295 * 131072) }
+    requires { Exists (λ u. AskAll u walk.now.from walk.now.inside walk.now.places walk.now.target.from walk.now.target.past (length names.old) code.now.recs.now code.now.ops.now walk.now.w.now) }
+    ensures { (result ≡ length (appended code.now.ops.now (all_jobs walk.now.w.now code.now.recs.now walk.now.from walk.now.inside walk.now.places walk.now.target.from walk.now.target.past))) × (result ≤ 4294967295 * 131072) }
 {
     clear(names);
     let k = count_x(code, walk, names);
     skip_all(code, walk, names);
-    count_target(code, &walk.target, names, k)
+    count_target(code, walk.target, names, k)
 }
 
 // The members and the target's own records made anew where they lie, where u operands are in use. Returns how many are then.
@@ -32,9 +32,9 @@ pub fn rename_all(
     u: usize,
     names: &mut [u64],
 ) -> usize
-    requires t_value { AskAll u walk.now.from walk.now.inside walk.now.places walk.now.target.start walk.now.target.end (length names.old) recs.old ops.old walk.now.w.now }
-    requires past_in_bounds { u + length (appended ops.old (all_jobs walk.now.w.now recs.old walk.now.from walk.now.inside walk.now.places walk.now.target.start walk.now.target.end)) ≤ length ops.old }
-    ensures { Run u (all_places walk.now.w.now walk.now.from walk.now.inside walk.now.target.start walk.now.target.end) (all_jobs walk.now.w.now recs.old walk.now.from walk.now.inside walk.now.places walk.now.target.start walk.now.target.end) recs.old recs.new ops.old ops.new result }
+    requires t_value { AskAll u walk.now.from walk.now.inside walk.now.places walk.now.target.from walk.now.target.past (length names.old) recs.old ops.old walk.now.w.now }
+    requires past_in_bounds { u + length (appended ops.old (all_jobs walk.now.w.now recs.old walk.now.from walk.now.inside walk.now.places walk.now.target.from walk.now.target.past)) ≤ length ops.old }
+    ensures { Run u (all_places walk.now.w.now walk.now.from walk.now.inside walk.now.target.from walk.now.target.past) (all_jobs walk.now.w.now recs.old walk.now.from walk.now.inside walk.now.places walk.now.target.from walk.now.target.past) recs.old recs.new ops.old ops.new result }
 {
     clear(names);
     let o = pass_all(t, recs, walk, ops, u, names);
@@ -44,5 +44,5 @@ pub fn rename_all(
         ops,
     };
     skip_all(&code, walk, names);
-    own_all(t, recs, &walk.target, ops, o, names)
+    own_all(t, recs, walk.target, ops, o, names)
 }

@@ -7,14 +7,13 @@ ghost use Rattle.model.specs.Picture.{inst, absent};
 ghost use Rattle.model.specs.Move.{more_of, appended};
 ghost use Rattle.inst.specs.Index.{word_of, Among};
 ghost use Rattle.rename.specs.Names.{Exists, job, named};
-ghost use Rattle.rename.specs.Runs.{target_jobs};
+ghost use Rattle.rename.specs.Runs.{marked, target_jobs};
 ghost use Rattle.rename.specs.Counts.{CountAsk, Counted, CountedOwn, CountX, CountedX, CountOwn};
 
 use crate::lists::changes;
 use crate::names::{forget, put};
-use crate::parts::{Part, Walk, part_at};
+use crate::parts::{Part, Span, Walk, part_at};
 use inst::code::Code;
-use std::ops::Range;
 
 // How many operands record q would append.
 fn count_list(code: &Code, q: usize, names: &[u64]) -> usize
@@ -31,9 +30,9 @@ fn count_list(code: &Code, q: usize, names: &[u64]) -> usize
 // Record q of x, which is position k.
 fn count_pass(code: &Code, q: usize, names: &mut [u64], k: Part) -> usize
     requires { Exists (λ u. CountAsk q u names.old code.now.recs.now code.now.ops.now) × Among (length names.old) k.def }
-    ensures { Counted q k.goes (word_of k.def) k.new names.old names.new code.now.recs.now code.now.ops.now result }
+    ensures { Counted q (marked k.mark) (word_of k.def) k.new names.old names.new code.now.recs.now code.now.ops.now result }
 {
-    if !k.goes {
+    if !k.goes() {
         forget(&code.slots(q), names);
         return 0;
     }
@@ -66,12 +65,12 @@ fn count_own(code: &Code, q: usize, names: &mut [u64]) -> usize
 }
 
 // The target's records s, behind n operands that were counted before.
-pub fn count_target(code: &Code, s: &Range<usize>, names: &mut [u64], n: usize) -> usize
-    requires { Exists (λ u. CountOwn u s.now.start s.now.end names.old code.now.recs.now code.now.ops.now) × (n ≤ 4294967295 * 65536) }
-    ensures { (result ≡ n + length (appended code.now.ops.now (target_jobs (named names.old) code.now.recs.now s.now.start s.now.end))) × (result ≤ 4294967295 * 131072) }
+pub fn count_target(code: &Code, s: Span, names: &mut [u64], n: usize) -> usize
+    requires { Exists (λ u. CountOwn u s.from s.past names.old code.now.recs.now code.now.ops.now) × (n ≤ 4294967295 * 65536) }
+    ensures { (result ≡ n + length (appended code.now.ops.now (target_jobs (named names.old) code.now.recs.now s.from s.past))) × (result ≤ 4294967295 * 131072) }
 {
     let mut k = n;
-    for q in s.start..s.end {
+    for q in s.from..s.past {
         k += count_own(code, q, names);
     }
     k

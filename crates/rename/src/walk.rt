@@ -6,10 +6,10 @@ ghost use Rattle.inst.specs.Index.{word_of, Among};
 ghost use Rattle.model.specs.Picture.{absent};
 ghost use Rattle.words.specs.Lists.{range};
 ghost use Rattle.rename.specs.Names.{Exists, named};
-ghost use Rattle.rename.specs.Runs.{Run, Pass, Passed, AskX, PassedX, AskRest, PassedRest, Owned, AskOwn, target_jobs};
+ghost use Rattle.rename.specs.Runs.{Run, Pass, Passed, AskX, PassedX, AskRest, PassedRest, Owned, AskOwn, marked, target_jobs};
 
 use crate::names::{forget, put};
-use crate::parts::{Part, Walk, part_at};
+use crate::parts::{Part, Span, Walk, part_at};
 use crate::remake::remake;
 use crate::slots::Anew;
 use inst::code::{Code, Slots};
@@ -17,7 +17,6 @@ use inst::record::Record;
 use inst::table::Table;
 use model::ABSENT;
 use position::PLACE;
-use std::ops::Range;
 
 // Record q of x, which is position k: a kept one's writes keep their names; a member is made anew, and the register that it wrote has
 // a new name.
@@ -30,12 +29,12 @@ fn pass(
     names: &mut [u64],
     k: Part,
 ) -> usize
-    requires { Exists (λ u. Pass q u o names.old k.goes (word_of k.def) k.new recs.old ops.old) × Among (length names.old) k.def }
-    ensures { Passed q o k.goes (word_of k.def) k.new names.old names.new recs.old recs.new ops.old ops.new result }
+    requires { Exists (λ u. Pass q u o names.old (marked k.mark) (word_of k.def) k.new recs.old ops.old) × Among (length names.old) k.def }
+    ensures { Passed q o (marked k.mark) (word_of k.def) k.new names.old names.new recs.old recs.new ops.old ops.new result }
 {
     let rec = Record { recs, p: q };
     let does = t.row(rec.kind(), rec.form()).uses();
-    if !k.goes {
+    if !k.goes() {
         let slots = Slots { recs, p: q, does };
         forget(&slots, names);
         return o;
@@ -94,16 +93,16 @@ fn own(t: &Table, recs: &mut [u32], q: usize, ops: &mut [u32], o: usize, names: 
 pub fn own_all(
     t: &Table,
     recs: &mut [u32],
-    s: &Range<usize>,
+    s: Span,
     ops: &mut [u32],
     o: usize,
     names: &mut [u64],
 ) -> usize
-    requires { Exists (λ u. AskOwn u o s.now.start s.now.end names.old recs.old ops.old) }
-    ensures { Run o (range s.now.start (s.now.end - s.now.start)) (target_jobs (named names.old) recs.old s.now.start s.now.end) recs.old recs.new ops.old ops.new result }
+    requires { Exists (λ u. AskOwn u o s.from s.past names.old recs.old ops.old) }
+    ensures { Run o (range s.from (s.past - s.from)) (target_jobs (named names.old) recs.old s.from s.past) recs.old recs.new ops.old ops.new result }
 {
     let mut n = o;
-    for q in s.start..s.end {
+    for q in s.from..s.past {
         n = own(t, recs, q, ops, n, names);
     }
     n

@@ -15,8 +15,8 @@ forget-requires c =
     let e = c.slots.ensures in
     record { few = l.few_regs; by_index = slots_ok l e.recs e.place }
 
-pub returns-then-not-k : goal.returns-then-not-k
-returns-then-not-k c = counted_kept c.requires.0.is (search rules) (slots_forgot c.slots.ensures.recs c.slots.ensures.place c.forget.ensures)
+pub returns-then-not-goes : goal.returns-then-not-goes
+returns-then-not-goes c = counted_kept c.requires.0.is (search rules) (slots_forgot c.slots.ensures.recs c.slots.ensures.place c.forget.ensures)
 
 pub returns : goal.returns
 returns c = counted_moved (search rules) c.count_list-r.ensures (among_ok _ c.args.k.def c.requires.1) (omega arith) c.put.ensures

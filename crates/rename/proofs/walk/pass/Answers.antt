@@ -12,8 +12,8 @@ pub forget-requires : goal.forget-requires
 forget-requires c = let l = c.requires.0.is.line in
     record { few = l.few_regs; by_index = written_ok l }
 
-pub returns-then-not-k : goal.returns-then-not-k
-returns-then-not-k c = pass_kept c.requires.0.is.line (search rules) c.forget.ensures
+pub returns-then-not-goes : goal.returns-then-not-goes
+returns-then-not-goes c = pass_kept c.requires.0.is.line (search rules) c.forget.ensures
 
 pub remake-r-requires : goal.remake-r-requires
 remake-r-requires c = let p = c.requires.0 in record { u = p.u; is = line_fit p.is (search rules) (uses_by _ c.kind.ensures c.form.ensures c.row.ensures c.uses-does.ensures) }
