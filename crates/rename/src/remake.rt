@@ -10,14 +10,7 @@ use inst::record::Record;
 // Record p, where o operands are in use. Returns how many are in use then. (Inlined always, with its slots: else the names are put into
 // memory for each record, and taken out again.)
 #[inline(always)]
-pub fn remake(
-    recs: &mut [u32],
-    p: usize,
-    uses: u32,
-    ops: &mut [u32],
-    o: usize,
-    anew: Anew,
-) -> usize
+pub fn remake(recs: &mut [u32], p: usize, uses: u32, ops: &mut [u32], o: usize, anew: Anew) -> usize
     requires { Exists (λ u. Fit p uses u o anew.names.now anew.new recs.old ops.old) }
     ensures { Remade p o anew.entry.names.now anew.entry.new recs.old recs.new ops.old ops.new result }
 {
