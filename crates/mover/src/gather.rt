@@ -5,6 +5,7 @@ ghost use Rattle.mover.specs.Order.{One, Gathered};
 
 use crate::records::Records;
 use position::{MARK, PLACE};
+use words::copy::slide;
 
 // A record at word e: if it is one that goes it is saved, else it goes down by the s words that were saved before. Returns the words
 // saved.
@@ -16,7 +17,7 @@ fn take_one(xs: &mut [u32], saved: &mut [u32], goes: bool, e: usize, s: usize, w
         saved[s..s + w].copy_from_slice(&xs[e..e + w]);
         return w;
     }
-    xs.copy_within(e..e + w, e - s);
+    slide(xs, e, e - s, w);
     0
 }
 
