@@ -8,7 +8,7 @@ ghost use Rattle.mover.specs.Order.{Ask, cells, gone, sunk, raised};
 
 use crate::gather::gather;
 use crate::records::Records;
-use words::copy::{lift, slide};
+use words::copy::{copy, lift, slide};
 
 // The most records of a segment.
 pub const SEGMENT: usize = 64;
@@ -24,7 +24,7 @@ pub fn sink(xs: &mut [u32], saved: &mut [u32], chain: &[u32], r: Records, e: usi
     }
     let b = r.w * (r.lo + r.m);
     slide(xs, b, b - s, e - b);
-    xs[e - s..e].copy_from_slice(&saved[..s]);
+    copy(saved, 0, s, xs, e - s);
     s
 }
 
@@ -39,6 +39,6 @@ pub fn raise(xs: &mut [u32], saved: &mut [u32], chain: &[u32], r: Records, e: us
     }
     let b = r.w * (r.lo + r.m);
     lift(xs, e, e + s, b - s - e);
-    xs[e..e + s].copy_from_slice(&saved[..s]);
+    copy(saved, 0, s, xs, e);
     s
 }

@@ -1,6 +1,5 @@
 -- `mover::segment::sink` meets its contract. Assumes nothing.
-use Rattle.std.proofs.Common.{◌∙◌, refl, rules, sym}
-use Rattle.words.proofs.Copying.{put_sets}
+use Rattle.std.proofs.Common.{◌∙◌, refl, sym}
 use Rattle.mover.proofs.Moves.{went, sink_law, sink_none}
 use Rattle.mover.proofs.segment.sink.Goals as goal
 
@@ -11,4 +10,4 @@ pub returns : goal.returns
 returns c =
     let g = c.gather-s.ensures in
     let q = c.requires in
-    (went g q.0 refl, sink_law g q.0 refl q.1 c.slide.ensures (search (rules, put_sets)))
+    (went g q.0 refl, sink_law g q.0 refl q.1 c.slide.ensures c.copy.ensures)
