@@ -1,12 +1,12 @@
 #!/bin/sh
 # Holds include/virdzeba.h and docs/REFERENCE.md to what they speak of: the header compiles alone, strictly, as C and C++; the kinds
-# in both are those of crates/model/specs/Kinds.antt; and over the library, the two programs here give what they must, and so
-# does each example of the reference (examples.py). Ends with 0 and a last line `c: N checks passed`, or with 1.
+# in both are those of crates/model/specs/Kinds.antt; the archive takes of C's library what the header says; and over it, the two
+# programs here give what they must, and so does each example of the reference (examples.py). Ends with 0 and a last line `c: N checks passed`, or with 1.
 #
 #   tests/c/check.sh [ARCHIVE]    else target/lib/libvirdzeba.a, which `make lib` writes
 #
-# What is left out, for want of a compiler, of python3 or of the archive, is said. Where CI=true it fails without the archive or a C
-# compiler.
+# What is left out, for want of a compiler, of nm, of python3 or of the archive, is said. Where CI=true it fails without the archive, a C
+# compiler or nm.
 set -u
 cd "$(dirname "$0")/../.."
 archive=${1:-target/lib/libvirdzeba.a}
@@ -89,6 +89,14 @@ calls() {
     if [ -w /dev/full ]; then ends 2 "done 1" <"$made/before" >/dev/full; fi
     if n=$(tests/c/examples.py "$made/example"); then passes "$n"; else fails "an example of docs/REFERENCE.md, or a stored picture"; fi
 }
+# What the archive wants from outside.
+asks() {
+    there nm || { needs "what the archive asks for, since there is no nm"; return; }
+    nm -u "$archive" >"$made/asked" || { fails "nm of $archive"; return; }
+    others=$(awk '$1 == "U" && $2 != "memcpy" && $2 != "memset" { print $2 }' "$made/asked" | sort -u | tr '\n' ' ')
+    if [ -z "$others" ]; then passes; else fails "the archive asks for more than memcpy and memset: $others"; fi
+}
+[ ! -f "$archive" ] || asks
 if [ ! -f "$archive" ]; then
     needs "all that calls, since $archive is not there"
 elif [ -n "$cc" ]; then

@@ -2,15 +2,15 @@
 -- Assumes nothing.
 use mathlib.Core.Path.{◌≡◌, sym, ap, subst, ◌∙◌}
 use mathlib.Core.Logic.{◌⊎◌, inl, inr, ⊎_elim}
-use mathlib.Core.List.{List, [], ◌++◌}
+use mathlib.Core.List.{List, []}
 use Prim.Native.Nat.{ℕ, ◌+◌, ◌*◌, ◌/◌, ◌%◌, ◌≤◌, ◌<◌}
 use native.Mathlib.Nat.{add-mul, zero-add}
 use native.Mathlib.Omega.{arith}
-use lib.ListN.{length, get_or, take, drop, length-drop}
-use lib.Seq.{paste, sets, sets-eq, length-take-le}
+use lib.ListN.{length, get_or, set, take, drop, length-drop}
+use lib.Seq.{sets, length-take-le}
 use Rattle.words.specs.Bits.{digit, is_in}
 use Rattle.words.proofs.Bools.{lt?, hit_inj}
-use Rattle.words.proofs.Copying.{get_or-sets_in, get_or-sets_after, drop_sets}
+use Rattle.words.proofs.Copying.{get_or-sets_in, get_or-sets_after, drop_sets, slide_more}
 use Rattle.words.proofs.Parts.{row_fits, get_d_part}
 use Rattle.model.specs.Picture.{Picture, nblocks, succs}
 use Rattle.cfg.specs.Drawn.{drawn}
@@ -73,11 +73,10 @@ module _ (P : Picture) (w c : ℕ) (l m : List ℕ) where
 
 -- ---- live-in from the rows
 
--- what `copy_within` leaves
-pub paste_sets : (l xs : List ℕ) (d m n : ℕ) → m ≡ n → d + n ≤ length l → n ≤ length xs → paste l d xs m ≡ sets l d (take n xs)
-paste_sets l xs d m n e h k =
-    let long : length (take n xs) ≡ n = length-take-le n xs k in
-    ap (paste l d xs) e ∙ ap (λ (t : ℕ). take d l ++ take n xs ++ drop (d + t) l) (sym long) ∙ sym (sets-eq (take n xs) l d (omega arith))
+-- what the loop that copies rows to the head has made of them
+pub head_more : (xs ys : List ℕ) (s i : ℕ) → s + i < length xs → ys ≡ sets xs 0 (take i (drop s xs))
+    → set ys i (get_or ys (s + i) 0) ≡ sets xs 0 (take (i + 1) (drop s xs))
+head_more xs ys s i h e = ap (λ (k : ℕ). set ys k (get_or ys (s + i) 0)) (sym (zero-add i)) ∙ slide_more xs ys s 0 i (omega arith) h e
 
 pub head_fits : {n w : ℕ} {l : List ℕ} → RowRoom n w l → (2 * n + 1) * w + n * w ≤ length l
 head_fits {n} {w} r = omega (arith, r.fits, add-mul (2 * n) 1 w, add-mul (2 * n) n w)

@@ -114,12 +114,14 @@ fn solve(bits: &mut [u64], func: &Func<'_>, w: usize)
     }
 }
 
-// n words from s on go to the head of the slice.
+// n words from s on go to the head of the slice. (A loop: `copy_within` calls C's memmove, which the archive for C does not ask for.)
 fn to_head(bits: &mut [u64], s: usize, n: usize)
     requires { s + n ≤ length bits.old }
     ensures { bits.new ≡ sets bits.old 0 (take n (drop s bits.old)) }
 {
-    bits.copy_within(s..s + n, 0);
+    for i in 0..n {
+        bits[i] = bits[s + i];
+    }
 }
 
 // Live-in of every block: row b at the head of the slice, from the rows that rows.rt makes, whatever the operands are that

@@ -5,6 +5,7 @@ ghost use Rattle.mover.specs.Order.{One, Gathered};
 
 use crate::records::Records;
 use position::{MARK, PLACE};
+use words::copy::{copy, slide};
 
 // A record at word e: if it is one that goes it is saved, else it goes down by the s words that were saved before. Returns the words
 // saved.
@@ -13,10 +14,10 @@ fn take_one(xs: &mut [u32], saved: &mut [u32], goes: bool, e: usize, s: usize, w
     ensures { One w goes e s xs.old xs.new saved.old saved.new result }
 {
     if goes {
-        saved[s..s + w].copy_from_slice(&xs[e..e + w]);
+        copy(xs, e, w, saved, s);
         return w;
     }
-    xs.copy_within(e..e + w, e - s);
+    slide(xs, e, e - s, w);
     0
 }
 

@@ -8,6 +8,7 @@ ghost use Rattle.mover.specs.Order.{Ask, cells, gone, sunk, raised};
 
 use crate::gather::gather;
 use crate::records::Records;
+use words::copy::{copy, lift, slide};
 
 // The most records of a segment.
 pub const SEGMENT: usize = 64;
@@ -22,8 +23,8 @@ pub fn sink(xs: &mut [u32], saved: &mut [u32], chain: &[u32], r: Records, e: usi
         return 0;
     }
     let b = r.w * (r.lo + r.m);
-    xs.copy_within(b..e, b - s);
-    xs[e - s..e].copy_from_slice(&saved[..s]);
+    slide(xs, b, b - s, e - b);
+    copy(saved, 0, s, xs, e - s);
     s
 }
 
@@ -37,7 +38,7 @@ pub fn raise(xs: &mut [u32], saved: &mut [u32], chain: &[u32], r: Records, e: us
         return 0;
     }
     let b = r.w * (r.lo + r.m);
-    xs.copy_within(e..b - s, e + s);
-    xs[e..e + s].copy_from_slice(&saved[..s]);
+    lift(xs, e, e + s, b - s - e);
+    copy(saved, 0, s, xs, e);
     s
 }

@@ -1,5 +1,5 @@
 -- Laws of `sets xs d vs`, xs with vs stored from index d on (lib.Seq): what a copying loop leaves. Assumes nothing.
-use mathlib.Core.Path.{◌≡◌, refl, sym, ap, ◌∙◌}
+use mathlib.Core.Path.{◌≡◌, refl, sym, ap, ap₂, ◌∙◌}
 use mathlib.Core.List.{List, [], ◌∷◌, ◌++◌, append-nil, map, append_assoc}
 use Prim.Native.Nat.{ℕ, zero, suc, ◌+◌, ◌-◌, ◌≤◌, ◌<◌}
 use native.Mathlib.Nat.{add-zero, add-suc, suc-add}
@@ -9,8 +9,8 @@ use borrow.Rule.Slice.PartMut.{put_mid}
 use Rattle.std.specs.List.{copy_within}
 use Rattle.words.specs.Lists.{upto}
 use Rattle.words.proofs.Lists.{length_made, made_snoc}
-use lib.ListN.{length, take, drop, get_or, set, length-set, length-drop, drop_of_length-le, length-append}
-use lib.Seq.{paste, drop-drop, sets, sets-eq, length-take-le, get_or-set_same, get_or-set_other, take-set-le, drop-set-lt, take_at, drop_at}
+use lib.ListN.{length, take, drop, get_or, set, length-set, length-drop, length-take, drop_of_length-le, length-append}
+use lib.Seq.{paste, drop-drop, sets, sets-eq, length-take-le, set_comm, get_or-set_same, get_or-set_other, take-set-le, drop-set-lt, take-suc, drop-cons, get_or-drop, get_or-take, take_at, drop_at}
 
 module _ {A : Type 0} where
   -- a run of stores is one run and then another
@@ -19,9 +19,16 @@ module _ {A : Type 0} where
   sets_append l i (x ∷ xs) ys =
       sets_append (set l i x) (suc i) xs ys ∙ ap (λ (k : ℕ). sets (sets (set l i x) (suc i) xs) k ys) (suc-add i (length xs) ∙ sym (add-suc i (length xs)))
 
-  -- a store behind a run
+  -- a store behind a run, and one in front of it
   pub set_behind : (l : List A) (i : ℕ) (vs : List A) (v : A) → set (sets l i vs) (i + length vs) v ≡ sets l i (vs ++ (v ∷ []))
   set_behind l i vs v = sym (sets_append l i vs (v ∷ []))
+
+  pub set_before : (l : List A) (i : ℕ) (v : A) (vs : List A) → set (sets l (suc i) vs) i v ≡ sets l i (v ∷ vs)
+  set_before l i v vs = go l (suc i) vs (omega arith)
+    where
+      go : (l : List A) (j : ℕ) (vs : List A) → i < j → set (sets l j vs) i v ≡ sets (set l i v) j vs
+      go l j [] h = refl
+      go l j (w ∷ vs) h = go (set l j w) (suc j) vs (omega arith) ∙ ap (λ (m : List A). sets m (suc j) vs) (set_comm l j i w v (λ e. omega arith))
 
   -- ---- reading it: before the run, in it, behind it
 
@@ -76,6 +83,40 @@ module _ {A : Type 0} where
       let m : j - i ≡ n = omega arith in
       let l : length (take n (drop i xs)) ≡ n = length-take-le n (drop i xs) (simp length-drop (omega arith)) in
       ap (paste xs d (drop i xs)) m ∙ ap (λ (z : ℕ). take d xs ++ take n (drop i xs) ++ drop (d + z) xs) (sym l) ∙ sym (sets-eq (take n (drop i xs)) xs d (omega arith))
+
+-- ---- loops that copy words: ys is what they have made of xs
+
+-- one more word from the left: the words of `from` at index s go to index d
+pub copy_more : (from xs ys : List ℕ) (s d i : ℕ) → s + i < length from → ys ≡ sets xs d (take i (drop s from))
+    → set ys (d + i) (get_or from (s + i) 0) ≡ sets xs d (take (i + 1) (drop s from))
+copy_more from xs ys s d i h e =
+    let long : i < length (drop s from) = simp length-drop (omega arith) in
+    rw e (ap₂ (λ (k v : ℕ). set (sets xs d (take i (drop s from))) (d + k) v) (sym (length-take-le i (drop s from) (omega arith))) (sym (get_or-drop s from i 0))
+    ∙ set_behind xs d (take i (drop s from)) (get_or (drop s from) i 0)
+    ∙ ap (sets xs d) (sym (take-suc (drop s from) i 0 long) ∙ ap (λ (k : ℕ). take k (drop s from)) (sym (add-one i))))
+
+-- the same inside one list, downwards: the word that is read has not been written
+pub slide_more : (xs ys : List ℕ) (s d i : ℕ) → d ≤ s → s + i < length xs → ys ≡ sets xs d (take i (drop s xs))
+    → set ys (d + i) (get_or ys (s + i) 0) ≡ sets xs d (take (i + 1) (drop s xs))
+slide_more xs ys s d i h k e =
+    ap (set ys (d + i)) (ap (λ (l : List ℕ). get_or l (s + i) 0) e ∙ get_or-sets_after xs d (take i (drop s xs)) (s + i) 0 (simp length-take (omega arith)))
+    ∙ copy_more xs xs ys s d i k e
+
+-- upwards, from the right: the words from i on are up
+pub lift_more : (xs ys : List ℕ) (s d n i : ℕ) → s ≤ d → s + n ≤ length xs → 0 < i → i ≤ n → ys ≡ sets xs (d + i) (drop i (take n (drop s xs)))
+    → set ys (d + (i - 1)) (get_or ys (s + (i - 1)) 0) ≡ sets xs (d + (i - 1)) (drop (i - 1) (take n (drop s xs)))
+lift_more xs ys s d n zero h k p l e = absurd (omega arith)
+lift_more xs ys s d n (suc j) h k p l e =
+    let at : suc j - 1 ≡ j = omega arith in
+    let vs : List ℕ = take n (drop s xs) in
+    let long : j < length vs = simp (length-take, length-drop) (omega arith) in
+    rw (at, e, drop-cons vs j 0 long, add-suc d j)
+    (ap (set (sets xs (suc (d + j)) (drop (suc j) vs)) (d + j))
+    (get_d_sets_before xs (suc (d + j)) (drop (suc j) vs) (s + j) 0 (omega arith) ∙ sym (get_or-drop s xs j 0) ∙ sym (get_or-take n (drop s xs) j 0 (omega arith)))
+    ∙ set_before xs (d + j) (get_or vs j 0) (drop (suc j) vs))
+
+pub lift_none : (xs : List ℕ) (s d n : ℕ) → xs ≡ sets xs (d + n) (drop n (take n (drop s xs)))
+lift_none xs s d n = ap (sets xs (d + n)) (sym (drop_of_length-le (take n (drop s xs)) {i = n} (simp length-take (omega arith))))
 
 -- ---- loops that make a slice by a rule: word i becomes f i
 

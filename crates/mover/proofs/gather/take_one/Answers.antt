@@ -1,11 +1,9 @@
 -- `mover::gather::take_one` meets its contract. Assumes nothing.
-use Rattle.std.proofs.Common.{rules, arith, ◌∙◌, refl}
-use Rattle.words.proofs.Copying.{within_sets, put_sets}
 use Rattle.mover.proofs.Cells.{one_kept, one_gone}
 use Rattle.mover.proofs.gather.take_one.Goals as goal
 
 pub returns-then-goes : goal.returns-then-goes
-returns-then-goes c = one_gone c.if-goes.true (search (rules, put_sets))
+returns-then-goes c = one_gone c.if-goes.true c.copy.ensures
 
 pub returns : goal.returns
-returns c = let a = c.args in one_kept c.if-goes.false (c.copy_within.ensures.after ∙ within_sets a.xs.now _ _ _ a.w refl (omega arith) (omega arith))
+returns c = one_kept c.if-goes.false c.slide.ensures

@@ -1,0 +1,7 @@
+-- `copy::lift` meets its contract: the words from i on are copied; the word read next is as it was. Assumes nothing.
+use Rattle.std.proofs.Common.{◌≡◌, ◌+◌, take, drop}
+use Rattle.std.proofs.lemmas.List.Edits.{sets}
+use Rattle.words.proofs.copy.lift.Given as goal
+
+abbrev pub invariant-loop-i : goal.invariant-loop-i
+invariant-loop-i l = l.xs ≡ sets l.initial.xs (l.d + l.i) (drop l.i (take l.n (drop l.s l.initial.xs)))
