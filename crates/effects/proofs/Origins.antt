@@ -221,3 +221,8 @@ pub num_le : (b : Bool) → num b ≤ 1
 unfolding num
 num_le true = omega arith
 num_le false = omega arith
+
+pub num_is : (b : Bool) → eqb (num b) 1 ≡ b
+unfolding num
+num_is true = refl
+num_is false = refl

@@ -19,7 +19,7 @@ use Rattle.pool.specs.declared.held.Pool.{Pool as Words}
 use Rattle.pool.specs.Pool.{held_of, free_of, piled, held_words, free_words, rest_at, Top, Is, Gives, Gave, width, grow_if, Low}
 use Rattle.pool.proofs.Lows.{low_give, found_low, grown_length}
 
-held_word : (u x : ℕ) → x < 1048576 → held_of (u * 1048576 + x) ≡ record { until = u; reg = x / 8; type = x % 8 }
+pub held_word : (u x : ℕ) → x < 1048576 → held_of (u * 1048576 + x) ≡ record { until = u; reg = x / 8; type = x % 8 }
 unfolding held_of
 held_word u x h =
     let q : (u * 1048576 + x) / 1048576 ≡ u = digits_div u h in

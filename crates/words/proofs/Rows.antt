@@ -7,16 +7,18 @@ use native.Mathlib.Nat.{le_of_suc-le-suc, not-suc-le-zero, mul_assoc, mul_comm}
 use native.Mathlib.Decide.{ℕ_discrete}
 use native.Mathlib.Omega.{arith}
 use lib.Bits.{bit_and, bit_or}
+use lib.Count.{ones, ones-le}
 use lib.Dec.{eqb, eqb→eq}
 use lib.ListN.{length, get_or, set, take, replicate, length-set, get_or-eq_default}
 use lib.Seq.{get_or-set_same, get_or-set_other}
 use borrow.Author.Tests.{eq-eqb, ne_eqb}
-use Rattle.words.specs.Bits.{digit, digit_in, is_in, set_bit, unset_bit, room}
+use Rattle.std.proofs.lemmas.List.Sums.{sum_by-cons}
+use Rattle.words.specs.Bits.{digit, digit_in, is_in, set_bit, unset_bit, ones_in, room}
 use Rattle.words.specs.Lists.{hit}
 use Rattle.words.proofs.Bools.{true_T, both, left, right, bool_ext, hit_or, hit_and, hit_not, hit_inj}
 use Rattle.words.proofs.Lists.{get_or_zeros, front_same}
 use Rattle.words.proofs.Parts.{cell_inj}
-use Rattle.words.proofs.Digits.{digit_le, digit_zero, digit_put, digit_take, shl_one}
+use Rattle.words.proofs.Digits.{digit_le, digit_zero, digit_put, digit_take, shl_one, ones_put}
 
 pub digit_in_le : (ws : List ℕ) (r : ℕ) → digit_in ws r ≤ 1
 unfolding digit_in
@@ -135,6 +137,22 @@ unfolding is_in
 in_past ws at r h = ap (λ (x : ℕ). eqb x 1) (digit_past ws (64 * at + r) (omega arith))
 
 -- ---- measures
+
+ones_at : (k : ℕ) (ws : List ℕ) (i : ℕ) → i < length ws → ones_in (set ws i (bit_or (get_or ws i 0) (2 ^ k))) ≡ ones_in ws + (1 - digit (get_or ws i 0) k)
+ones_at k [] i h = absurd (not-suc-le-zero h)
+ones_at k (w ∷ ws) zero h = omega (arith, ones_put w k, sum_by-cons ones (bit_or w (2 ^ k)) ws, sum_by-cons ones w ws)
+ones_at k (w ∷ ws) (suc i) h =
+    omega (arith, ones_at k ws i (le_of_suc-le-suc h), sum_by-cons ones w (set ws i (bit_or (get_or ws i 0) (2 ^ k))), sum_by-cons ones w ws)
+
+-- a number that is put in is one more, if it was not there
+pub ones_set : (ws : List ℕ) (r : ℕ) → r < 64 * length ws → ones_in (set_bit ws r) ≡ ones_in ws + (1 - digit_in ws r)
+unfolding set_bit digit_in
+ones_set ws r h = ones_at (r % 64) ws (r / 64) (omega arith)
+
+-- a word of a slice has at most 64 ones
+pub ones_in_le : (ws : List ℕ) → ((i : ℕ) → get_or ws i 0 < 2 ^ 64) → ones_in ws ≤ 64 * length ws
+ones_in_le [] h = omega arith
+ones_in_le (w ∷ ws) h = omega (arith, ones-le 64 w (h 0), ones_in_le ws (λ i. h (suc i)), sum_by-cons ones w ws)
 
 pub room_set : (l : List ℕ) (p v : ℕ) → p < length l → room (set l p v) + (2 ^ 64 - get_or l p 0) ≡ room l + (2 ^ 64 - v)
 unfolding room
