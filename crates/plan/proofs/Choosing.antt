@@ -71,7 +71,7 @@ module _ {recs ops regs work₀ : List ℕ} {fs₀ : List Fact} {z : Asked} (h :
         S = marks z.span.n fs;
         begun = λ p. ⊎_elim
             (λ (x : p < z.span.n). d.each p x ∙ begins_in work₀ z.span.o r.safe h.ended z.span.m p x (record { same = refl }))
-            (λ (x : z.span.n ≤ p). let x_in = r.in_x in sym (past_marks (marks z.span.n fs) p (omega arith)) ∙ sym (ap (λ (b : Bool). (b && eqb (fact_in w p).class 1) && result_ok (view recs ops w regs) n (λ y. is_in work₀ (64 * z.span.o + y)) p) (le-ltb p z.span.m (omega arith)))) (lt? p z.span.n);
+            (λ (x : z.span.n ≤ p). let x_in = h.in_x in sym (past_marks (marks z.span.n fs) p (omega arith)) ∙ sym (ap (λ (b : Bool). (b && eqb (fact_in w p).class 1) && result_ok (view recs ops w regs) n (λ y. is_in work₀ (64 * z.span.o + y)) p) (le-ltb p z.span.m (omega arith)))) (lt? p z.span.n);
         size = size;
         left = record { ahead = false; settling = settling_start (view recs ops w regs) n z.span.m d.count; next = λ u. refl };
         around = around_none z.span.s (length regs) work₀;
@@ -80,8 +80,8 @@ module _ {recs ops regs work₀ : List ℕ} {fs₀ : List Fact} {z : Asked} (h :
 
   module _ {c : Sweeps} {work : List ℕ} {fs : List Fact} (i : Choosing recs ops regs z work₀ fs₀ c work fs) where
     -- a turn may be made
-    pub turn_may : Sweepable recs ops regs work fs z.span × (c.left ≡ members (marks z.span.n fs))
-    turn_may = (sweepable_on h.sweeps i.around.size i.facts, i.left.settling.count)
+    pub turn_may : Sweepable recs ops regs work fs z.span × (c.left ≡ members (marks z.span.n fs)) × (z.span.m ≤ z.span.n)
+    turn_may = (sweepable_on h.sweeps i.around.size i.facts, i.left.settling.count, h.in_x)
 
     module _ {work' : List ℕ} {fs' : List Fact} {t : Sweeps} (e : goes_on c z.least ≡ true) (d : Turn recs ops regs z work fs c work' fs' t) where
       pub choosing_more : Choosing recs ops regs z work₀ fs₀ t work' fs'
@@ -101,7 +101,7 @@ module _ {recs ops regs work₀ : List ℕ} {fs₀ : List Fact} {z : Asked} (h :
     -- no turn is to come
     pub choosing_end : goes_on c z.least ≡ false → Chose recs ops regs z work₀ fs₀ work fs c.left
     choosing_end e = record {
-      set = chosen regs work₀ z.span.o h.sweeps.safe h.sweeps.in_x i.begun (settled (view recs ops (bare fs₀) regs) z.span.n z.span.m i.left.settling e) i.size;
+      set = chosen regs work₀ z.span.o h.sweeps.safe h.in_x i.begun (settled (view recs ops (bare fs₀) regs) z.span.n z.span.m i.left.settling e) i.size;
       around = i.around;
       bare_same = i.facts.bare_same;
       long = i.facts.long;

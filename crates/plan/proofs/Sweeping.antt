@@ -22,7 +22,7 @@ use Rattle.legalset.specs.Marks.{in_set, members, Inside}
 use Rattle.legalset.proofs.Settling.{back_passed}
 use Rattle.plan.specs.declared.sweep.Span.{Span}
 use Rattle.summary.specs.Passes.{over, stamp, fact_word, writer_word, begin_test, Stamped, Near, Small, Shows, Summed, Around, Written, Readable, Backed, Forwarded, Going}
-use Rattle.plan.specs.Sweep.{part, marks_of, marks, Sweepable, Marked, Begun, Clear, Backward, Forward}
+use Rattle.plan.specs.Sweep.{part, marks_of, marks, Sweepable, from_first, from_last, VisitStart, VisitBack, VisitForth, Swept, none, more, Marked, Begun, Clear, Backward, Forward}
 use Rattle.summary.proofs.Wording.{written, readable, small}
 use Rattle.summary.proofs.Backing.{Backing, backing_none, backing_more, backing_end, gone_back}
 use Rattle.summary.proofs.Forwarding.{going_none, going_more, gone_on, now_in}
@@ -109,7 +109,6 @@ module _ {recs ops regs work₀ : List ℕ} {fs₀ : List Fact} {z : Span} (r : 
       record {
         safe = subst (λ (w : List Fact). Safe recs ops w z.n (length regs)) (sym k.bare_same) r.safe;
         brief = subst (λ (w : List Fact). Brief recs ops w z.n) (sym k.bare_same) r.brief;
-        in_x = r.in_x;
         row = omega arith;
         room = omega arith;
         long = omega arith;
@@ -140,6 +139,23 @@ module _ {recs ops regs work₀ : List ℕ} {fs₀ : List Fact} {z : Span} (r : 
 
       marked_set : (b : Bool) → set (marks z.n fs) p (num b) ≡ marks z.n (set fs p (marked (get_or fs p no_fact) b))
       marked_set b = sym (marks_set z.n fs p b l)
+
+-- ---- turn by turn
+
+module _ {visit : ℕ → Fact → List ℕ → Lasts → ℕ → List ℕ → Lasts → Bool → ℕ → Type 0} {work₀ work work' : List ℕ} {ls₀ ls ls' : Lasts} {fs₀ fs : List Fact} {q k k' : ℕ} {b : Bool} where
+  -- position q, after those before it
+  swept_forth : Swept visit from_first work₀ ls₀ fs₀ q work ls fs k → visit q (get_or fs q no_fact) work ls k work' ls' b k' → Swept visit from_first work₀ ls₀ fs₀ (q + 1) work' ls' (set fs q (marked (get_or fs q no_fact) b)) k'
+  swept_forth s v = more q k k' work work' ls ls' fs b s v
+
+  -- the one before q, after those from q on
+  swept_back : {n : ℕ} → 0 < q → q ≤ n → Swept visit (from_last n) work₀ ls₀ fs₀ (n - q) work ls fs k → visit (q - 1) (get_or fs (q - 1) no_fact) work ls k work' ls' b k'
+      → Swept visit (from_last n) work₀ ls₀ fs₀ (n - (q - 1)) work' ls' (set fs (q - 1) (marked (get_or fs (q - 1) no_fact) b)) k'
+  swept_back {n} o h s v =
+      let i : n - q + 1 ≡ n - (q - 1) = omega arith in
+      let e : n - 1 - (n - q) ≡ q - 1 = omega arith in
+      subst (λ (j : ℕ). Swept visit (from_last n) work₀ ls₀ fs₀ j work' ls' (set fs (q - 1) (marked (get_or fs (q - 1) no_fact) b)) k') i
+      (subst (λ (p : ℕ). Swept visit (from_last n) work₀ ls₀ fs₀ (n - q + 1) work' ls' (set fs p (marked (get_or fs p no_fact) b)) k') e
+      (more (n - q) k k' work work' ls ls' fs b s (subst (λ (p : ℕ). visit p (get_or fs p no_fact) work ls k work' ls' b k') (sym e) v)))
 
 -- ---- the start
 
@@ -176,11 +192,16 @@ module _ {recs ops regs bits : List ℕ} {z : Span} {fs fs' : List Fact} {p k : 
           (now_in (marks z.n fs') p b (let a = size r d.facts in omega arith) ∙ e ∙ ap (λ (f : Fact). ltb p z.m && begin_test recs regs bits f z.o p) (sym (says r d.facts p).same))
       one q h (inr x) = ap (λ (y : ℕ). not (eqb y 0)) (get_or-set_other (marks z.n fs') p q (num b) 0 x) ∙ d.each q (omega arith)
 
+pub begun_swept : {recs regs work : List ℕ} {z : Span} {fs fs' : List Fact} {p k : ℕ} {b : Bool} {ls : Lasts} → Swept (VisitStart recs regs z) from_first work ls fs p work ls fs' k → b ≡ (ltb p z.m && begin_test recs regs work (get_or fs' p no_fact) z.o p)
+    → Swept (VisitStart recs regs z) from_first work ls fs (p + 1) work ls (set fs' p (marked (get_or fs' p no_fact) b)) (k + hit b)
+begun_swept s e = swept_forth s (record { begun = e; counted = refl; same = (refl, refl) })
+
 -- ---- backward
 
 -- the positions from q on were looked at
 pub record Behind (recs ops regs : List ℕ) (z : Span) (work₀ : List ℕ) (ls₀ : Lasts) (fs₀ : List Fact) (q : ℕ) (work : List ℕ) (ls : Lasts) (fs : List Fact) (k : ℕ) : Type 0 where
   pub backing : Clear (length regs) z.s work₀ ls₀ → Backing recs ops (bare fs₀) z.n q (part z.s (length regs) work₀) (marks z.n fs₀) (part z.s (length regs) work) ls (marks z.n fs) k
+  pub swept : Swept (VisitBack recs ops regs z) (from_last z.n) work₀ ls₀ fs₀ (z.n - q) work ls fs k
   pub around : Around z.s (length regs) work₀ work
   pub facts : Marked fs₀ fs
   pub low : k + q ≤ z.n
@@ -189,6 +210,7 @@ module _ {recs ops regs work₀ : List ℕ} {fs₀ : List Fact} {z : Span} (r : 
   pub behind_none : Behind recs ops regs z work₀ ls₀ fs₀ z.n work₀ ls₀ fs₀ 0
   behind_none = record {
     backing = λ c. backing_none recs ops (bare fs₀) z.n (st₀ r) (marks z.n fs₀) (c.words ∙ ap (λ (x : ℕ). replicate x 0) (sym (part_len z.s (length regs) work₀ r.room))) c.notes (inside r);
+    swept = let e : 0 ≡ z.n - z.n = omega arith in subst (λ (i : ℕ). Swept (VisitBack recs ops regs z) (from_last z.n) work₀ ls₀ fs₀ i work₀ ls₀ fs₀ 0) e none;
     around = around_none z.s (length regs) work₀;
     facts = marked_none fs₀;
     low = omega arith;
@@ -205,6 +227,7 @@ module _ {recs ops regs work₀ : List ℕ} {fs₀ : List Fact} {z : Span} (r : 
               subst (λ (S : List ℕ). Backing recs ops (bare fs₀) z.n (q - 1) (st₀ r) (marks z.n fs₀) (part z.s (length regs) work') ls' S (k + hit ((get_or fs (q - 1) no_fact).member && not b))) (marked_set r i.facts l b)
               (backing_more (safe r) o h a
               (gone_back (marks z.n fs) (safe r) l a.notes.size (says r i.facts (q - 1)) (let e = size r i.facts in omega arith) (marks_at z.n fs (q - 1) l) d));
+          swept = swept_back o h i.swept (record { backed = d; counted = refl; around = m });
           around = around_on i.around m;
           facts = marked_more i.facts (q - 1) b;
           low = let a = i.low in let c = hit_le ((get_or fs (q - 1) no_fact).member && not b) in omega arith;
@@ -212,11 +235,14 @@ module _ {recs ops regs work₀ : List ℕ} {fs₀ : List Fact} {z : Span} (r : 
 
     pub behind_end : q ≤ 0 → Backward recs ops regs z work₀ ls₀ fs₀ work ls fs k
     behind_end h = record {
-      passed = λ c. back_passed (view recs ops (bare fs₀) regs) z.n z.m r.in_x refl (backing_end (safe r) (i.backing c) h).0;
+      passed = λ x c. back_passed (view recs ops (bare fs₀) regs) z.n z.m x refl (backing_end (safe r) (i.backing c) h).0;
       sum = λ c. (backing_end (safe r) (i.backing c) h).1;
       around = i.around;
       facts = i.facts;
     }
+
+    pub behind_swept : q ≤ 0 → Swept (VisitBack recs ops regs z) (from_last z.n) work₀ ls₀ fs₀ z.n work ls fs k
+    behind_swept h = let e : z.n - q ≡ z.n = omega arith in subst (λ (j : ℕ). Swept (VisitBack recs ops regs z) (from_last z.n) work₀ ls₀ fs₀ j work ls fs k) e i.swept
 
 -- ---- forward
 
@@ -224,6 +250,7 @@ module _ {recs ops regs work₀ : List ℕ} {fs₀ : List Fact} {z : Span} (r : 
 pub record Ahead (recs ops regs : List ℕ) (z : Span) (work₀ : List ℕ) (ls₀ : Lasts) (fs₀ : List Fact) (p : ℕ) (work : List ℕ) (ls : Lasts) (fs : List Fact) (k : ℕ) : Type 0 where
   pub going : Summed recs (bare fs₀) z.n 0 (part z.s (length regs) work₀) ls₀ (marks z.n fs₀)
       → Going recs ops (bare fs₀) regs z.n p (part z.s (length regs) work₀) ls₀ (marks z.n fs₀) (part z.s (length regs) work) ls (marks z.n fs) k
+  pub swept : Swept (VisitForth recs ops regs z) from_first work₀ ls₀ fs₀ p work ls fs k
   pub near : Near (part z.s (length regs) work)
   pub around : Around z.s (length regs) work₀ work
   pub facts : Marked fs₀ fs
@@ -231,7 +258,7 @@ pub record Ahead (recs ops regs : List ℕ) (z : Span) (work₀ : List ℕ) (ls�
 
 module _ {recs ops regs work₀ : List ℕ} {fs₀ : List Fact} {z : Span} (r : Sweepable recs ops regs work₀ fs₀ z) {ls₀ : Lasts} where
   pub ahead_none : Near (part z.s (length regs) work₀) → Ahead recs ops regs z work₀ ls₀ fs₀ 0 work₀ ls₀ fs₀ 0
-  ahead_none n = record { going = λ u. going_none u; near = n; around = around_none z.s (length regs) work₀; facts = marked_none fs₀; low = omega arith }
+  ahead_none n = record { going = λ u. going_none u; swept = none; near = n; around = around_none z.s (length regs) work₀; facts = marked_none fs₀; low = omega arith }
 
   module _ {p k : ℕ} {work : List ℕ} {ls : Lasts} {fs : List Fact} (i : Ahead recs ops regs z work₀ ls₀ fs₀ p work ls fs k) where
     pub ahead_more : {work' : List ℕ} {ls' : Lasts} {b : Bool} → p < z.n → Forwarded recs ops regs (get_or fs p no_fact) p (part z.s (length regs) work) ls (part z.s (length regs) work') ls' b → Around z.s (length regs) work work'
@@ -241,6 +268,7 @@ module _ {recs ops regs work₀ : List ℕ} {fs₀ : List Fact} {z : Span} (r : 
           subst (λ (S : List ℕ). Going recs ops (bare fs₀) regs z.n (p + 1) (st₀ r) ls₀ (marks z.n fs₀) (part z.s (length regs) work') ls' S (k + hit ((get_or fs p no_fact).member && not b))) (marked_set r i.facts l b)
           (going_more (safe r) l u (i.going u) (says r i.facts p) (let e = marks_long z.n fs₀ r.long in omega arith)
           (gone_on (marks z.n fs) (says r i.facts p) (let e = size r i.facts in omega arith) (marks_at z.n fs p l) d));
+      swept = swept_forth i.swept (record { forwarded = d; counted = refl; around = m });
       near = near_next b (fact_small r i.facts l) i.near d.stamped;
       around = around_on i.around m;
       facts = marked_more i.facts p b;
@@ -253,3 +281,6 @@ module _ {recs ops regs work₀ : List ℕ} {fs₀ : List Fact} {z : Span} (r : 
       around = i.around;
       facts = i.facts;
     }
+
+    pub ahead_swept : p ≡ z.m → Swept (VisitForth recs ops regs z) from_first work₀ ls₀ fs₀ z.m work ls fs k
+    ahead_swept e = subst (λ (j : ℕ). Swept (VisitForth recs ops regs z) from_first work₀ ls₀ fs₀ j work ls fs k) e i.swept

@@ -1,5 +1,5 @@
 -- A turn: a sweep backward, then one forward, unless that backward is the last (01, "The legal set"). Assumes nothing.
-use Rattle.std.specs.Prelude.{◌≡◌, Bool, true, false, not, ◌&&◌, List, ℕ, ◌-◌, eqb, leb, length}
+use Rattle.std.specs.Prelude.{◌≡◌, Bool, true, false, not, ◌&&◌, List, replicate, ℕ, ◌-◌, eqb, leb, length}
 use Rattle.facts.specs.declared.Fact.{Fact}
 use Rattle.facts.specs.Marks.{bare}
 use Rattle.legalset.specs.Chain.{View, view}
@@ -9,8 +9,9 @@ use Rattle.plan.specs.declared.turn.Asked.{Asked}
 use Rattle.plan.specs.declared.turn.Last.{Last}
 use Rattle.plan.specs.declared.turn.Last.TheVariants.{Dropped, Quiet, Done}
 use Rattle.plan.specs.declared.turn.Sweeps.{Sweeps}
-use Rattle.summary.specs.Passes.{Around}
-use Rattle.plan.specs.Sweep.{marks, Marked}
+use Rattle.summary.specs.declared.notes.Lasts.{Lasts}
+use Rattle.summary.specs.Passes.{blank, Around}
+use Rattle.plan.specs.Sweep.{part, marks, from_first, from_last, VisitBack, VisitForth, Swept, Marked}
 
 -- the last sweep dropped nothing; nor did the one before
 abbrev pub is_quiet : Last → Bool
@@ -49,3 +50,17 @@ pub record Turn (recs ops regs : List ℕ) (z : Asked) (work : List ℕ) (fs : L
   pub passes : Passes (view recs ops (bare fs) regs) z.span.n z.span.m z.least (marks z.span.n fs) c (marks z.span.n fs') c'
   pub around : Around z.span.s (length regs) work work'
   pub facts : Marked fs fs'
+
+-- before a sweep backward the words of the R registers, from word s of the work on, are cleared
+pub record Readied (R s : ℕ) (work work' : List ℕ) : Type 0 where
+  pub words : part s R work' ≡ replicate R 0
+  pub around : Around s R work work'
+
+-- a turn, sweep by sweep, from c to c': one backward from cleared words and notes, and unless that was the last, one forward from what it
+-- left
+pub data Turned (recs ops regs : List ℕ) (z : Asked) (work : List ℕ) (fs : List Fact) (c : Sweeps) : List ℕ → List Fact → Sweeps → Type 0 where
+  back_alone : (work₁ work₂ : List ℕ) (ls₂ : Lasts) (fs₂ : List Fact) (k : ℕ) → Readied (length regs) z.span.s work work₁
+      → Swept (VisitBack recs ops regs z.span) (from_last z.span.n) work₁ blank fs z.span.n work₂ ls₂ fs₂ k → goes_on (went c k) z.least ≡ false → Turned recs ops regs z work fs c work₂ fs₂ (went c k)
+  back_and_forth : (work₁ work₂ work₃ : List ℕ) (ls₂ ls₃ : Lasts) (fs₂ fs₃ : List Fact) (k l : ℕ) → Readied (length regs) z.span.s work work₁
+      → Swept (VisitBack recs ops regs z.span) (from_last z.span.n) work₁ blank fs z.span.n work₂ ls₂ fs₂ k → goes_on (went c k) z.least ≡ true
+      → Swept (VisitForth recs ops regs z.span) from_first work₂ ls₂ fs₂ z.span.m work₃ ls₃ fs₃ l → Turned recs ops regs z work fs c work₃ fs₃ (went (went c k) l)

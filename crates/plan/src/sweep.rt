@@ -2,7 +2,8 @@
 // members by rule 1, and that forward, which drops them by rules 3 to 6. Each fact is looked at once, by value, and its mark is written.
 ghost use Rattle.std.specs.Prelude.{◌≡◌, ◌&&◌, ◌+◌, ◌<◌, ◌≤◌, ltb, length};
 ghost use Rattle.summary.specs.Passes.{begin_test, Backed, Forwarded, Around, Near, Written, Readable, Small};
-ghost use Rattle.plan.specs.Sweep.{part, Sweepable, Begun, Backward, Forward};
+ghost use Rattle.summary.specs.declared.notes.Lasts.{Lasts};
+ghost use Rattle.plan.specs.Sweep.{part, Sweepable, from_first, from_last, VisitStart, VisitBack, VisitForth, Swept, Begun, Backward, Forward};
 
 use facts::Fact;
 use legality::backward::back;
@@ -67,9 +68,10 @@ fn forth_in(
 }
 
 // All positions are marked: those that begin in the set. Says how many do.
-pub(crate) fn begin(given: &Given<'_>, work: &[u64], facts: &mut [Fact], span: Span) -> u32
+pub fn begin(given: &Given<'_>, work: &[u64], facts: &mut [Fact], span: Span) -> u32
     requires { Sweepable given.now.code.recs.now given.now.code.ops.now given.now.regs.now work.now facts.old span }
-    ensures { Begun given.now.code.recs.now given.now.regs.now work.now span facts.old span.n facts.new result }
+    ensures begun { Begun given.now.code.recs.now given.now.regs.now work.now span facts.old span.n facts.new result }
+    ensures swept { (ls : Lasts) → Swept (VisitStart given.now.code.recs.now given.now.regs.now span) from_first work.now ls facts.old span.n work.now ls facts.new result }
 {
     let mut count = 0;
     for p in 0..span.n {
@@ -82,7 +84,7 @@ pub(crate) fn begin(given: &Given<'_>, work: &[u64], facts: &mut [Fact], span: S
 }
 
 // From the last position back: members that break rule 1 are dropped. Says how many.
-pub(crate) fn backward(
+pub fn backward(
     given: &Given<'_>,
     work: &mut [u64],
     lasts: &mut Lasts,
@@ -90,7 +92,8 @@ pub(crate) fn backward(
     span: Span,
 ) -> u32
     requires { Sweepable given.now.code.recs.now given.now.code.ops.now given.now.regs.now work.old facts.old span }
-    ensures { Backward given.now.code.recs.now given.now.code.ops.now given.now.regs.now span work.old lasts.old facts.old work.new lasts.new facts.new result }
+    ensures passed { Backward given.now.code.recs.now given.now.code.ops.now given.now.regs.now span work.old lasts.old facts.old work.new lasts.new facts.new result }
+    ensures swept { Swept (VisitBack given.now.code.recs.now given.now.code.ops.now given.now.regs.now span) (from_last span.n) work.old lasts.old facts.old span.n work.new lasts.new facts.new result }
 {
     let mut count = 0;
     for p in (0..span.n).rev() {
@@ -103,15 +106,16 @@ pub(crate) fn backward(
 }
 
 // From the first position forth, over those in x: members that break one of rules 3 to 6 are dropped. Says how many.
-pub(crate) fn forward(
+pub fn forward(
     given: &Given<'_>,
     work: &mut [u64],
     lasts: &mut Lasts,
     facts: &mut [Fact],
     span: Span,
 ) -> u32
-    requires { Sweepable given.now.code.recs.now given.now.code.ops.now given.now.regs.now work.old facts.old span × Near (part span.s (length given.now.regs.now) work.old) }
-    ensures { Forward given.now.code.recs.now given.now.code.ops.now given.now.regs.now span work.old lasts.old facts.old work.new lasts.new facts.new result }
+    requires { Sweepable given.now.code.recs.now given.now.code.ops.now given.now.regs.now work.old facts.old span × Near (part span.s (length given.now.regs.now) work.old) × (span.m ≤ span.n) }
+    ensures passed { Forward given.now.code.recs.now given.now.code.ops.now given.now.regs.now span work.old lasts.old facts.old work.new lasts.new facts.new result }
+    ensures swept { Swept (VisitForth given.now.code.recs.now given.now.code.ops.now given.now.regs.now span) from_first work.old lasts.old facts.old span.m work.new lasts.new facts.new result }
 {
     let mut count = 0;
     for p in 0..span.m {

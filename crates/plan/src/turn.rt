@@ -2,7 +2,7 @@
 ghost use Rattle.std.specs.Prelude.{◌≡◌, ◌≤◌};
 ghost use Rattle.legalset.specs.Marks.{members};
 ghost use Rattle.plan.specs.Sweep.{marks, Sweepable};
-ghost use Rattle.plan.specs.Turn.{went, goes_on, Turn};
+ghost use Rattle.plan.specs.Turn.{went, goes_on, Turn, Turned};
 
 use crate::sweep::{Span, backward, forward};
 use facts::Fact;
@@ -18,7 +18,7 @@ pub struct Asked {
 
 // What the last sweep did: it dropped a member, or there was none yet; it dropped nothing; nor did the one before.
 #[derive(Clone, Copy, PartialEq, Eq, Debug)]
-pub(crate) enum Last {
+pub enum Last {
     Dropped,
     Quiet,
     Done,
@@ -26,13 +26,13 @@ pub(crate) enum Last {
 
 // Where the sweeps stand: so many members are left.
 #[derive(Clone, Copy, PartialEq, Eq, Debug)]
-pub(crate) struct Sweeps {
-    pub(crate) left: u32,
-    pub(crate) last: Last,
+pub struct Sweeps {
+    pub left: u32,
+    pub last: Last,
 }
 
 // After a sweep that dropped `count`.
-fn went(c: Sweeps, count: u32) -> Sweeps
+pub fn went(c: Sweeps, count: u32) -> Sweeps
     requires { count ≤ c.left }
     ensures { result ≡ went c count }
 {
@@ -51,22 +51,17 @@ fn went(c: Sweeps, count: u32) -> Sweeps
 }
 
 // Is another sweep to be made? Not after two that dropped nothing, nor where too few are left.
-pub(crate) fn goes_on(c: Sweeps, least: u32) -> bool
+pub fn goes_on(c: Sweeps, least: u32) -> bool
     ensures { result ≡ goes_on c least }
 {
     !matches!(c.last, Last::Done) & (least <= c.left)
 }
 
 // The words of the registers are cleared; then the notes are made by the sweep backward, and needed no more after the sweep forward.
-pub(crate) fn turn(
-    given: &Given<'_>,
-    work: &mut [u64],
-    facts: &mut [Fact],
-    z: Asked,
-    c: Sweeps,
-) -> Sweeps
-    requires { Sweepable given.now.code.recs.now given.now.code.ops.now given.now.regs.now work.old facts.old z.span × (c.left ≡ members (marks z.span.n facts.old)) }
-    ensures { Turn given.now.code.recs.now given.now.code.ops.now given.now.regs.now z work.old facts.old c work.new facts.new result }
+pub fn turn(given: &Given<'_>, work: &mut [u64], facts: &mut [Fact], z: Asked, c: Sweeps) -> Sweeps
+    requires { Sweepable given.now.code.recs.now given.now.code.ops.now given.now.regs.now work.old facts.old z.span × (c.left ≡ members (marks z.span.n facts.old)) × (z.span.m ≤ z.span.n) }
+    ensures passed { Turn given.now.code.recs.now given.now.code.ops.now given.now.regs.now z work.old facts.old c work.new facts.new result }
+    ensures swept { Turned given.now.code.recs.now given.now.code.ops.now given.now.regs.now z work.old facts.old c work.new facts.new result }
 {
     let s = z.span.s;
     let e = s + given.regs.len();

@@ -150,11 +150,11 @@ module _ {bounds recs ops pairs targets : List ℕ} {s : Sizes} {c : Chain} {fs 
             from = λ p h. absurd (omega arith);
           };
           brief = record { defs = λ p h. absurd (omega arith); reads = λ p h. absurd (omega arith) };
-          in_x = omega arith;
           row = row_fits t d;
           room = omega (arith, r.words64, d.size64);
           long = omega arith;
         };
+        in_x = omega arith;
         ended = record { each = λ r h. absurd (omega arith) };
       }
 
@@ -169,11 +169,11 @@ module _ {bounds recs ops pairs targets : List ℕ} {s : Sizes} {c : Chain} {fs 
         sweeps = record {
           safe = subst (λ (k : ℕ). Safe recs ops (bare fs) g.places k) (sym rl) (rw (l.recs_are, l.ops_are) p.along.safe);
           brief = rw (l.recs_are, l.ops_are) p.along.brief;
-          in_x = p.in_x;
           row = row_fits t d;
           room = omega (arith, r.words64, r.lent, d.size64, rl, l.regs_are);
           long = long;
         };
+        in_x = p.in_x;
         ended = rw l.recs_are p.along.ended;
       }
 

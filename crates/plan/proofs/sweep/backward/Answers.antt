@@ -4,12 +4,13 @@ use Prim.Native.Nat.{ℕ, ◌+◌, ◌-◌, ◌<◌}
 use native.Mathlib.Omega.{arith}
 use lib.ListN.{get_or, set}
 use Rattle.facts.specs.Marks.{no_fact, marked}
-use Rattle.plan.proofs.Sweeping.{fact_written, fact_readable, fact_small, place_few, Behind, behind_none, behind_more, behind_end}
+use Rattle.plan.proofs.Sweeping.{fact_written, fact_readable, fact_small, place_few, Behind, behind_none, behind_more, behind_end, behind_swept}
 use Rattle.plan.proofs.sweep.backward.Goals as goal
 
 pub loop-p-init : goal.loop-p-init
 loop-p-init c = behind_none c.requires
 
+-- by the fact that is lent, whichever that is: what a wrong one breaks is the invariant
 pub back_in-stays-requires : goal.back_in-stays-requires
 back_in-stays-requires c =
     let r = c.requires in
@@ -18,7 +19,8 @@ back_in-stays-requires c =
     let k = at-loop.invariant.facts in
     let room = r.room in
     let size = at-loop.invariant.around.size in
-    (fact_written r k l, fact_readable r k l, fact_small r k l, place_few r k l, omega arith)
+    let few : at-loop.p - 1 < 800 = place_few r k l in
+    (fact_written r k (omega arith), fact_readable r k (omega arith), fact_small r k (omega arith), omega arith, omega arith)
 
 pub loop-p-preserved : goal.loop-p-preserved
 loop-p-preserved c =
@@ -31,4 +33,4 @@ loop-p-preserved c =
     (behind_more c.requires at-loop.invariant c.loop-p-test.true at-loop.auto.p step.ensures.0 step.ensures.1)
 
 pub returns : goal.returns
-returns c = behind_end c.requires c.loop-p.invariant c.loop-p-test.false
+returns c = record { passed = behind_end c.requires c.loop-p.invariant c.loop-p-test.false; swept = behind_swept c.requires c.loop-p.invariant c.loop-p-test.false }

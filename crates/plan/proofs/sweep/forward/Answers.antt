@@ -1,24 +1,26 @@
 -- `plan::sweep::forward` meets its contract. Assumes nothing.
-use mathlib.Core.Path.{sym, subst}
+use mathlib.Core.Path.{◌≡◌, sym, subst}
 use Prim.Native.Nat.{ℕ, ◌+◌, ◌<◌}
 use native.Mathlib.Omega.{arith}
 use lib.ListN.{get_or, set}
 use Rattle.facts.specs.Marks.{no_fact, marked}
-use Rattle.plan.proofs.Sweeping.{fact_written, fact_readable, fact_small, place_few, Ahead, ahead_none, ahead_more, ahead_end}
+use Rattle.plan.proofs.Sweeping.{fact_written, fact_readable, fact_small, place_few, Ahead, ahead_none, ahead_more, ahead_end, ahead_swept}
 use Rattle.plan.proofs.sweep.forward.Goals as goal
 
 pub loop-p-init : goal.loop-p-init
 loop-p-init c = ahead_none c.requires.0 c.requires.1
 
+-- by the fact that is lent, whichever that is: what a wrong one breaks is the invariant
 pub forth_in-keeps-requires : goal.forth_in-keeps-requires
 forth_in-keeps-requires c =
     let r = c.requires.0 in
     let at-loop = c.loop-p in
-    let l : at-loop.p < c.args.span.n = omega (arith, c.loop-p-test.true, r.in_x) in
+    let l : at-loop.p < c.args.span.n = omega (arith, c.loop-p-test.true, c.requires.2) in
     let k = at-loop.invariant.facts in
     let room = r.room in
     let size = at-loop.invariant.around.size in
-    (fact_written r k l, fact_readable r k l, fact_small r k l, at-loop.invariant.near, place_few r k l, omega arith)
+    let few : at-loop.p < 800 = place_few r k l in
+    (fact_written r k (omega arith), fact_readable r k (omega arith), fact_small r k (omega arith), at-loop.invariant.near, omega arith, omega arith)
 
 pub loop-p-preserved : goal.loop-p-preserved
 loop-p-preserved c =
@@ -27,7 +29,7 @@ loop-p-preserved c =
     let at-loop = c.loop-p in
     let fs = at-loop.facts in
     let p = at-loop.p in
-    let l : at-loop.p < a.span.n = omega (arith, c.loop-p-test.true, r.in_x) in
+    let l : at-loop.p < a.span.n = omega (arith, c.loop-p-test.true, c.requires.2) in
     let step = c.forth_in-keeps in
     subst (λ (n : ℕ). Ahead a.given.now.code.recs.now a.given.now.code.ops.now a.given.now.regs.now a.span a.work.now a.lasts.now a.facts.now (p + 1) step.new.work step.new.lasts (set fs p (marked (get_or fs p no_fact) step.result)) (at-loop.count + n)) (sym c.from-count.ensures)
     (ahead_more r at-loop.invariant l step.ensures.0 step.ensures.1)
@@ -35,4 +37,5 @@ loop-p-preserved c =
 pub returns : goal.returns
 returns c =
     let at-loop = c.loop-p in
-    ahead_end c.requires.0 at-loop.invariant (omega (arith, at-loop.auto.p-end))
+    let e : at-loop.p ≡ c.args.span.m = omega (arith, at-loop.auto.p-end) in
+    record { passed = ahead_end c.requires.0 at-loop.invariant e; swept = ahead_swept c.requires.0 at-loop.invariant e }
