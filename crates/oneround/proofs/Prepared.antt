@@ -20,6 +20,7 @@ use Rattle.model.specs.Move.{apply}
 use Rattle.model.specs.Pass as Pass
 use Rattle.model.specs.Pass.{fits}
 use Rattle.laws.proofs.Accepted.{Accepted, accepted}
+use Rattle.laws.proofs.Sizes.{few_ops}
 use Rattle.apply.specs.declared.needs.Counts.{Counts}
 use Rattle.apply.specs.Apply.{Asks, Counted, Stands, Given}
 use Rattle.apply.proofs.Done.{asks_kept}
@@ -96,6 +97,9 @@ module _ {bounds recs types ops : List ℕ} {s : Sizes} {work64 work32 : List �
 
   good : Accepted (P k.e)
   good = accepted (P k.e) (length work64) (length work32) records k.accepted
+
+  pub ops_few : length ops ≤ 131072
+  ops_few = few_ops (P k.e) good
 
   words_there : 8000 ≤ length work32
   words_there = let r = (rooms_of (P k.e) (length work64) (length work32) k.accepted).room32 in omega arith

@@ -15,7 +15,8 @@ use Rattle.model.specs.Live.{read_first, written}
 use Rattle.model.specs.Refusal.{refusal, records}
 use Rattle.model.specs.Analyse.{Facts}
 use Rattle.model.specs.Move.{Plan, apply}
-use Rattle.laws.proofs.Accepted.{Accepted}
+use Rattle.laws.proofs.Accepted.{Accepted, accepted}
+use Rattle.laws.proofs.Sizes.{few_types, regs_lent}
 use Rattle.laws.proofs.Moving.{Moving, x_block}
 use Rattle.laws.proofs.Endings.{callers_kept}
 use Rattle.laws.proofs.Unchanged.{same_blocks, same_types, regs_more}
@@ -34,6 +35,9 @@ use Rattle.oneround.specs.Make.{Renewing, Renewed}
 -- ---- what is asked to make rows
 
 module _ {bounds recs ops work64 : List ℕ} {was regs from into : ℕ} (k : Renewing bounds recs ops work64 was regs from into) where
+  pub regs_few : regs ≤ 65536
+  regs_few = let ok = accepted k.Q (length work64) k.w32 records k.accepted in let e = k.regs_are in let a = regs_lent k.Q ok in let b = few_types k.Q ok in omega arith
+
   pub renew_ask : {r : ℕ} (bits : List ℕ) → length bits ≡ length work64 → r ≡ regs → RowsAsk bounds recs ops r bits
   renew_ask bits e er =
       rows_asked k.Q k.w32 bits (subst (λ (n : ℕ). refusal k.Q n k.w32 records ≡ 0) (sym e) k.accepted) k.bounds_are k.recs_are k.ops_are (er ∙ k.regs_are)
