@@ -41,19 +41,19 @@ from_first i = i
 abbrev pub from_last : ℕ → ℕ → ℕ
 from_last n i = n - 1 - i
 
--- the start visits position p of fact f: whether it begins in the set, and how many do so far; the work and the notes stay
+-- the start visits position p of fact f: it is marked if it begins in the set, and counted then; the work and the notes stay
 pub record VisitStart (recs regs : List ℕ) (z : Span) (p : ℕ) (f : Fact) (work : List ℕ) (ls : Lasts) (k : ℕ) (work' : List ℕ) (ls' : Lasts) (keep : Bool) (k' : ℕ) : Type 0 where
   pub begun : keep ≡ (ltb p z.m && begin_test recs regs work f z.o p)
   pub counted : k' ≡ k + hit keep
   pub same : (work' ≡ work) × (ls' ≡ ls)
 
--- the sweep backward does: a step by the words of the registers and the notes, and how many were dropped so far
+-- the sweep backward visits it: a step back over the words of the registers and the notes, and a member that is dropped is counted
 pub record VisitBack (recs ops regs : List ℕ) (z : Span) (p : ℕ) (f : Fact) (work : List ℕ) (ls : Lasts) (k : ℕ) (work' : List ℕ) (ls' : Lasts) (keep : Bool) (k' : ℕ) : Type 0 where
   pub backed : Backed recs ops f p (part z.s (length regs) work) ls (part z.s (length regs) work') ls' keep
   pub counted : k' ≡ k + hit (f.member && not keep)
   pub around : Around z.s (length regs) work work'
 
--- the sweep forward does, likewise
+-- the sweep forward visits it, likewise by a step forward
 pub record VisitForth (recs ops regs : List ℕ) (z : Span) (p : ℕ) (f : Fact) (work : List ℕ) (ls : Lasts) (k : ℕ) (work' : List ℕ) (ls' : Lasts) (keep : Bool) (k' : ℕ) : Type 0 where
   pub forwarded : Forwarded recs ops regs f p (part z.s (length regs) work) ls (part z.s (length regs) work') ls' keep
   pub counted : k' ≡ k + hit (f.member && not keep)
