@@ -72,7 +72,7 @@ def refused(crate, said):
 def function(crate, path, line):
     """The function at this line of a source file, by its modules (an attribute counts as its function's); an edit changes lines, and moves none."""
     lines = open(f"crates/{crate}/{path}").readlines()
-    while lines[line - 1].startswith("#["):
+    while lines[line - 1].lstrip().startswith("#["):
         line += 1
     lines = lines[:line]
     heads = map(re.compile(r'\s*(?:pub(?:\(crate\))? )?(?:extern "C" )?(?:fn|struct|enum) (\w+)').match, lines)
