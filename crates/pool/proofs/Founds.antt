@@ -1,15 +1,18 @@
 -- The free words: the topmost of a type, and the closing up. Assumes nothing.
+use Rattle.std.proofs.lemmas.List.{take_rest}
 use Rattle.std.proofs.lemmas.Option.{none-some, same_Some}
 use Rattle.std.specs.Prelude.{Option, Some, None, IfSome, IfNone}
 use mathlib.Core.Path.{◌≡◌, refl, sym, ap, ◌∙◌, subst}
 use mathlib.Core.Bool.{Bool, false, cond}
 use mathlib.Core.List.{List, [], ◌∷◌, ◌++◌}
-use Prim.Native.Nat.{ℕ, suc, ◌+◌, ◌%◌, ◌<◌}
+use Prim.Native.Nat.{ℕ, suc, ◌+◌, ◌-◌, ◌%◌, ◌<◌}
+use native.Mathlib.Numerals.{add-one}
 use native.Mathlib.Omega.{arith}
 use borrow.Author.Tests.{eq-eqb, ne_eqb}
 use lib.Dec.{eqb}
 use lib.ListN.{length, take, drop, get_or, take-append-drop, length-drop}
-use lib.Seq.{drop-cons, get_or-drop}
+use lib.Seq.{sets, drop-cons, get_or-drop}
+use Rattle.words.proofs.Copying.{front_sets}
 use Rattle.pool.specs.declared.held.Pool.{Pool as Words}
 use Rattle.pool.specs.Pool.{piled, free_of, free_words, Top}
 use Rattle.model.specs.Move.{found, without}
@@ -93,3 +96,14 @@ top_is ty a (Some i) l =
 
 pub top_of : (ty : ℕ) (a : Words) (ws : List ℕ) (r : Option ℕ) → ws ≡ free_words a → Last ty ws r → Top ty a r
 top_of ty a ws r e l = top_is ty a r (subst (λ (us : List ℕ). Last ty us r) e l)
+
+-- a word is taken out where those behind it went down by one, and the list is cut
+pub closed_up : (xs : List ℕ) (a : ℕ) → a < length xs
+    → take (length xs - 1) (sets xs a (take (length xs - (a + 1)) (drop (a + 1) xs))) ≡ take a xs ++ drop (suc a) xs
+closed_up xs a h =
+    let vs : List ℕ = drop (a + 1) xs in
+    let long : length vs ≡ length xs - (a + 1) = length-drop (a + 1) xs in
+    let all : take (length xs - (a + 1)) vs ≡ vs = take_rest xs (a + 1) in
+    let end : length xs - 1 ≡ a + length vs = omega (arith, long) in
+    ap (λ (l : List ℕ). take (length xs - 1) (sets xs a l)) all ∙ ap (λ (n : ℕ). take n (sets xs a vs)) end ∙ front_sets xs a vs (omega (arith, long))
+    ∙ ap (λ (k : ℕ). take a xs ++ drop k xs) (add-one a)

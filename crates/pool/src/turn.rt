@@ -5,6 +5,7 @@ ghost use Rattle.std.specs.Option.{unwrap_or};
 ghost use Rattle.model.specs.Picture.{absent};
 ghost use Rattle.inst.specs.Index.{word_of, Among};
 
+use crate::free::take_out;
 use crate::held::{Pool, UNTIL};
 use crate::types::width_of;
 use inst::index::Reg;
@@ -31,7 +32,7 @@ impl Pool {
             self.next += width_of(ty);
             return reg;
         };
-        let w = self.free.remove(at) % UNTIL;
+        let w = take_out(&mut self.free, at) % UNTIL;
         self.held.push(until * UNTIL + w);
         w / 8
     }

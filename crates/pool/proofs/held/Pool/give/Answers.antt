@@ -9,4 +9,4 @@ returns-in_default c =
     gave_new c.in_default.ensures q.2 q.3 c.width_of.ensures c.push.ensures.items refl refl
 
 pub returns : goal.returns
-returns c = let r = c.remove-w.ensures in gave_again c.remove-w.result r.value c.in-Some.ensures r.items r.len c.push-2.ensures.items refl
+returns c = let r = c.take_out-w.ensures in gave_again c.take_out-w.result r.value c.in-Some.ensures r.items r.len c.push-2.ensures.items refl
