@@ -201,7 +201,6 @@ begun_swept s e = swept_forth s (record { begun = e; counted = refl; same = (ref
 -- the positions from q on were looked at
 pub record Behind (recs ops regs : List ℕ) (z : Span) (work₀ : List ℕ) (ls₀ : Lasts) (fs₀ : List Fact) (q : ℕ) (work : List ℕ) (ls : Lasts) (fs : List Fact) (k : ℕ) : Type 0 where
   pub backing : Clear (length regs) z.s work₀ ls₀ → Backing recs ops (bare fs₀) z.n q (part z.s (length regs) work₀) (marks z.n fs₀) (part z.s (length regs) work) ls (marks z.n fs) k
-  pub swept : Swept (VisitBack recs ops regs z) (from_last z.n) work₀ ls₀ fs₀ (z.n - q) work ls fs k
   pub around : Around z.s (length regs) work₀ work
   pub facts : Marked fs₀ fs
   pub low : k + q ≤ z.n
@@ -210,7 +209,6 @@ module _ {recs ops regs work₀ : List ℕ} {fs₀ : List Fact} {z : Span} (r : 
   pub behind_none : Behind recs ops regs z work₀ ls₀ fs₀ z.n work₀ ls₀ fs₀ 0
   behind_none = record {
     backing = λ c. backing_none recs ops (bare fs₀) z.n (st₀ r) (marks z.n fs₀) (c.words ∙ ap (λ (x : ℕ). replicate x 0) (sym (part_len z.s (length regs) work₀ r.room))) c.notes (inside r);
-    swept = let e : 0 ≡ z.n - z.n = omega arith in subst (λ (i : ℕ). Swept (VisitBack recs ops regs z) (from_last z.n) work₀ ls₀ fs₀ i work₀ ls₀ fs₀ 0) e none;
     around = around_none z.s (length regs) work₀;
     facts = marked_none fs₀;
     low = omega arith;
@@ -227,19 +225,38 @@ module _ {recs ops regs work₀ : List ℕ} {fs₀ : List Fact} {z : Span} (r : 
               subst (λ (S : List ℕ). Backing recs ops (bare fs₀) z.n (q - 1) (st₀ r) (marks z.n fs₀) (part z.s (length regs) work') ls' S (k + hit ((get_or fs (q - 1) no_fact).member && not b))) (marked_set r i.facts l b)
               (backing_more (safe r) o h a
               (gone_back (marks z.n fs) (safe r) l a.notes.size (says r i.facts (q - 1)) (let e = size r i.facts in omega arith) (marks_at z.n fs (q - 1) l) d));
-          swept = swept_back o h i.swept (record { backed = d; counted = refl; around = m });
           around = around_on i.around m;
           facts = marked_more i.facts (q - 1) b;
           low = let a = i.low in let c = hit_le ((get_or fs (q - 1) no_fact).member && not b) in omega arith;
         }
 
+    -- (no position behind the n is a member, so that m may be more)
     pub behind_end : q ≤ 0 → Backward recs ops regs z work₀ ls₀ fs₀ work ls fs k
     behind_end h = record {
-      passed = λ x c. back_passed (view recs ops (bare fs₀) regs) z.n z.m x refl (backing_end (safe r) (i.backing c) h).0;
+      passed = λ c.
+          let d = back_passed (view recs ops (bare fs₀) regs) z.n z.n (omega arith) refl (backing_end (safe r) (i.backing c) h).0 in
+          record { size = d.size; within = d.within; holds = d.holds; count = d.count; left = λ e. let x = d.left e in (x.0, λ p a l t. x.1 p a ((inside r).low p t) t) };
       sum = λ c. (backing_end (safe r) (i.backing c) h).1;
       around = i.around;
       facts = i.facts;
     }
+
+-- and the sweep so far, turn by turn
+pub record BehindSwept (recs ops regs : List ℕ) (z : Span) (work₀ : List ℕ) (ls₀ : Lasts) (fs₀ : List Fact) (q : ℕ) (work : List ℕ) (ls : Lasts) (fs : List Fact) (k : ℕ) : Type 0 where
+  pub behind : Behind recs ops regs z work₀ ls₀ fs₀ q work ls fs k
+  pub swept : Swept (VisitBack recs ops regs z) (from_last z.n) work₀ ls₀ fs₀ (z.n - q) work ls fs k
+
+module _ {recs ops regs work₀ : List ℕ} {fs₀ : List Fact} {z : Span} (r : Sweepable recs ops regs work₀ fs₀ z) {ls₀ : Lasts} where
+  pub behind_swept_none : BehindSwept recs ops regs z work₀ ls₀ fs₀ z.n work₀ ls₀ fs₀ 0
+  behind_swept_none = record {
+    behind = behind_none r;
+    swept = let e : 0 ≡ z.n - z.n = omega arith in subst (λ (i : ℕ). Swept (VisitBack recs ops regs z) (from_last z.n) work₀ ls₀ fs₀ i work₀ ls₀ fs₀ 0) e none;
+  }
+
+  module _ {q k : ℕ} {work : List ℕ} {ls : Lasts} {fs : List Fact} (i : BehindSwept recs ops regs z work₀ ls₀ fs₀ q work ls fs k) where
+    pub behind_swept_more : {work' : List ℕ} {ls' : Lasts} {b : Bool} → 0 < q → q ≤ z.n → Backed recs ops (get_or fs (q - 1) no_fact) (q - 1) (part z.s (length regs) work) ls (part z.s (length regs) work') ls' b → Around z.s (length regs) work work'
+        → BehindSwept recs ops regs z work₀ ls₀ fs₀ (q - 1) work' ls' (set fs (q - 1) (marked (get_or fs (q - 1) no_fact) b)) (k + hit ((get_or fs (q - 1) no_fact).member && not b))
+    behind_swept_more o h d m = record { behind = behind_more r i.behind o h d m; swept = swept_back o h i.swept (record { backed = d; counted = refl; around = m }) }
 
     pub behind_swept : q ≤ 0 → Swept (VisitBack recs ops regs z) (from_last z.n) work₀ ls₀ fs₀ z.n work ls fs k
     behind_swept h = let e : z.n - q ≡ z.n = omega arith in subst (λ (j : ℕ). Swept (VisitBack recs ops regs z) (from_last z.n) work₀ ls₀ fs₀ j work ls fs k) e i.swept
@@ -250,7 +267,6 @@ module _ {recs ops regs work₀ : List ℕ} {fs₀ : List Fact} {z : Span} (r : 
 pub record Ahead (recs ops regs : List ℕ) (z : Span) (work₀ : List ℕ) (ls₀ : Lasts) (fs₀ : List Fact) (p : ℕ) (work : List ℕ) (ls : Lasts) (fs : List Fact) (k : ℕ) : Type 0 where
   pub going : Summed recs (bare fs₀) z.n 0 (part z.s (length regs) work₀) ls₀ (marks z.n fs₀)
       → Going recs ops (bare fs₀) regs z.n p (part z.s (length regs) work₀) ls₀ (marks z.n fs₀) (part z.s (length regs) work) ls (marks z.n fs) k
-  pub swept : Swept (VisitForth recs ops regs z) from_first work₀ ls₀ fs₀ p work ls fs k
   pub near : Near (part z.s (length regs) work)
   pub around : Around z.s (length regs) work₀ work
   pub facts : Marked fs₀ fs
@@ -258,7 +274,7 @@ pub record Ahead (recs ops regs : List ℕ) (z : Span) (work₀ : List ℕ) (ls�
 
 module _ {recs ops regs work₀ : List ℕ} {fs₀ : List Fact} {z : Span} (r : Sweepable recs ops regs work₀ fs₀ z) {ls₀ : Lasts} where
   pub ahead_none : Near (part z.s (length regs) work₀) → Ahead recs ops regs z work₀ ls₀ fs₀ 0 work₀ ls₀ fs₀ 0
-  ahead_none n = record { going = λ u. going_none u; swept = none; near = n; around = around_none z.s (length regs) work₀; facts = marked_none fs₀; low = omega arith }
+  ahead_none n = record { going = λ u. going_none u; near = n; around = around_none z.s (length regs) work₀; facts = marked_none fs₀; low = omega arith }
 
   module _ {p k : ℕ} {work : List ℕ} {ls : Lasts} {fs : List Fact} (i : Ahead recs ops regs z work₀ ls₀ fs₀ p work ls fs k) where
     pub ahead_more : {work' : List ℕ} {ls' : Lasts} {b : Bool} → p < z.n → Forwarded recs ops regs (get_or fs p no_fact) p (part z.s (length regs) work) ls (part z.s (length regs) work') ls' b → Around z.s (length regs) work work'
@@ -268,7 +284,6 @@ module _ {recs ops regs work₀ : List ℕ} {fs₀ : List Fact} {z : Span} (r : 
           subst (λ (S : List ℕ). Going recs ops (bare fs₀) regs z.n (p + 1) (st₀ r) ls₀ (marks z.n fs₀) (part z.s (length regs) work') ls' S (k + hit ((get_or fs p no_fact).member && not b))) (marked_set r i.facts l b)
           (going_more (safe r) l u (i.going u) (says r i.facts p) (let e = marks_long z.n fs₀ r.long in omega arith)
           (gone_on (marks z.n fs) (says r i.facts p) (let e = size r i.facts in omega arith) (marks_at z.n fs p l) d));
-      swept = swept_forth i.swept (record { forwarded = d; counted = refl; around = m });
       near = near_next b (fact_small r i.facts l) i.near d.stamped;
       around = around_on i.around m;
       facts = marked_more i.facts p b;
@@ -281,6 +296,20 @@ module _ {recs ops regs work₀ : List ℕ} {fs₀ : List Fact} {z : Span} (r : 
       around = i.around;
       facts = i.facts;
     }
+
+-- and the sweep so far, turn by turn
+pub record AheadSwept (recs ops regs : List ℕ) (z : Span) (work₀ : List ℕ) (ls₀ : Lasts) (fs₀ : List Fact) (p : ℕ) (work : List ℕ) (ls : Lasts) (fs : List Fact) (k : ℕ) : Type 0 where
+  pub ahead : Ahead recs ops regs z work₀ ls₀ fs₀ p work ls fs k
+  pub swept : Swept (VisitForth recs ops regs z) from_first work₀ ls₀ fs₀ p work ls fs k
+
+module _ {recs ops regs work₀ : List ℕ} {fs₀ : List Fact} {z : Span} (r : Sweepable recs ops regs work₀ fs₀ z) {ls₀ : Lasts} where
+  pub ahead_swept_none : Near (part z.s (length regs) work₀) → AheadSwept recs ops regs z work₀ ls₀ fs₀ 0 work₀ ls₀ fs₀ 0
+  ahead_swept_none n = record { ahead = ahead_none r n; swept = none }
+
+  module _ {p k : ℕ} {work : List ℕ} {ls : Lasts} {fs : List Fact} (i : AheadSwept recs ops regs z work₀ ls₀ fs₀ p work ls fs k) where
+    pub ahead_swept_more : {work' : List ℕ} {ls' : Lasts} {b : Bool} → p < z.n → Forwarded recs ops regs (get_or fs p no_fact) p (part z.s (length regs) work) ls (part z.s (length regs) work') ls' b → Around z.s (length regs) work work'
+        → AheadSwept recs ops regs z work₀ ls₀ fs₀ (p + 1) work' ls' (set fs p (marked (get_or fs p no_fact) b)) (k + hit ((get_or fs p no_fact).member && not b))
+    ahead_swept_more l d m = record { ahead = ahead_more r i.ahead l d m; swept = swept_forth i.swept (record { forwarded = d; counted = refl; around = m }) }
 
     pub ahead_swept : p ≡ z.m → Swept (VisitForth recs ops regs z) from_first work₀ ls₀ fs₀ z.m work ls fs k
     ahead_swept e = subst (λ (j : ℕ). Swept (VisitForth recs ops regs z) from_first work₀ ls₀ fs₀ j work ls fs k) e i.swept

@@ -27,14 +27,14 @@ use Rattle.plan.proofs.Lent.{around_on}
 use Rattle.plan.proofs.Sweeping.{sweepable_on, summed_near, marked_on}
 
 -- where the words are cleared in work₁, and the sweep backward comes to work₂
-module _ {recs ops regs work work₁ work₂ : List ℕ} {ls ls₂ : Lasts} {fs fs₂ : List Fact} (z : Asked) (c : Sweeps) {h : Sweeps} {k : ℕ} (r : Sweepable recs ops regs work fs z.span) (x_in : z.span.m ≤ z.span.n) (words : part z.span.s (length regs) work₁ ≡ replicate (length regs) 0)
+module _ {recs ops regs work work₁ work₂ : List ℕ} {ls ls₂ : Lasts} {fs fs₂ : List Fact} (z : Asked) (c : Sweeps) {h : Sweeps} {k : ℕ} (r : Sweepable recs ops regs work fs z.span) (words : part z.span.s (length regs) work₁ ≡ replicate (length regs) 0)
     (m : Around z.span.s (length regs) work work₁) (new : ls ≡ blank) (b : Backward recs ops regs z.span work₁ ls fs work₂ ls₂ fs₂ k) (e : h ≡ went c k) where
   clear : Clear (length regs) z.span.s work₁ ls
   clear = record { words = words; notes = new }
 
   pub turn_half : goes_on h z.least ≡ false → Turn recs ops regs z work fs c work₂ fs₂ h
   turn_half g = subst (Turn recs ops regs z work fs c work₂ fs₂) (sym e) (record {
-    passes = half (marks z.span.n fs₂) k (b.passed x_in clear) (ap (λ (x : Sweeps). goes_on x z.least) (sym e) ∙ g);
+    passes = half (marks z.span.n fs₂) k (b.passed clear) (ap (λ (x : Sweeps). goes_on x z.least) (sym e) ∙ g);
     around = around_on m b.around;
     facts = b.facts;
   })
@@ -42,8 +42,8 @@ module _ {recs ops regs work work₁ work₂ : List ℕ} {ls ls₂ : Lasts} {fs 
   sum : Summed recs (bare fs₂) z.span.n 0 (part z.span.s (length regs) work₂) ls₂ (marks z.span.n fs₂)
   sum = subst (λ (w : List Fact). Summed recs w z.span.n 0 (part z.span.s (length regs) work₂) ls₂ (marks z.span.n fs₂)) (sym b.facts.bare_same) (b.sum clear)
 
-  pub forward_may : Sweepable recs ops regs work₂ fs₂ z.span × Near (part z.span.s (length regs) work₂) × (z.span.m ≤ z.span.n)
-  forward_may = (sweepable_on r (b.around.size ∙ m.size) b.facts, summed_near sum, x_in)
+  pub forward_may : z.span.m ≤ z.span.n → Sweepable recs ops regs work₂ fs₂ z.span × Near (part z.span.s (length regs) work₂) × (z.span.m ≤ z.span.n)
+  forward_may x_in = (sweepable_on r (b.around.size ∙ m.size) b.facts, summed_near sum, x_in)
 
   module _ {work₃ : List ℕ} {ls₃ : Lasts} {fs₃ : List Fact} {l : ℕ} (f : Forward recs ops regs z.span work₂ ls₂ fs₂ work₃ ls₃ fs₃ l) where
     passed : Passed (pass_ok (view recs ops (bare fs) regs) z.span.n true) 0 z.span.m (marks z.span.n fs₂) (marks z.span.n fs₃) l
@@ -52,7 +52,7 @@ module _ {recs ops regs work work₁ work₂ : List ℕ} {ls ls₂ : Lasts} {fs 
 
     pub turn_whole : {t : Sweeps} → t ≡ went h l → goes_on h z.least ≡ true → Turn recs ops regs z work fs c work₃ fs₃ t
     turn_whole et g = subst (Turn recs ops regs z work fs c work₃ fs₃) (sym (et ∙ ap (λ (x : Sweeps). went x l) e)) (record {
-      passes = whole (marks z.span.n fs₂) (marks z.span.n fs₃) k l (b.passed x_in clear) (ap (λ (x : Sweeps). goes_on x z.least) (sym e) ∙ g) passed;
+      passes = whole (marks z.span.n fs₂) (marks z.span.n fs₃) k l (b.passed clear) (ap (λ (x : Sweeps). goes_on x z.least) (sym e) ∙ g) passed;
       around = around_on (around_on m b.around) f.around;
       facts = marked_on b.facts f.facts;
     })

@@ -87,7 +87,7 @@ pub record Clear (R s : ℕ) (work : List ℕ) (ls : Lasts) : Type 0 where
 
 -- the sweep backward: the k members that broke rule 1 were dropped, and the words and the notes are the summary of those left
 pub record Backward (recs ops regs : List ℕ) (z : Span) (work : List ℕ) (ls : Lasts) (fs : List Fact) (work' : List ℕ) (ls' : Lasts) (fs' : List Fact) (k : ℕ) : Type 0 where
-  pub passed : z.m ≤ z.n → Clear (length regs) z.s work ls → Passed (pass_ok (view recs ops (bare fs) regs) z.n false) 0 z.m (marks z.n fs) (marks z.n fs') k
+  pub passed : Clear (length regs) z.s work ls → Passed (pass_ok (view recs ops (bare fs) regs) z.n false) 0 z.m (marks z.n fs) (marks z.n fs') k
   pub sum : Clear (length regs) z.s work ls → Summed recs (bare fs) z.n 0 (part z.s (length regs) work') ls' (marks z.n fs')
   pub around : Around z.s (length regs) work work'
   pub facts : Marked fs fs'

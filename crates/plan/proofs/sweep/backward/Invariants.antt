@@ -1,6 +1,6 @@
--- `plan::sweep::backward`: the positions from p on were looked at. Assumes nothing.
-use Rattle.plan.proofs.Sweeping.{Behind}
+-- `plan::sweep::backward`: the positions from p on were looked at, turn by turn. Assumes nothing.
+use Rattle.plan.proofs.Sweeping.{BehindSwept}
 use Rattle.plan.proofs.sweep.backward.Given as goal
 
 abbrev pub invariant-loop-p : goal.invariant-loop-p
-invariant-loop-p l = Behind l.given.code.recs.now l.given.code.ops.now l.given.regs.now l.span l.fn.work l.fn.lasts l.fn.facts l.p l.work l.lasts l.facts l.count
+invariant-loop-p l = BehindSwept l.given.code.recs.now l.given.code.ops.now l.given.regs.now l.span l.fn.work l.fn.lasts l.fn.facts l.p l.work l.lasts l.facts l.count

@@ -14,7 +14,7 @@ returns-then-not-goes_on c =
     let back = c.backward-dropped.ensures in
     let last = sym c.goes_on.ensures ∙ c.if-not-goes_on.true in
     record {
-      passed = turn_half a.z a.c r c.requires.2 w.0 w.1 c.none-lasts.ensures back.passed c.went-half.ensures last;
+      passed = turn_half a.z a.c r w.0 w.1 c.none-lasts.ensures back.passed c.went-half.ensures last;
       swept = turned_half a.z a.c w.0 w.1 c.none-lasts.ensures back.swept c.went-half.ensures last;
     }
 
@@ -23,7 +23,7 @@ forward-more-requires c =
     let a = c.args in
     let r = c.requires.0 in
     let w = words_clear a.z.span.s (length a.given.now.regs.now) a.work.now c.fill.new.self r.room (search rules) in
-    forward_may a.z a.c r c.requires.2 w.0 w.1 c.none-lasts.ensures c.backward-dropped.ensures.passed c.went-half.ensures
+    forward_may a.z a.c r w.0 w.1 c.none-lasts.ensures c.backward-dropped.ensures.passed c.went-half.ensures c.requires.2
 
 pub returns : goal.returns
 returns c =
@@ -34,6 +34,6 @@ returns c =
     let forth = c.forward-more.ensures in
     let on = sym c.goes_on.ensures ∙ c.if-not-goes_on.false in
     record {
-      passed = turn_whole a.z a.c r c.requires.2 w.0 w.1 c.none-lasts.ensures back.passed c.went-half.ensures forth.passed c.went.ensures on;
+      passed = turn_whole a.z a.c r w.0 w.1 c.none-lasts.ensures back.passed c.went-half.ensures forth.passed c.went.ensures on;
       swept = turned_whole a.z a.c w.0 w.1 c.none-lasts.ensures back.swept c.went-half.ensures forth.swept c.went.ensures on;
     }
